@@ -1,0 +1,12 @@
+#![tactic(auto)]
+//! The outside as silqc sees it: files that are read, sinks that are written to, and the words of a command.
+
+pub mod fault;
+pub mod files;
+pub mod sink;
+pub mod words;
+
+pub use fault::Failed;
+pub use files::Files;
+pub use sink::{Sink, put_all};
+pub use words::Words;

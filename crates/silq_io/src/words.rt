@@ -1,0 +1,50 @@
+//! The words of a command.
+
+ghost use Rattle.std.specs.Prelude.{◌≡◌, ◌++◌, ◌∷◌, [], ℕ, List, length, OnOk, OnErr, slice_get, option_map};
+
+use std::alloc::{AllocError, Global};
+use std::marker::Model;
+
+/// The words after a program's name, in order.
+#[derive(Drop)]
+pub struct Words {
+    alloc: Global,
+    items: Vec<String>,
+}
+
+impl Model for Words {
+    ghost use Rattle.std.specs.Prelude.{ℕ, List, map, string_bytes};
+
+    ghost Value = { List (List ℕ) };
+
+    ghost view = { λ w. map string_bytes w.items.items };
+}
+
+impl Words {
+    /// No words.
+    pub fn new(alloc: Global) -> Words
+        ensures { result ≡ [] }
+    {
+        Words {
+            alloc,
+            items: Vec::new(alloc),
+        }
+    }
+
+    /// How many words.
+    pub fn len(&self) -> usize
+        ensures { result ≡ length self.now }
+    {
+        self.items.len()
+    }
+
+    /// Adds a word at the end.
+    pub fn push(&mut self, word: &str) -> Result<(), AllocError>
+        ensures ok { OnOk result (self.new ≡ self.old ++ word.now ∷ []) }
+        ensures err { OnErr result (self.new ≡ self.old) }
+    {
+        let word = String::from_str(self.alloc, word)?;
+        self.items.push(word)?;
+        Ok(())
+    }
+}
