@@ -3,10 +3,12 @@
 
 pub mod fault;
 pub mod files;
+pub mod limit;
 pub mod sink;
 pub mod words;
 
 pub use fault::Failed;
 pub use files::Files;
+pub use limit::{LimitFault, LimitKind, OverLimit};
 pub use sink::{Sink, put_all};
 pub use words::Words;
