@@ -1,3 +1,4 @@
 pub mod Counts
 pub mod Sinks
 pub mod Reads
+pub mod Names

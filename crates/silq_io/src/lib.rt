@@ -7,7 +7,7 @@ pub mod limit;
 pub mod sink;
 pub mod words;
 
-pub use fault::Failed;
+pub use fault::{Failed, SyntaxCause, What};
 pub use files::Files;
 pub use limit::{LimitFault, LimitKind, OverLimit};
 pub use sink::{Sink, put_all};

@@ -1,6 +1,7 @@
 //! Counted limits.
 
 ghost use Rattle.std.specs.Prelude.{◌≡◌};
+ghost use Rattle.silq_io.specs.Names.{limit_name};
 ghost use Rattle.silq_io.specs.declared.limit.LimitFault.TheVariants.{Memory};
 
 use std::alloc::{AllocError, AllocFailed};
@@ -32,6 +33,28 @@ pub enum LimitKind {
     Gates,
     /// Bytes of a text.
     Text,
+}
+
+impl LimitKind {
+    /// The word by which the kind is printed.
+    pub fn name(&self) -> &'static str
+        ensures { result.now ≡ limit_name self.now }
+    {
+        match self {
+            LimitKind::Walked => "walked",
+            LimitKind::Instances => "instances",
+            LimitKind::Depth => "depth",
+            LimitKind::Inlined => "inlined",
+            LimitKind::Steps => "steps",
+            LimitKind::Wires => "wires",
+            LimitKind::Outcomes => "outcomes",
+            LimitKind::Terms => "terms",
+            LimitKind::HGates => "hgates",
+            LimitKind::Qubits => "qubits",
+            LimitKind::Gates => "gates",
+            LimitKind::Text => "text",
+        }
+    }
 }
 
 /// A count that went above its limit.

@@ -1,6 +1,6 @@
 //! The words of a command.
 
-ghost use Rattle.std.specs.Prelude.{◌≡◌, ◌++◌, ◌∷◌, [], ℕ, List, length, OnOk, OnErr, slice_get, option_map};
+ghost use Rattle.std.specs.Prelude.{◌≡◌, ◌≤◌, ◌==◌, ◌++◌, ◌∷◌, [], length, OnOk, OnErr, MatchOption, slice_get};
 
 use std::alloc::{AllocError, Global};
 use std::marker::Model;
@@ -38,7 +38,22 @@ impl Words {
         self.items.len()
     }
 
-    /// Adds a word at the end.
+    /// Whether there is no word.
+    pub fn is_empty(&self) -> bool
+        ensures { result ≡ (length self.now == 0) }
+    {
+        self.items.is_empty()
+    }
+
+    /// The word with a number, counted from 0; `None` past the end.
+    pub fn get(&self, i: usize) -> Option<&str>
+        ensures { MatchOption result (length self.now ≤ i) (λ w. slice_get self.now i ≡ Some w.now) }
+    {
+        let word = self.items.get(i)?;
+        Some(word.as_str())
+    }
+
+    /// Adds a word at the end. It stays as it was where no memory was left.
     pub fn push(&mut self, word: &str) -> Result<(), AllocError>
         ensures ok { OnOk result (self.new ≡ self.old ++ word.now ∷ []) }
         ensures err { OnErr result (self.new ≡ self.old) }
