@@ -1,0 +1,11 @@
+use Rattle.std.proofs.Common.{◌≤◌, drop}
+use Rattle.silqc.specs.Text.{lines_of}
+use Rattle.silqc.proofs.Lines.{IsPartPut}
+use Rattle.silqc.proofs.write.write_gates.Given as goal
+
+-- what comes behind is the lines of the operations that are left
+abbrev pub invariant-loop-operation : goal.invariant-loop-operation
+invariant-loop-operation g l =
+    let told = g.S.Sink.put_so_far in
+    let count = g.S.Sink.faults in
+    record { part : IsPartPut (told l.fn.out) (told l.out) (lines_of (drop l.operation-index l.program)) (lines_of l.program); counted : count l.fn.out ≤ count l.out }

@@ -1,0 +1,68 @@
+-- What it is for a text to be the right one for a program.
+use Rattle.std.specs.Prelude.{◌≡◌, ℕ, ◌<◌, ◌≤◌, Bool, true, false, List, length, get_or, Option, IfSome}
+use Rattle.silq_io.specs.Sinks.{Adds, Breaks}
+use Rattle.amp_core.specs.Amplitude.{none, Same}
+use Rattle.sum_laws.specs.Terms.{amplitude, pick}
+use Rattle.gate_core.specs.declared.gate.Gate.{Gate}
+use Rattle.gate_core.specs.Meaning.{meaning, joined}
+use Rattle.gate_core.specs.Local.{Absent, AllDiffer, AllBelow}
+use Rattle.silqc.specs.declared.form.Operation.{Operation}
+use Rattle.silqc.specs.Job.{Job, IsJob}
+use Rattle.silqc.specs.Form.{IsProgram}
+use Rattle.silqc.specs.Source.{source_amplitude}
+use Rattle.silqc.specs.Written.{written_text}
+
+-- A circuit with the qubits of the parameters and of the returned values.
+pub record Spelled : Type 0 where
+  pub qubits : ℕ
+  pub outcomes : ℕ
+  pub ins : List (List ℕ)
+  pub gates : List Gate
+  pub outs : List (List ℕ)
+
+-- each bit but those at these qubits is 0
+abbrev pub IsZeroBut : List ℕ → List Bool → Type 0
+IsZeroBut qs bits = (q : ℕ) → q < length bits → Absent q qs → get_or bits q false ≡ false
+
+-- some bit but those at these qubits is 1
+abbrev pub HasOneBut : List ℕ → List Bool → Type 0
+HasOneBut qs bits = (q : ℕ) × (q < length bits) × Absent q qs × (get_or bits q false ≡ true)
+
+-- The circuit gives, on each input and for each choice of the outcome bits, exactly the source's amplitudes, with every
+-- other qubit at zero.
+pub record GivesSource (program : List Operation) (circuit : Spelled) : Type 0 where
+  pub amplitudes : (input outcome bits : List Bool) → length input ≡ 1 → length outcome ≡ circuit.outcomes
+      → length bits ≡ circuit.qubits → IsZeroBut (joined circuit.outs) bits
+      → Same
+      (amplitude bits (meaning circuit.qubits circuit.outcomes circuit.gates circuit.ins input outcome))
+      (source_amplitude program input (pick (joined circuit.outs) bits))
+  pub zeros : (input outcome bits : List Bool) → length input ≡ 1 → length outcome ≡ circuit.outcomes
+      → length bits ≡ circuit.qubits → HasOneBut (joined circuit.outs) bits
+      → Same (amplitude bits (meaning circuit.qubits circuit.outcomes circuit.gates circuit.ins input outcome)) none
+
+-- The text is the written text of a circuit that gives the meaning of the file's program within the budget.
+pub record Compiles (job : Job) (bytes text : List ℕ) : Type 0 where
+  pub program : List Operation
+  pub circuit : Spelled
+  pub stands : IsProgram job.entry bytes program
+  pub written : text ≡ written_text circuit.qubits circuit.outcomes circuit.ins circuit.gates circuit.outs
+  pub inputs : AllDiffer (joined circuit.ins) × AllBelow circuit.qubits (joined circuit.ins) × (length (joined circuit.ins) ≡ 1)
+  pub outputs : AllDiffer (joined circuit.outs) × AllBelow circuit.qubits (joined circuit.outs) × (length (joined circuit.outs) ≡ 1)
+  pub gives : GivesSource program circuit
+  pub fits : circuit.qubits ≤ job.budget
+
+-- a right text was put whole
+abbrev pub PutsText : Job → List ℕ → Option (List ℕ) → Option (List ℕ) → Type 0
+PutsText job bytes old new = (text : List ℕ) × Compiles job bytes text × Adds old new text
+
+-- a proper front of a right text was put
+abbrev pub BreaksText : Job → List ℕ → Option (List ℕ) → Option (List ℕ) → Type 0
+BreaksText job bytes old new = (text : List ℕ) × Compiles job bytes text × Breaks old new text
+
+-- no program stands for the bytes
+abbrev pub HasNoProgram : Job → List ℕ → Type 0
+HasNoProgram job bytes = (program : List Operation) → IsProgram job.entry bytes program → ⊥
+
+-- for the job that the words are, and the bytes of its file where they are told
+abbrev pub ForJob : List (List ℕ) → (List ℕ → Option (List ℕ)) → (Job → List ℕ → Type 0) → Type 0
+ForJob words held P = (job : Job) → IsJob words job → IfSome (held job.file) (P job)

@@ -1,0 +1,27 @@
+-- The line of a refusal.
+use Rattle.std.specs.Prelude.{ℕ, ◌⊎◌, List, [], codes, Option}
+use Rattle.silq_io.specs.Counts.{Rose}
+use Rattle.silq_io.specs.Sinks.{Adds, Breaks}
+use Rattle.silqc.specs.declared.status.Status.{Status}
+use Rattle.silqc.specs.declared.status.Status.TheVariants.{Done, Words, ReadFault, WriteFault, Memory, Unbuilt}
+
+abbrev pub note_of : Status → List ℕ
+note_of Done = []
+note_of Words = codes "silqc: the words are not a job\n"
+note_of ReadFault = codes "silqc: reading failed\n"
+note_of WriteFault = codes "silqc: writing failed\n"
+note_of Memory = codes "silqc: no memory\n"
+note_of Unbuilt = codes "silqc: not built yet\n"
+
+-- the exit status
+abbrev pub code_of : Status → ℕ
+code_of Done = 0
+code_of Words = 2
+code_of ReadFault = 3
+code_of WriteFault = 11
+code_of Memory = 12
+code_of Unbuilt = 15
+
+-- The whole line was put, or the sink had a fault and a front of it was put.
+abbrev pub Noted : Option (List ℕ) → Option (List ℕ) → ℕ → ℕ → List ℕ → Type 0
+Noted old new before after line = Adds old new line ⊎ (Rose before after × Breaks old new line)

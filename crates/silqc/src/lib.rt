@@ -1,0 +1,121 @@
+#![tactic(auto)]
+//! silqc: compiles a program of a profile of Silq to OpenQASM 2.0.
+
+ghost use Rattle.std.specs.Prelude.{◌≡◌, ◌≢◌, ℕ, ◌≤◌, ◌<◌, ◌↔◌, List, [], IfSome, Some};
+ghost use Rattle.silq_io.specs.Counts.{Rose};
+ghost use Rattle.silq_io.specs.Sinks.{Adds};
+ghost use Rattle.silqc.specs.Job.{Job as JobWords, IsJob};
+ghost use Rattle.silqc.specs.Headline.{PutsText, BreaksText, HasNoProgram, ForJob};
+ghost use Rattle.silqc.specs.Note.{note_of, Noted};
+
+mod form;
+mod input;
+mod job;
+pub mod status;
+mod token;
+mod write;
+
+use input::ReadError;
+use silq_io::{Files, Sink, Words};
+use status::Status;
+use std::alloc::Global;
+
+// How many bytes a source may have.
+const SOURCE_LIMIT: usize = 1_048_576;
+
+/// Carries out the command of these words: `compile FILE ENTRY --budget N` reads the file from `files`, and puts the
+/// OpenQASM text of the function ENTRY to `out`. A refusal puts one line to `notes`.
+///
+/// Want of memory alone may come at any time before the first byte is put.
+pub fn silqc<F: Files, S: Sink, N: Sink>(
+    alloc: Global,
+    words: &Words,
+    files: &mut F,
+    out: &mut S,
+    notes: &mut N,
+) -> Status
+    // The headline: the text put is that of a circuit that gives exactly the source's amplitudes, within the budget.
+    ensures done { result ≡ Status.Done → ForJob words.now (F.held files.old) (λ job bytes. PutsText job bytes (S.put_so_far out.old) (S.put_so_far out.new)) }
+    ensures read_whole { result ≡ Status.Done → ForJob words.now (F.held files.old) (λ job _. F.left files.new job.file ≡ Some []) }
+
+    // When each refusal comes.
+    ensures words { (result ≡ Status.Words) ↔ ((job : JobWords) → IsJob words.now job → ⊥) }
+    ensures read_fault { result ≡ Status.ReadFault → (job : JobWords) → IsJob words.now job → Rose (F.faults files.old job.file) (F.faults files.new job.file) }
+    ensures unbuilt { result ≡ Status.Unbuilt → ForJob words.now (F.held files.old) HasNoProgram }
+    ensures write_fault { result ≡ Status.WriteFault → Rose (S.faults out.old) (S.faults out.new) }
+
+    // What a refusal leaves.
+    ensures broken { result ≡ Status.WriteFault → ForJob words.now (F.held files.old) (λ job bytes. BreaksText job bytes (S.put_so_far out.old) (S.put_so_far out.new)) }
+    ensures refused { result ≢ Status.Done → result ≢ Status.WriteFault → Adds (S.put_so_far out.old) (S.put_so_far out.new) [] }
+    ensures noted { Noted (N.put_so_far notes.old) (N.put_so_far notes.new) (N.faults notes.old) (N.faults notes.new) (note_of result) }
+
+    // What never changes or falls.
+    ensures held { (name : List ℕ) → F.held files.new name ≡ F.held files.old name }
+    ensures file_counts { (name : List ℕ) → F.faults files.old name ≤ F.faults files.new name }
+    ensures out_count { S.faults out.old ≤ S.faults out.new }
+    ensures note_count { N.faults notes.old ≤ N.faults notes.new }
+{
+    let status = run(alloc, words, files, out);
+    status.tell(notes);
+    status
+}
+
+// Carries out the command, but for the note.
+fn run<F: Files, S: Sink>(alloc: Global, words: &Words, files: &mut F, out: &mut S) -> Status
+    ensures done { result ≡ Status.Done → ForJob words.now (F.held files.old) (λ job bytes. PutsText job bytes (S.put_so_far out.old) (S.put_so_far out.new)) }
+    ensures read_whole { result ≡ Status.Done → ForJob words.now (F.held files.old) (λ job _. F.left files.new job.file ≡ Some []) }
+    ensures words { (result ≡ Status.Words) ↔ ((job : JobWords) → IsJob words.now job → ⊥) }
+    ensures read_fault { result ≡ Status.ReadFault → (job : JobWords) → IsJob words.now job → Rose (F.faults files.old job.file) (F.faults files.new job.file) }
+    ensures unbuilt { result ≡ Status.Unbuilt → ForJob words.now (F.held files.old) HasNoProgram }
+    ensures write_fault { result ≡ Status.WriteFault → Rose (S.faults out.old) (S.faults out.new) }
+    ensures broken { result ≡ Status.WriteFault → ForJob words.now (F.held files.old) (λ job bytes. BreaksText job bytes (S.put_so_far out.old) (S.put_so_far out.new)) }
+    ensures refused { result ≢ Status.Done → result ≢ Status.WriteFault → Adds (S.put_so_far out.old) (S.put_so_far out.new) [] }
+    ensures held { (name : List ℕ) → F.held files.new name ≡ F.held files.old name }
+    ensures file_counts { (name : List ℕ) → F.faults files.old name ≤ F.faults files.new name }
+    ensures out_count { S.faults out.old ≤ S.faults out.new }
+{
+    match job::read_job(words) {
+        None => Status::Words,
+        Some(job) => compile(alloc, job.file, job.entry, job.budget, files, out),
+    }
+}
+
+// Compiles the function `entry` of a file.
+fn compile<F: Files, S: Sink>(
+    alloc: Global,
+    file: &str,
+    entry: &str,
+    budget: u32,
+    files: &mut F,
+    out: &mut S,
+) -> Status
+    requires { 0 < budget }
+    ensures job { result ≢ Status.Words }
+    ensures done { result ≡ Status.Done → IfSome (F.held files.old file.now) (λ bytes. PutsText (record { file = file.now; entry = entry.now; budget = budget }) bytes (S.put_so_far out.old) (S.put_so_far out.new)) }
+    ensures read_whole { result ≡ Status.Done → IfSome (F.held files.old file.now) (λ _. F.left files.new file.now ≡ Some []) }
+    ensures read_fault { result ≡ Status.ReadFault → Rose (F.faults files.old file.now) (F.faults files.new file.now) }
+    ensures unbuilt { result ≡ Status.Unbuilt → IfSome (F.held files.old file.now) (HasNoProgram (record { file = file.now; entry = entry.now; budget = budget })) }
+    ensures write_fault { result ≡ Status.WriteFault → Rose (S.faults out.old) (S.faults out.new) }
+    ensures broken { result ≡ Status.WriteFault → IfSome (F.held files.old file.now) (λ bytes. BreaksText (record { file = file.now; entry = entry.now; budget = budget }) bytes (S.put_so_far out.old) (S.put_so_far out.new)) }
+    ensures refused { result ≢ Status.Done → result ≢ Status.WriteFault → Adds (S.put_so_far out.old) (S.put_so_far out.new) [] }
+    ensures held { (name : List ℕ) → F.held files.new name ≡ F.held files.old name }
+    ensures file_counts { (name : List ℕ) → F.faults files.old name ≤ F.faults files.new name }
+    ensures out_count { S.faults out.old ≤ S.faults out.new }
+{
+    let bytes = match input::read_file(alloc, files, file, SOURCE_LIMIT) {
+        Ok(bytes) => bytes,
+        Err(ReadError::Memory) => return Status::Memory,
+        Err(ReadError::Failed) => return Status::ReadFault,
+    };
+    if bytes.len() > SOURCE_LIMIT {
+        return Status::Unbuilt;
+    }
+    match form::read_form(alloc, &bytes, entry) {
+        Err(_) => Status::Memory,
+        Ok(None) => Status::Unbuilt,
+        Ok(Some(program)) => match write::write_text(out, &program) {
+            Ok(()) => Status::Done,
+            Err(_) => Status::WriteFault,
+        },
+    }
+}
