@@ -1,0 +1,204 @@
+//! Circuits: statements over numbered qubits and classical bits.
+
+ghost use Rattle.std.specs.Prelude.{◌≡◌, ◌≤◌, ◌<◌, ◌↔◌, ℕ, List, [], ◌∷◌, ◌++◌, length, slice_get, IsTrue, IsNone, OnOk, OnErr, Contains};
+ghost use Rattle.gate_core.specs.Circuit.{Accepts, AddsAll, IsSound, measured_bits, measured_by};
+ghost use Rattle.gate_core.specs.Local.{AllBelow, AllDiffer, gate_qubits};
+
+use crate::gate::{Gate, PlainGate};
+use std::alloc::{AllocError, Global};
+use std::collections::BTreeSet;
+use std::marker::Model;
+
+/// A circuit: so many qubits and classical bits, and the statements in order. Each statement
+/// is on different qubits, in range, and no bit is measured twice.
+#[derive(Drop)]
+pub struct Circuit {
+    qubits: u32,
+    bits: u32,
+    gates: Vec<Gate>,
+    measured: BTreeSet<u32>,
+}
+
+impl Model for Circuit {
+    ghost use Rattle.gate_core.specs.Circuit.{CircuitForm, IsKept};
+
+    ghost Value = { CircuitForm };
+
+    ghost view = { λ c. record { qubits = c.qubits; bits = c.bits; gates = c.gates.items } };
+
+    ghost invariant = { λ c. IsKept c.qubits c.bits c.gates.items c.measured.keys };
+}
+
+impl Circuit {
+    /// A circuit with no statements.
+    pub fn new(alloc: Global, qubits: u32, bits: u32) -> Circuit
+        ensures { result ≡ record { qubits = qubits; bits = bits; gates = [] } }
+    {
+        Circuit {
+            qubits,
+            bits,
+            gates: Vec::new(alloc),
+            measured: BTreeSet::new(alloc),
+        }
+    }
+
+    /// How many qubits.
+    pub fn qubits(&self) -> u32
+        ensures { result ≡ self.now.qubits }
+    {
+        self.qubits
+    }
+
+    /// How many classical bits.
+    pub fn bits(&self) -> u32
+        ensures { result ≡ self.now.bits }
+    {
+        self.bits
+    }
+
+    /// How many statements.
+    pub fn len(&self) -> usize
+        ensures count { result ≡ length self.now.gates }
+        ensures sound { IsSound self.now.qubits self.now.bits self.now.gates }
+    {
+        self.gates.len()
+    }
+
+    /// Whether there are no statements.
+    pub fn is_empty(&self) -> bool
+        ensures { IsTrue result ↔ (self.now.gates ≡ []) }
+    {
+        self.gates.is_empty()
+    }
+
+    /// The statement with this number, counted from 0.
+    pub fn gate(&self, i: usize) -> Option<Gate>
+        ensures statement { result ≡ slice_get self.now.gates i }
+        ensures none { IsNone result ↔ (length self.now.gates ≤ i) }
+    {
+        self.gates.get(i).copied()
+    }
+
+    /// Whether a statement measures into this bit.
+    pub fn is_measured(&self, bit: u32) -> bool
+        ensures { IsTrue result ↔ Contains (measured_bits self.now.gates) bit }
+    {
+        self.measured.contains(&bit)
+    }
+
+    /// Whether a statement may be added.
+    pub fn accepts(&self, gate: Gate) -> bool
+        ensures { IsTrue result ↔ Accepts self.now gate }
+    {
+        match gate {
+            Gate::One { kind: _, q } => q < self.qubits,
+            Gate::Cx { c, t } => two_fit(self.qubits, c, t),
+            Gate::Cz { c, t } => two_fit(self.qubits, c, t),
+            Gate::Ccx { a, b, t } => three_fit(self.qubits, a, b, t),
+            Gate::Measure { q, bit } => q < self.qubits
+                && bit < self.bits
+                && !self.is_measured(bit),
+            Gate::If {
+                bit,
+                value: _,
+                gate,
+            } => bit < self.bits && plain_fits(self.qubits, gate),
+        }
+    }
+
+    /// Adds a statement at the end. It fails only where memory runs out.
+    pub fn push(&mut self, gate: Gate) -> Result<(), AllocError>
+        requires { Accepts self.old gate }
+        ensures ok { OnOk result (self.new ≡ record self.old { gates = self.old.gates ++ gate ∷ [] }) }
+        ensures err { OnErr result (self.new ≡ self.old) }
+    {
+        self.gates.reserve(1)?;
+        add_measured(&mut self.measured, gate)?;
+        self.gates.push(gate).unwrap();
+        Ok(())
+    }
+}
+
+// Puts the bit that a statement measures into a set, if it is a measure.
+fn add_measured(measured: &mut BTreeSet<u32>, gate: Gate) -> Result<(), AllocError>
+    ensures ok { OnOk result (AddsAll measured.old.keys measured.new.keys (measured_by gate)) }
+    ensures err { OnErr result (measured.new.keys ≡ measured.old.keys) }
+{
+    if let Gate::Measure { q: _, bit } = gate {
+        measured.insert(bit)?;
+    }
+    Ok(())
+}
+
+// Whether two qubits are below n and differ.
+fn two_fit(n: u32, a: u32, b: u32) -> bool
+    ensures { IsTrue result ↔ AllBelow n (a ∷ b ∷ []) × AllDiffer (a ∷ b ∷ []) }
+{
+    a < n && b < n && a != b
+}
+
+// Whether three qubits are below n and differ.
+fn three_fit(n: u32, a: u32, b: u32, c: u32) -> bool
+    ensures { IsTrue result ↔ AllBelow n (a ∷ b ∷ c ∷ []) × AllDiffer (a ∷ b ∷ c ∷ []) }
+{
+    two_fit(n, a, b) && two_fit(n, b, c) && a != c
+}
+
+// Whether the qubits of a gate are below n and differ.
+fn plain_fits(n: u32, gate: PlainGate) -> bool
+    ensures { IsTrue result ↔ AllBelow n (gate_qubits gate) × AllDiffer (gate_qubits gate) }
+{
+    match gate {
+        PlainGate::One { kind: _, q } => q < n,
+        PlainGate::Cx { c, t } => two_fit(n, c, t),
+        PlainGate::Cz { c, t } => two_fit(n, c, t),
+        PlainGate::Ccx { a, b, t } => three_fit(n, a, b, t),
+    }
+}
+
+#[cfg(test)]
+mod tests {
+    use super::*;
+    use crate::gate::OneKind;
+    use std::test::Fail;
+
+    #[test]
+    fn holds_what_it_accepts(rt: HostRuntime) -> Result<(), Fail> {
+        let x = OneKind::X;
+        let flip = PlainGate::One { kind: x, q: 2 };
+        let table = [
+            (Gate::One { kind: x, q: 0 }, true),
+            (Gate::One { kind: x, q: 3 }, false),
+            (Gate::Cx { c: 0, t: 2 }, true),
+            (Gate::Cz { c: 1, t: 1 }, false),
+            (Gate::Ccx { a: 2, b: 0, t: 1 }, true),
+            (Gate::Ccx { a: 1, b: 0, t: 1 }, false),
+            (Gate::Measure { q: 1, bit: 1 }, true),
+            (Gate::Measure { q: 2, bit: 1 }, false),
+            (Gate::Measure { q: 2, bit: 2 }, false),
+            (
+                Gate::If {
+                    bit: 1,
+                    value: 7,
+                    gate: flip,
+                },
+                true,
+            ),
+        ];
+        let mut circuit = Circuit::new(rt.alloc(), 3, 2);
+        assert!(rt; circuit.is_empty());
+        for (gate, is_accepted) in table {
+            assert_eq!(rt; circuit.accepts(gate), is_accepted, "{gate:?}");
+            if circuit.accepts(gate) {
+                circuit.push(gate)?;
+                let last = circuit.len() - 1;
+                assert_eq!(rt; circuit.gate(last), Some(gate));
+                assert_eq!(rt; circuit.gate(last + 1), None);
+            }
+        }
+        assert_eq!(rt; circuit.len(), 5);
+        assert_eq!(rt; (circuit.qubits(), circuit.bits()), (3, 2));
+        assert!(rt; circuit.is_measured(1) && !circuit.is_measured(0));
+        Ok(())
+    }
+}
