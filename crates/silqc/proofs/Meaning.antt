@@ -1,5 +1,7 @@
 -- The circuit with a gate for each operation has the terms of the source.
-use Rattle.std.proofs.Common.{◌≡◌, ℕ, zero, suc, ◌<◌, Bool, true, false, List, [], ◌∷◌, map, length, refl, ap, ◌∙◌, arith}
+use Rattle.std.specs.List.{AllByRecursion}
+use Rattle.std.proofs.lemmas.List.Elements.{All-from_recursion}
+use Rattle.std.proofs.Common.{◌≡◌, ℕ, zero, suc, ◌<◌, Bool, true, false, List, [], ◌∷◌, map, length, refl, ap, subst, sym, ◌∙◌, arith}
 use Rattle.amp_core.specs.declared.Amp.{Amp}
 use Rattle.amp_core.specs.Amplitude.{one, none, times, Same}
 use Rattle.amp_core.proofs.Amplitudes.{times_zero, Same-equal}
@@ -8,6 +10,8 @@ use Rattle.silqc.specs.Job.{Job}
 use Rattle.silqc.specs.Form.{IsProgram}
 use Rattle.silqc.specs.Headline.{GivesSource, Compiles, IsZeroBut, HasOneBut}
 use Rattle.sum_laws.specs.Terms.{amplitude, apply, pick}
+use Rattle.gate_core.specs.Circuit.{GateFits, IsSound, measured_bits}
+use Rattle.gate_core.specs.Local.{AllDiffer}
 use Rattle.gate_core.specs.Meaning.{run, branches, meaning}
 use Rattle.silqc.specs.declared.form.Operation.{Operation}
 use Rattle.silqc.specs.declared.form.Operation.TheVariants.{Hadamard, Not}
@@ -67,6 +71,26 @@ gives program = record { amplitudes = amplitudes; zeros = zeros }
         → Same (amplitude bits (meaning 1 0 (gates_of program) ((0 ∷ []) ∷ []) input outcome)) none
     zeros input outcome bits i o w (q, below, other, one) = absurd (other.0 (omega (arith, below, w)))
 
+-- the gates are on the one qubit
+fits : (operation : Operation) → GateFits 1 0 (gate_of operation)
+fits Hadamard = record { qubits_in_range = (lit< tt, tt); qubits_differ = (tt, tt); bits_in_range = tt }
+fits Not = record { qubits_in_range = (lit< tt, tt); qubits_differ = (tt, tt); bits_in_range = tt }
+
+all_fit : (program : List Operation) → AllByRecursion (GateFits 1 0) (gates_of program)
+all_fit [] = tt
+all_fit (operation ∷ program) = (fits operation, all_fit program)
+
+none_measured : (program : List Operation) → measured_bits (gates_of program) ≡ []
+none_measured [] = refl
+none_measured (Hadamard ∷ program) = none_measured program
+none_measured (Not ∷ program) = none_measured program
+
+sound : (program : List Operation) → IsSound 1 0 (gates_of program)
+sound program = record {
+  each_fits = All-from_recursion (GateFits 1 0) (gates_of program) (all_fit program);
+  measured_once = subst AllDiffer (sym (none_measured program)) tt;
+}
+
 -- the text of a program is right for it
 pub compiles : (job : Job) (bytes : List ℕ) (program : List Operation) → IsProgram job.entry bytes program → 0 < job.budget → Compiles job bytes (text_of program)
 compiles job bytes program stands some = record {
@@ -74,6 +98,7 @@ compiles job bytes program stands some = record {
   circuit = record { qubits = 1; outcomes = 0; ins = (0 ∷ []) ∷ []; gates = gates_of program; outs = (0 ∷ []) ∷ [] };
   stands = stands;
   written = refl;
+  sound = sound program;
   inputs = ((tt, tt), (lit< tt, tt), refl);
   outputs = ((tt, tt), (lit< tt, tt), refl);
   gives = gives program;

@@ -5,6 +5,7 @@ use Rattle.amp_core.specs.Amplitude.{none, Same}
 use Rattle.sum_laws.specs.Terms.{amplitude, pick}
 use Rattle.gate_core.specs.declared.gate.Gate.{Gate}
 use Rattle.gate_core.specs.Meaning.{meaning, joined}
+use Rattle.gate_core.specs.Circuit.{IsSound}
 use Rattle.gate_core.specs.Local.{Absent, AllDiffer, AllBelow}
 use Rattle.silqc.specs.declared.form.Operation.{Operation}
 use Rattle.silqc.specs.Job.{Job, IsJob}
@@ -46,6 +47,7 @@ pub record Compiles (job : Job) (bytes text : List ℕ) : Type 0 where
   pub circuit : Spelled
   pub stands : IsProgram job.entry bytes program
   pub written : text ≡ written_text circuit.qubits circuit.outcomes circuit.ins circuit.gates circuit.outs
+  pub sound : IsSound circuit.qubits circuit.outcomes circuit.gates
   pub inputs : AllDiffer (joined circuit.ins) × AllBelow circuit.qubits (joined circuit.ins) × (length (joined circuit.ins) ≡ 1)
   pub outputs : AllDiffer (joined circuit.outs) × AllBelow circuit.qubits (joined circuit.outs) × (length (joined circuit.outs) ≡ 1)
   pub gives : GivesSource program circuit
