@@ -1,0 +1,9 @@
+pub mod Labels
+pub mod NextSteps
+pub mod Drafting
+pub mod Places
+pub mod KeptLabels
+pub mod RowsKept
+pub mod FlatRead
+pub mod Kept
+pub mod Finishes
