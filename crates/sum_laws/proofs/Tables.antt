@@ -14,10 +14,10 @@ use Rattle.sum_laws.proofs.Order.{below_itself, below_trans, not_same_from_below
 
 -- ---- some element of a list
 
-any_here : {X : Type 0} (P : X → Type 0) (x : X) (xs : List X) → P x → Any P (x ∷ xs)
+pub any_here : {X : Type 0} (P : X → Type 0) (x : X) (xs : List X) → P x → Any P (x ∷ xs)
 any_here P x xs p = (0, x, omega arith, refl, p)
 
-any_later : {X : Type 0} (P : X → Type 0) (x : X) (xs : List X) → Any P xs → Any P (x ∷ xs)
+pub any_later : {X : Type 0} (P : X → Type 0) (x : X) (xs : List X) → Any P xs → Any P (x ∷ xs)
 any_later P x xs (k, y, l, e, p) = (suc k, y, omega arith, e, p)
 
 any_none : {X : Type 0} (P : X → Type 0) → Any P [] → ⊥
@@ -31,7 +31,7 @@ any_cases {X} P x xs (k, y, l, e, p) = at k l e
     at (suc k) l e = inr (k, y, omega arith, e, p)
 
 -- a row with this value
-abbrev HasValue : List Bool → List (List Bool × Amp) → Type 0
+abbrev pub HasValue : List Bool → List (List Bool × Amp) → Type 0
 HasValue v rows = Any (λ r. r.0 ≡ v) rows
 
 abbrev pub Above : List Bool → List Bool × Amp → Type 0
