@@ -1,0 +1,11 @@
+pub mod Sums
+pub mod Below
+pub mod Values
+pub mod Local
+pub mod Choices
+pub mod Early
+pub mod Totals
+pub mod Sequence
+pub mod Amplitudes
+pub mod Walks
+pub mod Examples
