@@ -14,7 +14,7 @@ use Rattle.sum_laws.specs.Rearranged.{Rearranged}
 use Rattle.sum_laws.specs.Rearranged.Rearranged.{nothing, keep, exchange, then}
 use Rattle.sum_laws.specs.Table.{Ascending, RowOf, TableOf}
 use Rattle.sum_laws.specs.Partial.{PartialSumsSmall}
-use Rattle.sum_laws.specs.Units.{IsSumOfUnits, StandsFor, HasBranches}
+use Rattle.sum_laws.specs.Units.{AllUnits, IsSumOfUnits, StandsFor, HasBranches}
 use Rattle.sum_laws.proofs.TermLists.{same_bits-equal}
 use Rattle.sum_laws.proofs.Linear.{bool_cases}
 use Rattle.sum_laws.proofs.Order.{not_same_from_below}
@@ -33,6 +33,9 @@ stands_first v = record { counts = 1 ∷ []; counted = (subst (IsSumOfUnits 1 0)
 
 pub stands_nothing : (h : ℕ) → StandsFor 0 h []
 stands_nothing h = record { counts = []; counted = tt; few = omega arith }
+
+pub stands_term : (n h : ℕ) (v : List Bool) (x : Amp) → IsSumOfUnits n h x → StandsFor n h ((v, x) ∷ [])
+stands_term n h v x s = record { counts = n ∷ []; counted = (s, tt); few = (let e = sum-cons n [] in omega arith) }
 
 counted_more : (g h : ℕ) (ns : List ℕ) (ts : List (List Bool × Amp)) → g ≤ h → Counted g ns ts → Counted h ns ts
 counted_more g h [] [] l c = tt
@@ -57,6 +60,13 @@ stands-append m n h ts us s t = record {
   counted = counted-append h s.counts t.counts ts us s.counted t.counted;
   few = (let e = sum_by-append (λ (x : ℕ). x) s.counts t.counts in let f = s.few in let g = t.few in omega arith);
 }
+
+pub stands_units : (ts : List (List Bool × Amp)) → AllUnits ts → StandsFor (length ts) 50 ts
+stands_units [] u = stands_nothing 50
+stands_units (t ∷ ts) u =
+    let one_unit : IsSumOfUnits 1 50 t.1 =
+    sum_more 1 1 u.0.halvings 50 t.1 (omega arith) u.0.few (subst (IsSumOfUnits 1 u.0.halvings) (sym u.0.is) (sum_single u.0.turns u.0.halvings)) in
+    stands_more (1 + length ts) (suc (length ts)) 50 50 (t ∷ ts) (omega arith) (omega arith) (stands-append 1 (length ts) 50 (t ∷ []) ts (stands_term 1 50 t.0 t.1 one_unit) (stands_units ts u.1))
 
 -- the terms with counts of a given sum
 record Recounted (h total : ℕ) (ts : List (List Bool × Amp)) : Type 0 where
