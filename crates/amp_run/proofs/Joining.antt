@@ -1,8 +1,8 @@
 -- Elements added to one of three joined lists.
-use Rattle.std.proofs.Common.{◌≡◌, ℕ, List, [], ◌∷◌, ◌++◌, ap, sym, subst, append_assoc}
+use Rattle.std.proofs.Common.{List, [], ◌∷◌, ◌++◌, sym, subst, append_assoc}
 use Rattle.std.proofs.lemmas.List.{append-nil}
 use Rattle.sum_laws.specs.Rearranged.{Rearranged}
-use Rattle.sum_laws.specs.Rearranged.Rearranged.{exchange, then}
+use Rattle.sum_laws.specs.Rearranged.Rearranged.{then}
 use Rattle.sum_laws.proofs.Rearranged.{Rearranged-refl, Rearranged-sym, Rearranged-append_left, Rearranged-append_right, Rearranged-middle}
 
 last_to_first_list : {X : Type 0} (xs ys : List X) (x : X) → Rearranged ((xs ++ ys) ++ x ∷ []) ((xs ++ x ∷ []) ++ ys)

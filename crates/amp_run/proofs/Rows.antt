@@ -1,5 +1,5 @@
 -- The rows of a run: what they keep from statement to statement.
-use Rattle.std.proofs.Common.{◌≡◌, ℕ, zero, suc, ◌+◌, ◌^◌, ◌≤◌, ◌<◌, ◌⊎◌, Bool, true, false, cond, List, [], ◌∷◌, length, drop, slice_get, Some, add-one, length-set, All, inl, inr, refl, ap, sym, subst, ◌∙◌, arith}
+use Rattle.std.proofs.Common.{◌≡◌, ℕ, suc, ◌+◌, ◌^◌, ◌≤◌, ◌<◌, Bool, true, cond, List, [], ◌∷◌, length, drop, slice_get, Some, add-one, length-set, All, inl, inr, refl, ap, sym, subst, ◌∙◌, arith}
 use Rattle.std.proofs.Math.Pow.{pow_mono}
 use Rattle.std.proofs.lemmas.Bool.{cases_eq}
 use Rattle.std.proofs.Math.Seq.{drop-cons}
@@ -13,11 +13,10 @@ use Rattle.sum_laws.specs.Partial.{PartialSumsSmall}
 use Rattle.sum_laws.specs.Rearranged.{Rearranged}
 use Rattle.sum_laws.specs.Terms.{same_bits, amplitude, apply, SameTerms}
 use Rattle.sum_laws.specs.Table.{TableOf, RowOf}
-use Rattle.sum_laws.specs.Units.{StandsFor}
-use Rattle.sum_laws.proofs.TermLists.{same_bits-refl, same_bits-equal, SameTerms-refl, SameTerms-sym, SameTerms-trans}
-use Rattle.sum_laws.proofs.Linear.{bool_cases, apply-same}
+use Rattle.sum_laws.proofs.TermLists.{same_bits-refl, same_bits-equal, SameTerms-sym, SameTerms-trans}
+use Rattle.sum_laws.proofs.Linear.{bool_cases}
 use Rattle.sum_laws.proofs.Rearranged.{amplitude-rearranged}
-use Rattle.sum_laws.proofs.StandsFor.{stands_first, stands_more, stands_rearranged, stands_table, stands_small}
+use Rattle.sum_laws.proofs.StandsFor.{stands_first, stands_rearranged, stands_table, stands_small}
 use Rattle.sum_laws.proofs.Tables.{TableOf-along}
 use Rattle.sum_laws.proofs.TableTerms.{SameTerms-table, TableOf-same}
 use Rattle.gate_core.specs.declared.gate.Gate.{Gate}

@@ -88,8 +88,8 @@ fn h_gates_of(gate: Gate) -> usize
         Gate::If {
             bit: _,
             value: _,
-            gate: PlainGate::One { kind, q: _ },
-        } => h_of(kind),
+            gate: PlainGate::One { kind: inner, q: _ },
+        } => h_of(inner),
         _ => 0,
     }
 }

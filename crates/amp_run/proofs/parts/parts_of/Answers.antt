@@ -1,4 +1,4 @@
-use Rattle.std.proofs.Common.{◌≡◌, ℕ, Bool, List, [], ◌∷◌, ◌++◌, All, map, length, ap, sym, ◌∙◌, subst}
+use Rattle.std.proofs.Common.{◌≡◌, Bool, List, [], ◌∷◌, ◌++◌, All, map, length, sym, ◌∙◌, subst}
 use Rattle.std.proofs.lemmas.List.{append-nil}
 use Rattle.std.proofs.lemmas.List.Elements.{All-head, All-tail}
 use Rattle.std.specs.Vec.Iter.{into_iter_items}
@@ -12,7 +12,6 @@ use Rattle.gate_core.specs.Local.{AllBelow}
 use Rattle.gate_core.specs.Meaning.{branches}
 use Rattle.amp_run.specs.Column.{column_branches}
 use Rattle.amp_run.specs.Parts.{all_parts}
-use Rattle.amp_run.specs.declared.parts.Parts.{Parts}
 use Rattle.amp_run.proofs.Joining.{added_part}
 use Rattle.amp_run.proofs.parts.parts_of.Goals as goal
 

@@ -1,4 +1,4 @@
-use Rattle.std.proofs.Common.{◌≡◌, [], ◌∷◌, ◌++◌, ap, sym, ◌∙◌, subst}
+use Rattle.std.proofs.Common.{[], ◌∷◌, ◌++◌, ap, sym, ◌∙◌, subst}
 use Rattle.amp_core.specs.Amplitude.{one}
 use Rattle.sum_laws.specs.Partial.{PartialSumsSmall}
 use Rattle.amp_run.proofs.Rows.{first_small}

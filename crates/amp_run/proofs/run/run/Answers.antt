@@ -1,13 +1,11 @@
-use Rattle.std.proofs.Common.{◌≡◌, ℕ, ◌+◌, ◌<◌, ◌≤◌, Bool, false, List, [], ◌∷◌, All, length, drop, replicate, slice_get, Some, ap, sym, ◌∙◌, subst, arith}
+use Rattle.std.proofs.Common.{◌≡◌, ◌+◌, ◌<◌, ◌≤◌, false, [], ◌∷◌, length, drop, replicate, ap, sym, ◌∙◌, subst, arith}
 use Rattle.std.proofs.lemmas.List.{drop_all, length-replicate}
-use Rattle.amp_core.specs.declared.Amp.{Amp}
 use Rattle.amp_core.specs.Amplitude.{one}
 use Rattle.sum_laws.specs.Table.{TableOf}
 use Rattle.sum_laws.specs.Terms.{apply}
-use Rattle.gate_core.specs.declared.gate.Gate.{Gate}
-use Rattle.gate_core.specs.Circuit.{GateFits, qubits_of, bits_of}
+use Rattle.gate_core.specs.Circuit.{qubits_of, bits_of}
 use Rattle.gate_core.specs.Local.{AllBelow}
-use Rattle.gate_core.specs.Meaning.{branches, known_after, run}
+use Rattle.gate_core.specs.Meaning.{branches, run}
 use Rattle.amp_run.proofs.Rows.{Running, running_first, running_next, running_last, running_at, room_for_next, rows_wide, fits_at, length-known_after}
 use Rattle.amp_run.proofs.run.run.Goals as goal
 

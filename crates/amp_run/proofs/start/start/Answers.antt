@@ -1,5 +1,5 @@
-use Rattle.std.proofs.Common.{◌≡◌, ◌<◌, length, get_or, ap, sym, ◌∙◌, subst, arith, length-set}
-use Rattle.amp_run.proofs.Begin.{below_at, placed_more}
+use Rattle.std.proofs.Common.{arith}
+use Rattle.amp_run.proofs.Begin.{below_at}
 use Rattle.amp_run.proofs.start.start.Goals as goal
 
 pub set-requires : goal.set-requires

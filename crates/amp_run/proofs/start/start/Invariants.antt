@@ -1,4 +1,4 @@
-use Rattle.std.proofs.Common.{◌≡◌, Bool, false, length, replicate, drop}
+use Rattle.std.proofs.Common.{◌≡◌, false, length, replicate, drop}
 use Rattle.gate_core.specs.Meaning.{placed}
 use Rattle.amp_run.proofs.start.start.Given as goal
 

@@ -6,7 +6,7 @@ use Rattle.amp_core.specs.Amplitude.{times}
 use Rattle.sum_laws.specs.Rearranged.{Rearranged}
 use Rattle.sum_laws.specs.Terms.{branched}
 use Rattle.sum_laws.proofs.Rearranged.{Rearranged-refl}
-use Rattle.gate_core.specs.Meaning.{bit_at, flipped, halved}
+use Rattle.gate_core.specs.Meaning.{bit_at, flipped}
 use Rattle.amp_run.specs.Column.{column_branches}
 use Rattle.amp_run.specs.Parts.{all_parts}
 use Rattle.amp_run.specs.declared.column.Column.{Column}

@@ -2,7 +2,7 @@ use Rattle.std.proofs.Common.{◌≡◌, ℕ, Bool, true, false, not, List, [], 
 use Rattle.std.proofs.lemmas.Result.{on_ok_weaker}
 use Rattle.amp_core.specs.declared.Amp.{Amp}
 use Rattle.sum_laws.specs.Rearranged.{Rearranged}
-use Rattle.gate_core.specs.Meaning.{bit_at, flipped}
+use Rattle.gate_core.specs.Meaning.{flipped}
 use Rattle.amp_run.proofs.Joining.{added_to_second, added_to_third}
 use Rattle.amp_run.proofs.parts.Parts.add_flipped.Goals as goal
 
