@@ -1,5 +1,5 @@
 -- A node stands for the same tree where the nodes that it names do.
-use Rattle.std.proofs.Common.{◌≡◌, ℕ, ◌+◌, ◌<◌, ◌≤◌, List, [], ◌∷◌, ◌++◌, Option, Some, None, map, flat_map, refl, sym, ◌∙◌, ap, arith}
+use Rattle.std.proofs.Common.{◌≡◌, ℕ, ◌<◌, List, [], ◌∷◌, ◌++◌, Option, Some, None, map, flat_map, refl, ap}
 use Rattle.silq_tree.specs.declared.node.ExprId.{ExprId}
 use Rattle.silq_tree.specs.declared.node.StmtId.{StmtId}
 use Rattle.silq_tree.specs.declared.node.NameId.{NameId}
@@ -16,8 +16,8 @@ use Rattle.silq_tree.specs.declared.node.Expr.TheVariants as exprs
 use Rattle.silq_tree.specs.declared.node.Stmt.{Stmt}
 use Rattle.silq_tree.specs.declared.node.Stmt.TheVariants as stmts
 use Rattle.silq_tree.specs.Syntax.{Expression, Statement, more, next, part, place, assign, update, block, else_block, else_choice, choice, loop, called, tuple, binary, scalar, array, part_of_part, uint, int, typed_number, unary, spread, forget_value, phase, return_value, call}
-use Rattle.silq_tree.specs.Standing.{expressions_of, scalar_of, part_of, place_of, sized, type_of, param_of, expr_grown, statements_of, block_of, otherwise_of, stmt_grown, fun_grown}
-use Rattle.silq_tree.specs.Children.{listed, scalar_exprs, number_exprs, place_exprs, type_exprs, param_exprs, expr_exprs, stmt_exprs, fun_exprs, else_stmts, stmt_stmts, fun_stmts, AreExprsBelow, AreStmtsBelow}
+use Rattle.silq_tree.specs.Standing.{expressions_of, scalar_of, part_of, place_of, sized, type_of, param_of, expr_grown, statements_of, otherwise_of, stmt_grown, fun_grown}
+use Rattle.silq_tree.specs.Children.{listed, scalar_exprs, place_exprs, type_exprs, param_exprs, expr_exprs, stmt_exprs, fun_exprs, else_stmts, stmt_stmts, fun_stmts, AreExprsBelow, AreStmtsBelow}
 
 -- the same tree at each of the ids
 abbrev pub AllSame : {I T : Type 0} → (I → T) → (I → T) → List I → Type 0

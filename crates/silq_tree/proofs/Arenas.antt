@@ -1,6 +1,5 @@
 -- What holds of arenas, and of one more node.
-use Rattle.std.proofs.Common.{◌≡◌, ℕ, zero, suc, ◌+◌, ◌<◌, ◌≤◌, ◌⊎◌, inl, inr, List, [], ◌∷◌, ◌++◌, Option, Some, None, get_or, slice_get, sum_by, length, refl, sym, ◌∙◌, ap, arith, length-append}
-use Rattle.std.proofs.lemmas.Option.{slice_get_within}
+use Rattle.std.proofs.Common.{◌≡◌, ℕ, zero, suc, ◌+◌, ◌<◌, ◌≤◌, ◌⊎◌, inl, inr, List, [], ◌∷◌, ◌++◌, Option, Some, None, slice_get, sum_by, length, refl, ◌∙◌, ap, arith, length-append}
 use Rattle.std.proofs.lemmas.List.Sums.{sum_by-append}
 use Rattle.silq_tree.specs.declared.node.ExprId.{ExprId}
 use Rattle.silq_tree.specs.declared.node.StmtId.{StmtId}
@@ -8,11 +7,11 @@ use Rattle.silq_tree.specs.declared.node.FunId.{FunId}
 use Rattle.silq_tree.specs.declared.node.Expr.{Expr}
 use Rattle.silq_tree.specs.declared.node.Stmt.{Stmt}
 use Rattle.silq_tree.specs.declared.node.Fun.{Fun}
-use Rattle.silq_tree.specs.Syntax.{Expression, Statement, Function, pi, return_nothing}
+use Rattle.silq_tree.specs.Syntax.{Expression, Statement, pi, return_nothing}
 use Rattle.silq_tree.specs.Standing.{expr_grown, stmt_grown, fun_grown}
 use Rattle.silq_tree.specs.Children.{expr_exprs, stmt_exprs, fun_exprs, stmt_stmts, fun_stmts, AreExprsBelow, AreStmtsBelow, expr_count, stmt_count, ExprHasFirst, StmtHasFirst}
 use Rattle.silq_tree.specs.Arena.{Forest, grow, pick_expr, pick_stmt, expr_at, stmt_at, fun_at, grown_or, expr_parents, stmt_parents, IsArena, with_expr, with_stmt, with_fun, KeepsTrees}
-use Rattle.silq_tree.proofs.Growth.{Agree, IsLocal, grow_at, grow_made, grow_kept, grow_same}
+use Rattle.silq_tree.proofs.Growth.{IsLocal, grow_at, grow_made, grow_kept, grow_same}
 use Rattle.silq_tree.proofs.Agreeing.{all_itself, exprs_same, stmts_same, same_expr, same_stmt, same_fun}
 
 no_expr : Expression

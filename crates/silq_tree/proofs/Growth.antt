@@ -1,6 +1,5 @@
 -- Trees that are grown from those before them.
-use Rattle.std.proofs.Common.{◌≡◌, ℕ, zero, suc, ◌+◌, ◌<◌, ◌≤◌, List, [], ◌∷◌, ◌++◌, Option, Some, None, get_or, slice_get, length, refl, sym, ◌∙◌, ap, arith, append_assoc, zero-add, length-append}
-use Rattle.std.proofs.lemmas.Grind.{common_steps}
+use Rattle.std.proofs.Common.{◌≡◌, ℕ, zero, suc, ◌+◌, ◌<◌, List, [], ◌∷◌, ◌++◌, Some, get_or, slice_get, length, refl, sym, ◌∙◌, ap, arith, zero-add, length-append}
 use Rattle.silq_tree.specs.Arena.{grow_behind, grow}
 
 -- two lists agree below n

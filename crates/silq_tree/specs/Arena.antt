@@ -1,5 +1,5 @@
 -- The nodes of an arena, and the trees that they stand for.
-use Rattle.std.specs.Prelude.{◌≡◌, ℕ, ◌+◌, ◌<◌, ◌≤◌, List, [], ◌∷◌, ◌++◌, Option, Some, None, length, slice_get, slice_index_or, sum_by}
+use Rattle.std.specs.Prelude.{◌≡◌, ℕ, ◌+◌, ◌<◌, ◌≤◌, List, [], ◌∷◌, ◌++◌, Option, Some, None, length, map, slice_get, slice_index_or, sum_by}
 use Rattle.silq_tree.specs.declared.node.ExprId.{ExprId}
 use Rattle.silq_tree.specs.declared.node.StmtId.{StmtId}
 use Rattle.silq_tree.specs.declared.node.FunId.{FunId}
@@ -7,7 +7,7 @@ use Rattle.silq_tree.specs.declared.node.Expr.{Expr}
 use Rattle.silq_tree.specs.declared.node.Stmt.{Stmt}
 use Rattle.silq_tree.specs.declared.node.Fun.{Fun}
 use Rattle.silq_tree.specs.declared.node.Mark.TheVariants.{Plain}
-use Rattle.silq_tree.specs.Syntax.{Expression, Statement, Function, pi, return_nothing, block, done}
+use Rattle.silq_tree.specs.Syntax.{Expression, Statement, Function, Program, pi, return_nothing, block, done}
 use Rattle.silq_tree.specs.Standing.{expr_grown, stmt_grown, fun_grown}
 use Rattle.silq_tree.specs.Children.{expr_exprs, stmt_exprs, fun_exprs, stmt_stmts, fun_stmts, AreExprsBelow, AreStmtsBelow, expr_count, stmt_count, ExprHasFirst, StmtHasFirst}
 
@@ -57,6 +57,10 @@ grown_or f (Some g) = fun_grown (expr_at f) (stmt_at f) g
 -- the tree that a function stands for
 abbrev pub fun_at : Forest → FunId → Function
 fun_at f id = grown_or f (slice_get f.funs id.number)
+
+-- the program of these functions
+abbrev pub program_at : Forest → List FunId → Program
+program_at f ids = map (fun_at f) ids
 
 -- how often an expression, or a statement, is named by nodes
 abbrev pub expr_parents : Forest → ExprId → ℕ

@@ -83,3 +83,7 @@ pub record Function : Type 0 where
   pub results : List WrittenType
   pub body : Block
   pub at : Spot
+
+-- the functions in the order of the file
+abbrev pub Program : Type 0
+Program = List Function

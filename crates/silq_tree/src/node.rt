@@ -147,7 +147,7 @@ pub struct Block {
 #[derive(Drop)]
 pub enum Else {
     Block(Block),
-    /// An `If`.
+    /// A statement; the grammar has an `If` there.
     Choice(StmtId),
 }
 
@@ -212,7 +212,7 @@ pub enum Stmt {
         value: Option<ExprId>,
         at: Spot,
     },
-    /// A call, which is a `Call` expression.
+    /// A call; the grammar has a `Call` expression there.
     Call {
         call: ExprId,
         at: Spot,

@@ -1,5 +1,5 @@
-use Rattle.std.proofs.Common.{◌≡◌, ◌∙◌, map, string_bytes, refl, sym, ap}
-use Rattle.silq_tree.specs.Texts.{AreDifferent, KeepsNames, with_name}
+use Rattle.std.proofs.Common.{map, string_bytes}
+use Rattle.silq_tree.specs.Texts.{AreDifferent, KeepsNames}
 use Rattle.silq_tree.proofs.Interned.{different_with, kept_with, text_found, name_there, name_inserted, text_inserted}
 use Rattle.silq_tree.proofs.names.Names.intern.Goals as goal
 
