@@ -1,0 +1,5 @@
+pub mod Progress
+pub mod Valid
+pub mod Effect
+pub mod Live
+pub mod Laws
