@@ -8,3 +8,6 @@ pub mod Final
 pub mod Idle
 pub mod AtEnd
 pub mod FormsAgree
+pub mod Tracks
+pub mod Counts
+pub mod Following

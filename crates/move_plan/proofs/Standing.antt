@@ -8,7 +8,7 @@ use Rattle.flat_core.specs.declared.step.WireId.{WireId}
 use Rattle.flat_core.specs.declared.step.StepId.{StepId}
 use Rattle.flat_core.specs.Form.{FlatForm}
 use Rattle.flat_core.specs.Label.{changes, used, step_at, label_before, wire_of, WiresDiffer}
-use Rattle.flat_core.specs.Ends.{undone_step, measures}
+use Rattle.flat_core.specs.Ends.{undone_step}
 use Rattle.flat_core.specs.Sound.{IsFlat}
 use Rattle.flat_mean.specs.Row.{is_h}
 use Rattle.flat_mean.proofs.Values.{label_at, label_at-is}
@@ -26,7 +26,7 @@ label_before-at f s w = sym (label_at-is f.steps s.number w.number)
 pub stands_at : (p : Progress) (w : WireId) (i j : ℕ) → i ≡ j → StandsAt p w i → StandsAt p w j
 stands_at p w i j e st = record { at = st.at ∙ e; kept = st.kept }
 
-pub label_kept : (f : FlatForm) (s : StepId) (w : WireId) → changes w (step_at f s) ≡ false → label_at f.steps (suc s.number) w.number ≡ label_at f.steps s.number w.number
+label_kept : (f : FlatForm) (s : StepId) (w : WireId) → changes w (step_at f s) ≡ false → label_at f.steps (suc s.number) w.number ≡ label_at f.steps s.number w.number
 label_kept f s w c = ap (λ b. label_at f.steps s.number w.number + cond b 1 0) c ∙ add-zero (label_at f.steps s.number w.number)
 
 pub label_raised : (f : FlatForm) (s : StepId) (w : WireId) → changes w (step_at f s) ≡ true → label_at f.steps (suc s.number) w.number ≡ suc (label_at f.steps s.number w.number)
@@ -88,9 +88,3 @@ h_lasts f (X t a b) h = cc
 h_lasts f (H t a) h = refl
 h_lasts f (P e a) h = cc
 h_lasts f (M w n) h = cc
-
-pub m_lasts : (f : FlatForm) (s : Step) (w : WireId) → measures w s ≡ true → undone_step f s ≡ false
-m_lasts f (X t a b) w m = cc
-m_lasts f (H t a) w m = cc
-m_lasts f (P e a) w m = cc
-m_lasts f (M v n) w m = refl

@@ -3,3 +3,4 @@ pub mod Valid
 pub mod Effect
 pub mod Live
 pub mod Laws
+pub mod Track

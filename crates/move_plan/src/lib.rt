@@ -3,5 +3,8 @@
 
 pub mod laws;
 pub mod moves;
+pub mod rows;
+mod track;
 
 pub use moves::{Move, MoveList, Plan};
+pub use rows::Rows;
