@@ -1,0 +1,13 @@
+pub mod Standing
+pub mod PathRows
+pub mod Fixed
+pub mod Prefix
+pub mod Measures
+pub mod Extend
+pub mod Final
+pub mod Idle
+pub mod AtEnd
+pub mod FormsAgree
+pub mod Tracks
+pub mod Counts
+pub mod Following

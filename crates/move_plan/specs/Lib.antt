@@ -1,0 +1,6 @@
+pub mod Progress
+pub mod Valid
+pub mod Effect
+pub mod Live
+pub mod Laws
+pub mod Track
