@@ -1,0 +1,4 @@
+pub mod Ids
+pub mod Stages
+pub mod Forth
+pub mod Back

@@ -1,0 +1,4 @@
+pub mod GraphOf
+pub mod UseList
+pub mod Making
+pub mod Linking

@@ -1,0 +1,5 @@
+#![tactic(auto)]
+//! The circuit graph of a flat form.
+
+pub mod chain;
+pub mod uses;
