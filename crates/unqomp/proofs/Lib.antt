@@ -2,3 +2,6 @@ pub mod Ids
 pub mod Stages
 pub mod Forth
 pub mod Back
+pub mod Last
+pub mod UseEdges
+pub mod UseLists

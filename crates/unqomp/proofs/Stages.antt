@@ -22,10 +22,10 @@ use Rattle.unqomp.specs.Making.{vertex_id, ids_on, IsAlong, StandsOnce, IsStage}
 use Rattle.unqomp.specs.Linking.{last_of, target_arrow, target_arrows, linked, IsLinkable}
 use Rattle.unqomp.proofs.Ids.{length-ids, vertex_at, id_at, ids_push, ids_kept}
 
-contains_nil : {A : Type 0} (x : A) → ¬ Contains [] x
+pub contains_nil : {A : Type 0} (x : A) → ¬ Contains [] x
 contains_nil x c = let l = c.1 in omega arith
 
-contains_one : {A : Type 0} (a x : A) → Contains (a ∷ []) x → a ≡ x
+pub contains_one : {A : Type 0} (a x : A) → Contains (a ∷ []) x → a ≡ x
 contains_one a x c = elim (Contains-push_cases [] a x c) [ inl n ↦ absurd (contains_nil x n) | inr e ↦ e ]
 
 -- the vertex of an id that is there
