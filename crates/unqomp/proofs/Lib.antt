@@ -5,3 +5,4 @@ pub mod Back
 pub mod Last
 pub mod UseEdges
 pub mod UseLists
+pub mod Links

@@ -1,6 +1,7 @@
 //! The ids on the chain of a wire.
 
 ghost use Rattle.std.specs.Prelude.{◌≡◌, ◌+◌, ◌-◌, ◌<◌, ◌^◌, ◌++◌, ◌∷◌, [], length, slice_get, Contains, OnOk, OnErr, IfSome, MatchOption};
+ghost use Rattle.graph_core.specs.Arena.{IsArena};
 ghost use Rattle.unqomp.specs.Linking.{linked, IsLinkable};
 ghost use Rattle.unqomp.specs.Making.{vertex_id};
 
@@ -58,6 +59,7 @@ impl Chain {
 
     /// Adds a new vertex at the end, with the Target edge from the vertex before it.
     pub fn add(&mut self, graph: &mut Graph, v: Vertex) -> Result<(), AllocError>
+        requires arena { IsArena graph.old }
         requires fresh { ¬ Contains graph.old.vertices v }
         requires room { length graph.old.vertices + 1 < 2 ^ 32 }
         requires edge_room { length graph.old.arrows + 1 < 2 ^ 32 }
