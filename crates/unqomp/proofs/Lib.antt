@@ -6,3 +6,5 @@ pub mod Last
 pub mod UseEdges
 pub mod UseLists
 pub mod Links
+pub mod UserIds
+pub mod UseLoop

@@ -1,5 +1,5 @@
 -- The edges of one more use.
-use Rattle.std.proofs.Common.{◌≡◌, ℕ, zero, suc, ◌+◌, ◌<◌, ◌≤◌, ◌⊎◌, ◌↔◌, Bool, true, false, List, [], ◌∷◌, ◌++◌, length, slice_get, Option, Some, None, Contains, refl, sym, ap, ap₂, ◌∙◌, subst, inl, inr, arith}
+use Rattle.std.proofs.Common.{◌≡◌, ℕ, zero, suc, ◌+◌, ◌-◌, ◌<◌, ◌≤◌, ◌⊎◌, ◌↔◌, Bool, true, false, List, [], ◌∷◌, ◌++◌, length, slice_get, Option, Some, None, IfSome, Contains, refl, sym, ap, ap₂, ◌∙◌, subst, inl, inr, arith}
 use Rattle.std.proofs.lemmas.Option.{same_Some, slice_get_within, none-some}
 use Rattle.std.proofs.lemmas.List.Elements.{Contains-push, Contains-push_cases, Contains-append_left, Contains-append_right, Contains-append_cases}
 use Rattle.flat_core.specs.declared.step.Step.{Step}
@@ -87,6 +87,15 @@ module _ (ids : List VertexId) (user : VertexId) where
       let holder = some_at ids j (omega arith) in
       subst (λ (o : Option VertexId). Contains (held_arrows o user (slice_get ids (suc j))) (availability user next)) (sym holder.1)
         (subst (λ (o : Option VertexId). Contains (use_arrows holder.0 user o) (availability user next)) (sym at) (1, omega arith, refl))
+
+-- the same, for a slot that is told to be behind the first place
+pub behind_slot : (ids : List VertexId) (user : VertexId) (k : ℕ) → (k ≡ 0 → ⊥) → (holder : VertexId) → slice_get ids (k - 1) ≡ Some holder → Contains (slot_arrows ids user k) (control holder user)
+behind_slot ids user zero n holder at = absurd (n refl)
+behind_slot ids user (suc j) n holder at = slot_control ids user j holder (ap (λ (i : ℕ). slice_get ids i) (let e : j ≡ suc j - 1 = omega arith in e) ∙ at)
+
+pub all_next : (ids : List VertexId) (user : VertexId) (k : ℕ) (Holds : Arrow → Type 0) → ((e : Arrow) → Contains (slot_arrows ids user k) e → Holds e) → (o : Option VertexId) → o ≡ slice_get ids k → IfSome o (λ next. Holds (availability user next))
+all_next ids user k holds all None e = tt
+all_next ids user k holds all (Some next) e = all (availability user next) (slot_availability ids user k next (sym e))
 
 -- where more uses are told, there are more edges
 pub slot_map : (f : FlatForm) (few many : Vertex → WireId → ℕ → Type 0) → ((u : Vertex) (w : WireId) (i : ℕ) → few u w i → many u w i) → (kind : EdgeKind) (a b : Vertex) → SlotEdge f few kind a b → SlotEdge f many kind a b

@@ -1,5 +1,5 @@
 -- A circuit graph in the making.
-use Rattle.std.specs.Prelude.{◌≡◌, ℕ, zero, suc, ◌+◌, ◌-◌, ◌<◌, ◌≤◌, Bool, true, cond, ◌&&◌, ltb, List, [], ◌∷◌, ◌++◌, map, reverse, length, take, drop, get_or, slice_get, Option, Some, None, Contains, ◌↔◌, ⊤}
+use Rattle.std.specs.Prelude.{◌≡◌, ℕ, zero, suc, ◌+◌, ◌-◌, ◌<◌, ◌≤◌, Bool, true, cond, ◌&&◌, ltb, List, [], ◌∷◌, ◌++◌, map, reverse, length, take, drop, get_or, slice_get, Option, Some, None, IsSomeAnd, Contains, ◌↔◌, ⊤}
 use Rattle.flat_core.specs.declared.step.Step.{Step}
 use Rattle.flat_core.specs.declared.step.Step.TheVariants.{X, H, P, M}
 use Rattle.flat_core.specs.declared.step.WireId.{WireId}
@@ -102,6 +102,10 @@ pub record IsWhole (f : FlatForm) (vertices : List Vertex) (chains : List (List 
   pub numbered : (s : StepId) → s.number < length f.steps → IsVertexOf (bare vertices) (vertex_id s.number) (Forward s)
   pub as_many : length chains ≡ length f.wires
   pub each : (w : WireId) → w.number < length f.wires → AreVerticesOf (bare vertices) (ids_on chains w) (chain f w)
+
+-- an id is there and is that of a vertex, wherever all vertices and chains are
+abbrev pub IsIdOf : FlatForm → List (List VertexId) → Option VertexId → Vertex → Type 0
+IsIdOf f chains id v = (vertices : List Vertex) → IsWhole f vertices chains → IsSomeAnd id (λ i. IsVertexOf (bare vertices) i v)
 
 -- the edges of a user at a slot of a chain: from the vertex just before the slot, and to the vertex at it
 abbrev pub next_arrows : VertexId → Option VertexId → List Arrow

@@ -2,5 +2,7 @@
 //! The circuit graph of a flat form.
 
 pub mod chain;
+pub mod edges;
+pub mod graph;
 pub mod uses;
 pub mod vertices;
