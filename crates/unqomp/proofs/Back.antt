@@ -107,7 +107,7 @@ module _ (f : FlatForm) (n : ℕ) (there : n < length f.steps) where
 pub back_start : (f : FlatForm) (g : Arena) (chains : List (List VertexId)) → IsForthStage f g chains (length f.steps) → IsBackStage f g chains (length f.steps)
 back_start f g chains st =
     stage_same f g chains (length f.steps) (length f.steps) (length f.steps + (length f.steps - length f.steps)) (IsForth f (length f.steps)) (IsBack f (length f.steps)) (forth f (length f.steps)) (λ w. forth f (length f.steps) w ++ back f (length f.steps) w) (omega arith) same
-      (λ x. sym (append-nil (forth f (length f.steps) x)) ∙ ap (λ (l : List Vertex). forth f (length f.steps) x ++ l) (sym (back_nothing f x))) st.stage
+    (λ x. sym (append-nil (forth f (length f.steps) x)) ∙ ap (λ (l : List Vertex). forth f (length f.steps) x ++ l) (sym (back_nothing f x))) st.stage
   where
     same : (v : Vertex) → IsForth f (length f.steps) v ↔ IsBack f (length f.steps) v
     same (Forward s) = (λ l. l, λ l. l)
@@ -124,7 +124,7 @@ module _ (f : FlatForm) (g : Arena) (chains : List (List VertexId)) (n : ℕ) (s
   pub back_linked : IsArena g → (w : WireId) → w.number < length f.wires → undone f (step_id n) ≡ true → target_of (step_at f (step_id n)) ≡ Some w → IsBackStage f (linked g (ids_on chains w) (Reverse (step_id n))) (slice_set chains w.number (ids_on chains w ++ vertex_id (length g.vertices) ∷ [])) n
   back_linked ok w inside u e =
       stage_same f (linked g (ids_on chains w) (Reverse (step_id n))) (slice_set chains w.number (ids_on chains w ++ vertex_id (length g.vertices) ∷ [])) (length f.steps) (length f.steps + (length f.steps - (n + 1)) + 1) (length f.steps + (length f.steps - n)) (λ v. IsBack f (n + 1) v ⊎ (Reverse (step_id n) ≡ v)) (IsBack f n) (λ x. cond (same_wire w x) ((forth f (length f.steps) x ++ back f (n + 1) x) ++ Reverse (step_id n) ∷ []) (forth f (length f.steps) x ++ back f (n + 1) x)) (λ x. forth f (length f.steps) x ++ back f n x) (omega arith) (back_one f n there u) (λ x. back_with f n there w u e (forth f (length f.steps) x) x)
-        (stage_more f g chains (length f.steps) (length f.steps + (length f.steps - (n + 1))) (IsBack f (n + 1)) (λ x. forth f (length f.steps) x ++ back f (n + 1) x) ok st (Reverse (step_id n)) fresh_one w inside)
+      (stage_more f g chains (length f.steps) (length f.steps + (length f.steps - (n + 1))) (IsBack f (n + 1)) (λ x. forth f (length f.steps) x ++ back f (n + 1) x) ok st (Reverse (step_id n)) fresh_one w inside)
 
   pub back_left : KeepsEnds f → undone f (step_id n) ≡ false → IsBackStage f g chains n
   back_left ok u =

@@ -35,7 +35,7 @@ steps_on_from-push : (m : ℕ) (steps : List Step) (s : Step) (w : WireId) → s
 steps_on_from-push m [] s w = ap (λ (n : ℕ). cond (changes w s) (step_id n ∷ []) []) (sym (add-zero m))
 steps_on_from-push m (a ∷ steps) s w =
     let next : steps_on_from (suc m) (steps ++ s ∷ []) w ≡ steps_on_from (suc m) steps w ++ cond (changes w s) (step_id (m + suc (length steps)) ∷ []) [] =
-      steps_on_from-push (suc m) steps s w ∙ ap (λ (n : ℕ). steps_on_from (suc m) steps w ++ cond (changes w s) (step_id n ∷ []) []) (suc-add m (length steps) ∙ sym (add-suc m (length steps))) in
+    steps_on_from-push (suc m) steps s w ∙ ap (λ (n : ℕ). steps_on_from (suc m) steps w ++ cond (changes w s) (step_id n ∷ []) []) (suc-add m (length steps) ∙ sym (add-suc m (length steps))) in
     go (changes w a) (steps_on_from (suc m) (steps ++ s ∷ []) w) (steps_on_from (suc m) steps w) (cond (changes w s) (step_id (m + suc (length steps)) ∷ []) []) next
   where
     go : (b : Bool) (all front back : List StepId) → all ≡ front ++ back → cond b (step_id m ∷ all) all ≡ cond b (step_id m ∷ front) front ++ back
@@ -99,9 +99,9 @@ module _ (f : FlatForm) (g : Arena) (chains : List (List VertexId)) (n : ℕ) (o
   number_more h keep new s l = elim (cases_lt s.number n) [
     | inl a ↦ keep (vertex_id s.number) (Forward s) (st.stage.numbered s a)
     | inr b ↦
-      let same : length g.vertices ≡ s.number = (let e = st.exactly in omega arith) in
-      let id : n ≡ s.number = omega arith in
-      ap (λ (k : ℕ). slice_get h.vertices k) (sym same) ∙ new ∙ ap (λ (k : ℕ). Some (Forward (step_id k))) id
+        let same : length g.vertices ≡ s.number = (let e = st.exactly in omega arith) in
+        let id : n ≡ s.number = omega arith in
+        ap (λ (k : ℕ). slice_get h.vertices k) (sym same) ∙ new ∙ ap (λ (k : ℕ). Some (Forward (step_id k))) id
   ]
 
   pub forth_linked : (w : WireId) → w.number < length f.wires → target_of (step_at f (step_id n)) ≡ Some w → IsForthStage f (linked g (ids_on chains w) (Forward (step_id n))) (slice_set chains w.number (ids_on chains w ++ vertex_id (length g.vertices) ∷ [])) (n + 1)
@@ -110,9 +110,9 @@ module _ (f : FlatForm) (g : Arena) (chains : List (List VertexId)) (n : ℕ) (o
       let so = st.exactly in
       record {
         stage = number (n + 1) (linked g (ids_on chains w) (Forward (step_id n))) (slice_set chains w.number (ids_on chains w ++ vertex_id (length g.vertices) ∷ []))
-          (stage_same f (linked g (ids_on chains w) (Forward (step_id n))) (slice_set chains w.number (ids_on chains w ++ vertex_id (length g.vertices) ∷ [])) n (n + 1) (n + 1) (λ x. IsForth f n x ⊎ (Forward (step_id n) ≡ x)) (IsForth f (n + 1)) (λ x. cond (same_wire w x) (forth f n x ++ Forward (step_id n) ∷ []) (forth f n x)) (forth f (n + 1)) (omega arith) (forth_one f n) (forth_with f n there w e)
+            (stage_same f (linked g (ids_on chains w) (Forward (step_id n))) (slice_set chains w.number (ids_on chains w ++ vertex_id (length g.vertices) ∷ [])) n (n + 1) (n + 1) (λ x. IsForth f n x ⊎ (Forward (step_id n) ≡ x)) (IsForth f (n + 1)) (λ x. cond (same_wire w x) (forth f n x ++ Forward (step_id n) ∷ []) (forth f n x)) (forth f (n + 1)) (omega arith) (forth_one f n) (forth_with f n there w e)
             (stage_more f g chains n n (IsForth f n) (forth f n) ok st.stage (Forward (step_id n)) fresh_one w inside))
-          (number_more (linked g (ids_on chains w) (Forward (step_id n))) (vertex_kept g (Forward (step_id n))) (vertex_new g (Forward (step_id n))));
+            (number_more (linked g (ids_on chains w) (Forward (step_id n))) (vertex_kept g (Forward (step_id n))) (vertex_new g (Forward (step_id n))));
         exactly = omega arith;
       }
 
@@ -122,8 +122,8 @@ module _ (f : FlatForm) (g : Arena) (chains : List (List VertexId)) (n : ℕ) (o
       let so = st.exactly in
       record {
         stage = number (n + 1) (with_vertex g (Forward (step_id n))) chains
-          (stage_same f (with_vertex g (Forward (step_id n))) chains n (n + 1) (n + 1) (λ x. IsForth f n x ⊎ (Forward (step_id n) ≡ x)) (IsForth f (n + 1)) (forth f n) (forth f (n + 1)) (omega arith) (forth_one f n) (forth_without f n there e)
+            (stage_same f (with_vertex g (Forward (step_id n))) chains n (n + 1) (n + 1) (λ x. IsForth f n x ⊎ (Forward (step_id n) ≡ x)) (IsForth f (n + 1)) (forth f n) (forth f (n + 1)) (omega arith) (forth_one f n) (forth_without f n there e)
             (stage_lone f g chains n n (IsForth f n) (forth f n) ok st.stage (Forward (step_id n)) fresh_one))
-          (number_more (with_vertex g (Forward (step_id n))) (vertex_kept g (Forward (step_id n))) (vertex_new g (Forward (step_id n))));
+            (number_more (with_vertex g (Forward (step_id n))) (vertex_kept g (Forward (step_id n))) (vertex_new g (Forward (step_id n))));
         exactly = omega arith;
       }

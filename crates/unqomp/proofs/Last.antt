@@ -54,21 +54,21 @@ module _ (f : FlatForm) (n : ℕ) where
   pub last_with : freed f w ≡ true → (front back : List Vertex) (x : WireId) → cond (same_wire w x) ((front ++ (back ++ last f n x)) ++ Free w ∷ []) (front ++ (back ++ last f n x)) ≡ front ++ (back ++ last f (n + 1) x)
   last_with e front back x = elim (cases_eq x.number n) [
     | inl s ↦
-      let same : w ≡ x = ap wire_id (sym s) in
-      subst (λ (y : WireId). cond (same_wire w y) ((front ++ (back ++ last f n y)) ++ Free w ∷ []) (front ++ (back ++ last f n y)) ≡ front ++ (back ++ last f (n + 1) y)) same
+        let same : w ≡ x = ap wire_id (sym s) in
+        subst (λ (y : WireId). cond (same_wire w y) ((front ++ (back ++ last f n y)) ++ Free w ∷ []) (front ++ (back ++ last f n y)) ≡ front ++ (back ++ last f (n + 1) y)) same
         (ap (λ (b : Bool). cond b ((front ++ (back ++ last f n w)) ++ Free w ∷ []) (front ++ (back ++ last f n w))) (same_wire-refl w)
-          ∙ append_assoc front (back ++ last f n w) (Free w ∷ [])
-          ∙ ap (λ (l : List Vertex). front ++ l) (append_assoc back (last f n w) (Free w ∷ []) ∙ ap (λ (l : List Vertex). back ++ l) (sym (last_freed e))))
+        ∙ append_assoc front (back ++ last f n w) (Free w ∷ [])
+        ∙ ap (λ (l : List Vertex). front ++ l) (append_assoc back (last f n w) (Free w ∷ []) ∙ ap (λ (l : List Vertex). back ++ l) (sym (last_freed e))))
     | inr d ↦
-      ap (λ (b : Bool). cond b ((front ++ (back ++ last f n x)) ++ Free w ∷ []) (front ++ (back ++ last f n x))) (ne_eqb n x.number (λ s. d (sym s)))
-      ∙ ap (λ (l : List Vertex). front ++ (back ++ l)) (last_other x d)
+        ap (λ (b : Bool). cond b ((front ++ (back ++ last f n x)) ++ Free w ∷ []) (front ++ (back ++ last f n x))) (ne_eqb n x.number (λ s. d (sym s)))
+        ∙ ap (λ (l : List Vertex). front ++ (back ++ l)) (last_other x d)
   ]
 
   pub last_without : freed f w ≡ false → (x : WireId) → last f n x ≡ last f (n + 1) x
   last_without e x = elim (cases_eq x.number n) [
     | inl s ↦
-      let off : freed f x ≡ false = ap (λ (k : ℕ). freed f (wire_id k)) s ∙ e in
-      ap (λ (b : Bool). cond (b && ltb x.number n) (Free x ∷ []) []) off ∙ ap (λ (b : Bool). cond (b && ltb x.number (n + 1)) (Free x ∷ []) []) (sym off)
+        let off : freed f x ≡ false = ap (λ (k : ℕ). freed f (wire_id k)) s ∙ e in
+        ap (λ (b : Bool). cond (b && ltb x.number n) (Free x ∷ []) []) off ∙ ap (λ (b : Bool). cond (b && ltb x.number (n + 1)) (Free x ∷ []) []) (sym off)
     | inr d ↦ last_other x d
   ]
 
@@ -103,7 +103,7 @@ module _ (f : FlatForm) (g : Arena) (chains : List (List VertexId)) where
   pub last_start : IsBackStage f g chains 0 → IsLastStage f g chains 0
   last_start st =
       stage_same f g chains (length f.steps) (length f.steps + (length f.steps - 0)) (length f.steps + length f.steps + 0) (IsBack f 0) (IsLast f 0) (λ w. forth f (length f.steps) w ++ back f 0 w) (λ w. forth f (length f.steps) w ++ (back f 0 w ++ last f 0 w)) (omega arith) same
-        (λ x. ap (λ (l : List Vertex). forth f (length f.steps) x ++ l) (sym (append-nil (back f 0 x)) ∙ ap (λ (l : List Vertex). back f 0 x ++ l) (sym (nothing x)))) st
+      (λ x. ap (λ (l : List Vertex). forth f (length f.steps) x ++ l) (sym (append-nil (back f 0 x)) ∙ ap (λ (l : List Vertex). back f 0 x ++ l) (sym (nothing x)))) st
     where
       nothing : (x : WireId) → last f 0 x ≡ []
       nothing x = ap (λ (b : Bool). cond (freed f x && b) (Free x ∷ []) []) (le-ltb x.number 0 (omega arith)) ∙ ap (λ (b : Bool). cond b (Free x ∷ []) []) (and-false (freed f x))
@@ -123,7 +123,7 @@ module _ (f : FlatForm) (g : Arena) (chains : List (List VertexId)) where
     pub last_linked : IsArena g → n < length f.wires → freed f (wire_id n) ≡ true → IsLastStage f (linked g (ids_on chains (wire_id n)) (Free (wire_id n))) (slice_set chains n (ids_on chains (wire_id n) ++ vertex_id (length g.vertices) ∷ [])) (n + 1)
     last_linked ok inside e =
         stage_same f (linked g (ids_on chains (wire_id n)) (Free (wire_id n))) (slice_set chains n (ids_on chains (wire_id n) ++ vertex_id (length g.vertices) ∷ [])) (length f.steps) (length f.steps + length f.steps + n + 1) (length f.steps + length f.steps + (n + 1)) (λ v. IsLast f n v ⊎ (Free (wire_id n) ≡ v)) (IsLast f (n + 1)) (λ x. cond (same_wire (wire_id n) x) ((forth f (length f.steps) x ++ (back f 0 x ++ last f n x)) ++ Free (wire_id n) ∷ []) (forth f (length f.steps) x ++ (back f 0 x ++ last f n x))) (λ x. forth f (length f.steps) x ++ (back f 0 x ++ last f (n + 1) x)) (omega arith) (last_one f n e) (λ x. last_with f n e (forth f (length f.steps) x) (back f 0 x) x)
-          (stage_more f g chains (length f.steps) (length f.steps + length f.steps + n) (IsLast f n) (λ x. forth f (length f.steps) x ++ (back f 0 x ++ last f n x)) ok st (Free (wire_id n)) fresh_one (wire_id n) inside)
+        (stage_more f g chains (length f.steps) (length f.steps + length f.steps + n) (IsLast f n) (λ x. forth f (length f.steps) x ++ (back f 0 x ++ last f n x)) ok st (Free (wire_id n)) fresh_one (wire_id n) inside)
 
     pub last_left : freed f (wire_id n) ≡ false → IsLastStage f g chains (n + 1)
     last_left e =

@@ -8,3 +8,4 @@ pub mod UseLists
 pub mod Links
 pub mod UserIds
 pub mod UseLoop
+pub mod GraphMade

@@ -186,13 +186,12 @@ module _ (f : FlatForm) (g : Arena) (chains : List (List VertexId)) (forwards mo
         let long = length-ids g (ids_on chains w) (on w) (st.each w there) in
         let within : length (ids_on chains w) - 1 < length (on w) = slice_get_within (on w) (length (ids_on chains w) - 1) last.0 last.1 in
         let next : suc (length (ids_on chains w) - 1) ≡ length (on w) = omega arith in
-        subst (λ (z : EdgeKind). IsAlong (on_more on w v) z a b) (ap (λ (x : Arrow). x.kind) same ∙ k)
-          (
-            w,
-            length (ids_on chains w) - 1,
-            old_place on w v w (length (ids_on chains w) - 1) a (last.1 ∙ ap (λ (x : Vertex). Some x) (sym a_is)),
-            ap (λ (n : ℕ). slice_get (on_more on w v w) n) next ∙ new_place on w v ∙ ap (λ (x : Vertex). Some x) b_is,
-          )
+        subst (λ (z : EdgeKind). IsAlong (on_more on w v) z a b) (ap (λ (x : Arrow). x.kind) same ∙ k) (
+          w,
+          length (ids_on chains w) - 1,
+          old_place on w v w (length (ids_on chains w) - 1) a (last.1 ∙ ap (λ (x : Vertex). Some x) (sym a_is)),
+          ap (λ (n : ℕ). slice_get (on_more on w v w) n) next ∙ new_place on w v ∙ ap (λ (x : Vertex). Some x) b_is,
+        )
 
     -- an edge along the new chains is there
     along_target : (a b : Vertex) → IsAlong (on_more on w v) Target a b → HasArrowOf (linked g (ids_on chains w) v) Target a b
@@ -247,18 +246,18 @@ module _ (f : FlatForm) (g : Arena) (chains : List (List VertexId)) (forwards mo
         let as_many = st.as_many in
         elim (cases_eq x.number w.number) [
           | inl e ↦
-            let same : w ≡ x = ap wire_id (sym e) in
-            let new : AreVerticesOf (linked g (ids_on chains w) v) (ids_on chains w ++ new_id ∷ []) (on_more on w v w) =
+              let same : w ≡ x = ap wire_id (sym e) in
+              let new : AreVerticesOf (linked g (ids_on chains w) v) (ids_on chains w ++ new_id ∷ []) (on_more on w v w) =
               subst (AreVerticesOf (linked g (ids_on chains w) v) (ids_on chains w ++ new_id ∷ [])) (sym (on_same on w v))
-                (ids_push (linked g (ids_on chains w) v) (ids_on chains w) (on w) new_id v (ids_kept g (linked g (ids_on chains w) v) (vertex_kept g v) (ids_on chains w) (on w) (st.each w there)) (vertex_new g v)) in
-            let read : get_or (slice_set chains w.number (ids_on chains w ++ new_id ∷ [])) w.number [] ≡ ids_on chains w ++ new_id ∷ [] = get_or-set_same chains w.number (ids_on chains w ++ new_id ∷ []) [] (omega arith) in
-            subst (λ (z : WireId). AreVerticesOf (linked g (ids_on chains w) v) (ids_on (slice_set chains w.number (ids_on chains w ++ new_id ∷ [])) z) (on_more on w v z)) same
+              (ids_push (linked g (ids_on chains w) v) (ids_on chains w) (on w) new_id v (ids_kept g (linked g (ids_on chains w) v) (vertex_kept g v) (ids_on chains w) (on w) (st.each w there)) (vertex_new g v)) in
+              let read : get_or (slice_set chains w.number (ids_on chains w ++ new_id ∷ [])) w.number [] ≡ ids_on chains w ++ new_id ∷ [] = get_or-set_same chains w.number (ids_on chains w ++ new_id ∷ []) [] (omega arith) in
+              subst (λ (z : WireId). AreVerticesOf (linked g (ids_on chains w) v) (ids_on (slice_set chains w.number (ids_on chains w ++ new_id ∷ [])) z) (on_more on w v z)) same
               (subst (λ (l : List VertexId). AreVerticesOf (linked g (ids_on chains w) v) l (on_more on w v w)) (sym read) new)
           | inr d ↦
-            let other : on_more on w v x ≡ on x = on_other on w v x (ne_eqb w.number x.number (λ e. d (sym e))) in
-            let read : get_or (slice_set chains w.number (ids_on chains w ++ new_id ∷ [])) x.number [] ≡ ids_on chains x = get_or-set_other chains w.number x.number (ids_on chains w ++ new_id ∷ []) [] d in
-            let old : AreVerticesOf (linked g (ids_on chains w) v) (ids_on chains x) (on x) = ids_kept g (linked g (ids_on chains w) v) (vertex_kept g v) (ids_on chains x) (on x) (st.each x h) in
-            subst (AreVerticesOf (linked g (ids_on chains w) v) (ids_on (slice_set chains w.number (ids_on chains w ++ new_id ∷ [])) x)) (sym other)
+              let other : on_more on w v x ≡ on x = on_other on w v x (ne_eqb w.number x.number (λ e. d (sym e))) in
+              let read : get_or (slice_set chains w.number (ids_on chains w ++ new_id ∷ [])) x.number [] ≡ ids_on chains x = get_or-set_other chains w.number x.number (ids_on chains w ++ new_id ∷ []) [] d in
+              let old : AreVerticesOf (linked g (ids_on chains w) v) (ids_on chains x) (on x) = ids_kept g (linked g (ids_on chains w) v) (vertex_kept g v) (ids_on chains x) (on x) (st.each x h) in
+              subst (AreVerticesOf (linked g (ids_on chains w) v) (ids_on (slice_set chains w.number (ids_on chains w ++ new_id ∷ [])) x)) (sym other)
               (subst (λ (l : List VertexId). AreVerticesOf (linked g (ids_on chains w) v) l (on x)) (sym read) old)
         ]
 

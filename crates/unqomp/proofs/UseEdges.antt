@@ -86,7 +86,7 @@ module _ (ids : List VertexId) (user : VertexId) where
       let within : suc j < length ids = slice_get_within ids (suc j) next at in
       let holder = some_at ids j (omega arith) in
       subst (λ (o : Option VertexId). Contains (held_arrows o user (slice_get ids (suc j))) (availability user next)) (sym holder.1)
-        (subst (λ (o : Option VertexId). Contains (use_arrows holder.0 user o) (availability user next)) (sym at) (1, omega arith, refl))
+      (subst (λ (o : Option VertexId). Contains (use_arrows holder.0 user o) (availability user next)) (sym at) (1, omega arith, refl))
 
 -- the same, for a slot that is told to be behind the first place
 pub behind_slot : (ids : List VertexId) (user : VertexId) (k : ℕ) → (k ≡ 0 → ⊥) → (holder : VertexId) → slice_get ids (k - 1) ≡ Some holder → Contains (slot_arrows ids user k) (control holder user)
@@ -158,15 +158,15 @@ module _ (f : FlatForm) (keeps : KeepsEnds f) (g : Arena) (ok : IsArena g) (chai
       let a_is : v.0 ≡ a = same_Some v.0 a (sym v.2 ∙ p) in
       let b_is : u ≡ b = same_Some u b (sym is_user ∙ q) in
       subst (λ (z : EdgeKind). SlotEdge f (InUses all) z a b) k
-        (subst (λ (z : Vertex). SlotEdge f (InUses all) Control z b) a_is
-          (subst (SlotEdge f (InUses all) Control v.0) b_is (from_before {u = u} {w = w} {i = i} (Contains-push done it) j is v.1)))
+      (subst (λ (z : Vertex). SlotEdge f (InUses all) Control z b) a_is
+      (subst (SlotEdge f (InUses all) Control v.0) b_is (from_before {u = u} {w = w} {i = i} (Contains-push done it) j is v.1)))
   new_edge kind a b e (ahead next at) k p q =
       let v = vertex_on (slot f u w i) next at in
       let a_is : u ≡ a = same_Some u a (sym is_user ∙ p) in
       let b_is : v.0 ≡ b = same_Some v.0 b (sym v.2 ∙ q) in
       subst (λ (z : EdgeKind). SlotEdge f (InUses all) z a b) k
-        (subst (λ (z : Vertex). SlotEdge f (InUses all) Availability z b) a_is
-          (subst (SlotEdge f (InUses all) Availability u) b_is (to_after {u = u} {w = w} {i = i} (Contains-push done it) v.1)))
+      (subst (λ (z : Vertex). SlotEdge f (InUses all) Availability z b) a_is
+      (subst (SlotEdge f (InUses all) Availability u) b_is (to_after {u = u} {w = w} {i = i} (Contains-push done it) v.1)))
 
   old : (kind : EdgeKind) (a b : Vertex) → SlotEdge f (InUses done) kind a b → HasArrowOf (with_arrows g more) kind a b
   old kind a b s =
@@ -191,19 +191,19 @@ module _ (f : FlatForm) (keeps : KeepsEnds f) (g : Arena) (ok : IsArena g) (chai
   back kind h v (from_before {w = x} {i = l} n j e p) = elim (Contains-push_cases done it (record { user = v; wire = x; label = l }) n) [
     | inl c ↦ old Control h v (from_before c j e p)
     | inr s ↦
-      let wire : w ≡ x = ap (λ (y : Use). y.wire) s in
-      let label : i ≡ l = ap (λ (y : Use). y.label) s in
-      let who : u ≡ v = ap (λ (y : Use). y.user) s in
-      let at : slice_get (chain f w) j ≡ Some h = ap (λ (y : WireId). slice_get (chain f y) j) wire ∙ p in
-      let is : slot f u w i ≡ suc j = ap (λ (y : Use). slot f y.user y.wire y.label) s ∙ e in
-      subst (HasArrowOf (with_arrows g more) Control h) who (new_control h j is at)
+        let wire : w ≡ x = ap (λ (y : Use). y.wire) s in
+        let label : i ≡ l = ap (λ (y : Use). y.label) s in
+        let who : u ≡ v = ap (λ (y : Use). y.user) s in
+        let at : slice_get (chain f w) j ≡ Some h = ap (λ (y : WireId). slice_get (chain f y) j) wire ∙ p in
+        let is : slot f u w i ≡ suc j = ap (λ (y : Use). slot f y.user y.wire y.label) s ∙ e in
+        subst (HasArrowOf (with_arrows g more) Control h) who (new_control h j is at)
   ]
   back kind v y (to_after {w = x} {i = l} n p) = elim (Contains-push_cases done it (record { user = v; wire = x; label = l }) n) [
     | inl c ↦ old Availability v y (to_after c p)
     | inr s ↦
-      let who : u ≡ v = ap (λ (z : Use). z.user) s in
-      let at : slice_get (chain f w) (slot f u w i) ≡ Some y = ap (λ (z : Use). slice_get (chain f z.wire) (slot f z.user z.wire z.label)) s ∙ p in
-      subst (λ (z : Vertex). HasArrowOf (with_arrows g more) Availability z y) who (new_availability y at)
+        let who : u ≡ v = ap (λ (z : Use). z.user) s in
+        let at : slice_get (chain f w) (slot f u w i) ≡ Some y = ap (λ (z : Use). slice_get (chain f z.wire) (slot f z.user z.wire z.label)) s ∙ p in
+        subst (λ (z : Vertex). HasArrowOf (with_arrows g more) Availability z y) who (new_availability y at)
   ]
 
   pub use_edges : HasEdges (with_arrows g more) (SlotEdge f (InUses all))

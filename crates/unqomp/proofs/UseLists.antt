@@ -57,7 +57,7 @@ module _ (f : FlatForm) (s : StepId) (there : s.number < length f.steps) where
   at_reverse : (w : WireId) → undone f s ≡ true → Contains (used (step_at f s)) w → InUses (uses_at f s) (Reverse s) w (label_before f s w)
   at_reverse w u c =
       Contains-append_right (uses_by f (Forward s) s) (cond (undone f s) (uses_by f (Reverse s) s) []) (record { user = Reverse s; wire = w; label = label_before f s w })
-        (subst (λ (b : Bool). Contains (cond b (uses_by f (Reverse s) s) []) (record { user = Reverse s; wire = w; label = label_before f s w })) (sym u) (of_wire f (Reverse s) s w c))
+      (subst (λ (b : Bool). Contains (cond b (uses_by f (Reverse s) s) []) (record { user = Reverse s; wire = w; label = label_before f s w })) (sym u) (of_wire f (Reverse s) s w c))
 
 pub before_sound : (f : FlatForm) (n : ℕ) → n ≤ length f.steps → (x : Use) → Contains (uses_before f n) x → IsUse f x
 before_sound f zero l x c = absurd (contains_nil x c)
@@ -72,8 +72,8 @@ before_at f zero s x l c = absurd (omega arith)
 before_at f (suc n) s x l c = elim (cases_lt s.number n) [
   | inl a ↦ Contains-append_left (uses_before f n) (uses_at f (step_id n)) x (before_at f n s x a c)
   | inr b ↦
-    let same : s.number ≡ n = omega arith in
-    Contains-append_right (uses_before f n) (uses_at f (step_id n)) x (subst (λ (k : ℕ). Contains (uses_at f (step_id k)) x) same c)
+      let same : s.number ≡ n = omega arith in
+      Contains-append_right (uses_before f n) (uses_at f (step_id n)) x (subst (λ (k : ℕ). Contains (uses_at f (step_id k)) x) same c)
 ]
 
 pub before_whole : (f : FlatForm) (u : Vertex) (w : WireId) (i : ℕ) → Uses f u w i → InUses (uses_before f (length f.steps)) u w i

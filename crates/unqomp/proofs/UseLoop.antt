@@ -60,9 +60,9 @@ slot_within f u w i (undoing {s = s} h n c) =
     let l = label_before f s w in
     elim (cases_Bool (dropped f w && ltb l (top f w))) [
       | inl e ↦
-        let d = (and_parts (dropped f w) (ltb l (top f w)) e).0 in
-        let long : length (chain f w) ≡ top f w + (cond true (top f w) 0 + cond (freed f w) 1 0) = length-chain f w ∙ ap (λ (b : Bool). top f w + (cond b (top f w) 0 + cond (freed f w) 1 0)) d in
-        rw e (omega arith)
+          let d = (and_parts (dropped f w) (ltb l (top f w)) e).0 in
+          let long : length (chain f w) ≡ top f w + (cond true (top f w) 0 + cond (freed f w) 1 0) = length-chain f w ∙ ap (λ (b : Bool). top f w + (cond b (top f w) 0 + cond (freed f w) 1 0)) d in
+          rw e (omega arith)
       | inr e ↦ rw e (low_slot f w l (label_before-le-top f s w))
     ]
 
@@ -122,4 +122,4 @@ module _ (f : FlatForm) (sound : IsFlat f) (uses : List Use) (all : uses ≡ use
         let new = use_edges f (keeps_ends f sound) g ok chains whole (take k uses) so_far x.user x.wire x.label wire_there fresh user is_user in
         let one : HasEdges (with_arrows g (slot_arrows (ids_on chains x.wire) user (slot f x.user x.wire x.label))) (SlotEdge f (InUses (take (k + 1) uses))) = subst (λ (l : List Use). HasEdges (with_arrows g (slot_arrows (ids_on chains x.wire) user (slot f x.user x.wire x.label))) (SlotEdge f (InUses l))) (sym (take_more uses k d below)) new in
         subst (λ (l : List VertexId). HasEdges (with_arrows g (slot_arrows l user place)) (SlotEdge f (InUses (take (k + 1) uses)))) (sym i)
-          (subst (λ (n : ℕ). HasEdges (with_arrows g (slot_arrows (ids_on chains x.wire) user n)) (SlotEdge f (InUses (take (k + 1) uses)))) (sym p) one)
+        (subst (λ (n : ℕ). HasEdges (with_arrows g (slot_arrows (ids_on chains x.wire) user n)) (SlotEdge f (InUses (take (k + 1) uses)))) (sym p) one)

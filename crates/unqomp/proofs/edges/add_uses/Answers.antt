@@ -102,7 +102,7 @@ loop-u-preserved c =
     record {
       same = ap (λ (h : Arena). h.vertices) c.in_ok-add_at.ensures ∙ c.loop-u.invariant.same;
       edges = subst (λ (h : Arena). HasEdges h (SlotEdge f (InUses (take (k + 1) uses)))) (sym c.in_ok-add_at.ensures)
-        (turn_edges f c.requires.sound uses c.requires.all k no_use below g c.len-count.ensures.sound chains whole c.loop-u.invariant.edges c.unwrap-user.result is_user c.index-chains-u.result c.slot_of-slot.result ids c.slot_of-slot.ensures);
+          (turn_edges f c.requires.sound uses c.requires.all k no_use below g c.len-count.ensures.sound chains whole c.loop-u.invariant.edges c.unwrap-user.result is_user c.index-chains-u.result c.slot_of-slot.result ids c.slot_of-slot.ensures);
       few = subst (λ (h : Arena). length h.arrows ≤ 500000 + 2 * (k + 1)) (sym c.in_ok-add_at.ensures) (omega arith);
     }
 

@@ -8,5 +8,5 @@ abbrev pub invariant-loop-u : goal.invariant-loop-u
 invariant-loop-u l = record {
   same : l.graph.vertices ≡ l.initial.graph.vertices;
   edges : HasEdges l.graph (SlotEdge l.flat (InUses (take l.u-index l.uses)));
-  few : length l.graph.arrows ≤ 500000 + 2 * l.u-index
+  few : length l.graph.arrows ≤ 500000 + 2 * l.u-index;
 }

@@ -29,7 +29,7 @@ returns-in_ok-add c =
     let freed_one : freed f c.args.w ≡ true = ap is_freed (sym c.end.ensures) ∙ sym c.is_freed.ensures ∙ c.if-is_freed.true in
     rw (c.in_ok-add.ensures.graph, c.in_ok-add.ensures.chain)
     (subst (λ (ids : List VertexId). IsLastStage f (linked g ids (Free c.args.w)) (slice_set chains c.args.w.number (ids ++ vertex_id (length g.vertices) ∷ [])) (c.args.w.number + 1)) (sym read)
-      (last_linked f g chains c.args.w.number c.requires.stage c.len-count.ensures.sound c.requires.there freed_one))
+    (last_linked f g chains c.args.w.number c.requires.stage c.len-count.ensures.sound c.requires.there freed_one))
 
 pub returns-else-is_freed : goal.returns-else-is_freed
 returns-else-is_freed c = last_left c.args.flat.now c.args.graph.now c.args.chains.now.items c.args.w.number c.requires.stage (ap is_freed (sym c.end.ensures) ∙ sym c.is_freed.ensures ∙ c.if-is_freed.false)

@@ -40,4 +40,4 @@ returns-in_ok-add-in-Some c =
     let read = read_chain chains c.in-Some.w c.index_mut-chain.result.now (omega arith) c.index_mut-chain.ensures.value in
     rw (c.in_ok-add-in-Some.ensures.graph, c.in_ok-add-in-Some.ensures.chain)
     (subst (λ (ids : List VertexId). IsForthStage f (linked g ids (Forward c.args.s)) (slice_set chains c.in-Some.w.number (ids ++ vertex_id (length g.vertices) ∷ [])) (c.args.s.number + 1)) (sym read)
-      (forth_linked f g chains c.args.s.number c.len-count.ensures.sound c.requires.stage c.requires.there c.in-Some.w there target))
+    (forth_linked f g chains c.args.s.number c.len-count.ensures.sound c.requires.stage c.requires.there c.in-Some.w there target))

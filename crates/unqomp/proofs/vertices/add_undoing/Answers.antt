@@ -34,4 +34,4 @@ returns-in_ok-add-in-Some c =
     let read = read_chain chains c.in-Some.w c.index_mut-chain.result.now (omega arith) c.index_mut-chain.ensures.value in
     rw (c.in_ok-add-in-Some.ensures.graph, c.in_ok-add-in-Some.ensures.chain)
     (subst (λ (ids : List VertexId). IsBackStage f (linked g ids (Reverse c.args.s)) (slice_set chains c.in-Some.w.number (ids ++ vertex_id (length g.vertices) ∷ [])) c.args.s.number) (sym read)
-      (back_linked f g chains c.args.s.number c.requires.stage c.requires.there c.len-count.ensures.sound c.in-Some.w there c.in-Some.ensures.0 c.in-Some.ensures.1))
+    (back_linked f g chains c.args.s.number c.requires.stage c.requires.there c.len-count.ensures.sound c.in-Some.w there c.in-Some.ensures.0 c.in-Some.ensures.1))
