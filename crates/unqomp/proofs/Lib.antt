@@ -9,3 +9,5 @@ pub mod Links
 pub mod UserIds
 pub mod UseLoop
 pub mod GraphMade
+pub mod SameGraph
+pub mod Cycle

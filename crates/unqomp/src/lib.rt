@@ -1,8 +1,11 @@
 #![tactic(auto)]
 //! The circuit graph of a flat form.
 
-pub mod chain;
-pub mod edges;
+mod chain;
+mod edges;
 pub mod graph;
-pub mod uses;
-pub mod vertices;
+pub mod laws;
+mod uses;
+mod vertices;
+
+pub use graph::graph_of;
