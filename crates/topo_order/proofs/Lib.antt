@@ -1,0 +1,12 @@
+pub mod Orders
+pub mod Scan
+pub mod Best
+pub mod Going
+pub mod Counters
+pub mod Least
+pub mod Walking
+pub mod WayVertices
+pub mod Rings
+pub mod Given
+pub mod SameCycle
+pub mod Answered

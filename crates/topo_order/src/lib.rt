@@ -1,0 +1,11 @@
+#![tactic(auto)]
+//! Orders of a graph.
+
+pub mod laws;
+mod left;
+mod ready;
+mod ring;
+pub mod vertex_order;
+mod way;
+
+pub use vertex_order::{Cycle, OrderFault, VertexOrder, order};

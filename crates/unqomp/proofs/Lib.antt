@@ -1,0 +1,13 @@
+pub mod Ids
+pub mod Stages
+pub mod Forth
+pub mod Back
+pub mod Last
+pub mod UseEdges
+pub mod UseLists
+pub mod Links
+pub mod UserIds
+pub mod UseLoop
+pub mod GraphMade
+pub mod SameGraph
+pub mod Cycle

@@ -1,0 +1,5 @@
+pub mod GraphOf
+pub mod UseList
+pub mod Example
+pub mod Making
+pub mod Linking

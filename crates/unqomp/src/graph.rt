@@ -1,0 +1,26 @@
+//! The circuit graph of a flat form.
+
+ghost use Rattle.std.specs.Prelude.{IfOk};
+ghost use Rattle.unqomp.specs.GraphOf.{IsGraphOf};
+
+use crate::edges::add_uses;
+use crate::uses::uses_of;
+use crate::vertices::{add_freeings, add_steps, add_undoings, no_chains};
+use flat_core::Flat;
+use graph_core::Graph;
+use std::alloc::{AllocError, Global};
+
+/// The circuit graph of a flat form.
+pub fn graph_of(alloc: Global, flat: &Flat) -> Result<Graph, AllocError>
+    ensures { IfOk result (λ graph. IsGraphOf flat.now graph) }
+{
+    let _count = flat.steps();
+    let mut graph = Graph::new(alloc);
+    let mut chains = no_chains(alloc, flat.wires())?;
+    add_steps(flat, &mut graph, &mut chains)?;
+    add_undoings(flat, &mut graph, &mut chains)?;
+    add_freeings(flat, &mut graph, &mut chains)?;
+    let uses = uses_of(alloc, flat)?;
+    add_uses(flat, &mut graph, &chains, &uses)?;
+    Ok(graph)
+}

@@ -1,0 +1,11 @@
+#![tactic(auto)]
+//! The circuit graph of a flat form.
+
+mod chain;
+mod edges;
+pub mod graph;
+pub mod laws;
+mod uses;
+mod vertices;
+
+pub use graph::graph_of;
