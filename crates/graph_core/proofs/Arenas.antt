@@ -86,4 +86,4 @@ arena_use g holder user (Some next) ok free more room =
     let e : Arrow = availability user next in
     let longer = length-append g.arrows (d ∷ []) in
     subst (λ (l : List Arrow). IsArena (record { vertices = g.vertices; arrows = l })) (append_assoc g.arrows (d ∷ []) (e ∷ []))
-      (arena_edge (with_arrows g (d ∷ [])) e (arena_edge g d ok free (omega arith)) (free_beside g d e more (λ t. cc) (λ t. cc)) (omega arith))
+    (arena_edge (with_arrows g (d ∷ [])) e (arena_edge g d ok free (omega arith)) (free_beside g d e more (λ t. cc) (λ t. cc)) (omega arith))

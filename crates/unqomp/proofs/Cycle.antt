@@ -27,4 +27,3 @@ example_has_cycle = (
     ),
   ),
 )
-
