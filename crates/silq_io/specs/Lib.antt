@@ -4,3 +4,4 @@ pub mod Reads
 pub mod Names
 pub mod Memory
 pub mod Disk
+pub mod Sure

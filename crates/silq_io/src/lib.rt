@@ -8,6 +8,7 @@ pub mod files;
 pub mod limit;
 pub mod memory;
 pub mod sink;
+pub mod sure;
 pub mod words;
 
 pub use disk::{DiskFiles, StdSink};
@@ -16,4 +17,5 @@ pub use files::Files;
 pub use limit::{LimitFault, LimitKind, OverLimit};
 pub use memory::{MemFiles, MemSink};
 pub use sink::{Sink, put_all};
+pub use sure::{SureFiles, SureSink};
 pub use words::Words;

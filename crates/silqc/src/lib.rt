@@ -119,3 +119,6 @@ fn compile<F: Files, S: Sink>(
         },
     }
 }
+
+#[cfg(test)]
+mod tests;

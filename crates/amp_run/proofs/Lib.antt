@@ -1,0 +1,5 @@
+pub mod Halving
+pub mod Joining
+pub mod Begin
+pub mod Few
+pub mod Rows

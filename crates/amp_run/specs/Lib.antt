@@ -1,0 +1,4 @@
+pub mod Column
+pub mod Parts
+pub mod Room
+pub mod Refusal

@@ -1,0 +1,9 @@
+pub mod Characters
+pub mod Classes
+pub mod Runs
+pub mod Kinds
+pub mod Longest
+pub mod Tokens
+pub mod Laws
+pub mod Cursors
+pub mod Lexers

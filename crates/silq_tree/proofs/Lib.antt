@@ -1,0 +1,6 @@
+pub mod Growth
+pub mod Agreeing
+pub mod Arenas
+pub mod Interned
+pub mod Lists
+pub mod Rows

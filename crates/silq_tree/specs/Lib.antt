@@ -1,0 +1,5 @@
+pub mod Syntax
+pub mod Standing
+pub mod Children
+pub mod Arena
+pub mod Texts
