@@ -1,0 +1,157 @@
+//! The graph as an arena: its vertices and its edges in the order in which they were added.
+
+ghost use Rattle.std.specs.Prelude.{◌≡◌, ◌+◌, ◌-◌, ◌^◌, ◌<◌, [], ◌∷◌, ◌++◌, length, slice_get, Contains, true, false, IfOk, IfSome, OnErr};
+ghost use Rattle.std.specs.List.Sorted.{IsPermutation};
+ghost use Rattle.graph_core.specs.Arena.{IsArena, IsFreeFor, with_vertex, with_arrows, control, availability, use_arrows};
+ghost use Rattle.graph_core.specs.EdgesAt.{edges_at};
+
+use crate::edges::{Edges, edges_among};
+use crate::vertex::{EdgeKind, Vertex};
+use std::alloc::{AllocError, Global};
+use std::marker::Model;
+
+/// The number of a vertex.
+#[derive(Clone, Copy, Debug, PartialEq, Eq)]
+pub struct VertexId {
+    pub number: u32,
+}
+
+/// The number of an edge.
+#[derive(Clone, Copy, Debug, PartialEq, Eq)]
+pub struct EdgeId {
+    pub number: u32,
+}
+
+/// An edge by the ids of its ends.
+#[derive(Clone, Copy, Debug, PartialEq, Eq)]
+pub struct Arrow {
+    pub from: VertexId,
+    pub to: VertexId,
+    pub kind: EdgeKind,
+}
+
+/// A graph on vertices.
+#[derive(Drop)]
+pub struct Graph {
+    vertices: Vec<Vertex>,
+    arrows: Vec<Arrow>,
+}
+
+impl Model for Graph {
+    ghost use Rattle.graph_core.specs.Arena.{Arena, IsArena};
+
+    ghost Value = { Arena };
+
+    ghost view = { λ g. record { vertices = g.vertices.items; arrows = g.arrows.items } };
+
+    ghost invariant = { λ g. IsArena (record { vertices = g.vertices.items; arrows = g.arrows.items }) };
+}
+
+impl Graph {
+    /// A graph without vertices.
+    pub fn new(alloc: Global) -> Graph
+        ensures { result ≡ record { vertices = []; arrows = [] } }
+    {
+        Graph {
+            vertices: Vec::new(alloc),
+            arrows: Vec::new(alloc),
+        }
+    }
+
+    /// The number of vertices.
+    pub fn len(&self) -> usize
+        ensures count { result ≡ length self.now.vertices }
+        ensures sound { IsArena self.now }
+    {
+        self.vertices.len()
+    }
+
+    /// The vertex of an id.
+    pub fn vertex(&self, v: VertexId) -> Vertex
+        requires { v.number < length self.now.vertices }
+        ensures { slice_get self.now.vertices v.number ≡ Some result }
+    {
+        self.vertices[v.number as usize]
+    }
+
+    /// The edges that leave a vertex.
+    pub fn after(&self, v: VertexId) -> Edges<'_>
+        requires { v.number < length self.now.vertices }
+        ensures { IsPermutation (edges_at false v self.now.arrows) result }
+    {
+        edges_among(self.arrows.as_slice(), v, false)
+    }
+
+    /// The edges that enter a vertex.
+    pub fn before(&self, v: VertexId) -> Edges<'_>
+        requires { v.number < length self.now.vertices }
+        ensures { IsPermutation (edges_at true v self.now.arrows) result }
+    {
+        edges_among(self.arrows.as_slice(), v, true)
+    }
+
+    /// Adds a vertex, under the next id.
+    pub fn add_vertex(&mut self, v: Vertex) -> Result<VertexId, AllocError>
+        requires fresh { ¬ Contains self.old.vertices v }
+        requires room { length self.old.vertices + 1 < 2 ^ 32 }
+        ensures added { IfOk result (λ id. (id.number ≡ length self.old.vertices) × (self.new ≡ with_vertex self.old v)) }
+        ensures refused { OnErr result (self.new ≡ self.old) }
+    {
+        let number = self.vertices.len() as u32;
+        self.vertices.push(v)?;
+        Ok(VertexId { number })
+    }
+
+    /// Adds an edge, under the next id.
+    pub fn add_edge(
+        &mut self,
+        from: VertexId,
+        to: VertexId,
+        kind: EdgeKind,
+    ) -> Result<EdgeId, AllocError>
+        requires free { IsFreeFor self.old (record { from = from; to = to; kind = kind }) }
+        requires room { length self.old.arrows + 1 < 2 ^ 32 }
+        ensures added { IfOk result (λ id. (id.number ≡ length self.old.arrows) × (self.new ≡ with_arrows self.old (record { from = from; to = to; kind = kind } ∷ []))) }
+        ensures refused { OnErr result (self.new ≡ self.old) }
+    {
+        let number = self.arrows.len() as u32;
+        self.arrows.push(Arrow { from, to, kind })?;
+        Ok(EdgeId { number })
+    }
+
+    /// Adds the edges of a use: a Control edge from the holder to the user, whose id it gives, and after it an
+    /// Availability edge from the user to the next vertex, where there is one.
+    pub fn add_use(
+        &mut self,
+        holder: VertexId,
+        user: VertexId,
+        next: Option<VertexId>,
+    ) -> Result<EdgeId, AllocError>
+        requires free { IsFreeFor self.old (control holder user) }
+        requires next_free { IfSome next (λ next. IsFreeFor self.old (availability user next)) }
+        requires room { length self.old.arrows + 2 < 2 ^ 32 }
+        ensures added { IfOk result (λ id. (id.number ≡ length self.old.arrows) × (self.new ≡ with_arrows self.old (use_arrows holder user next))) }
+        ensures refused { OnErr result (self.new ≡ self.old) }
+    {
+        let number = self.arrows.len() as u32;
+        let control = Arrow {
+            from: holder,
+            to: user,
+            kind: EdgeKind::Control,
+        };
+        match next {
+            None => {
+                self.arrows.push(control)?;
+            }
+            Some(next) => {
+                let availability = Arrow {
+                    from: user,
+                    to: next,
+                    kind: EdgeKind::Availability,
+                };
+                self.arrows.extend_from_slice(&[control, availability])?;
+            }
+        }
+        Ok(EdgeId { number })
+    }
+}
