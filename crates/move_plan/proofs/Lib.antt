@@ -11,3 +11,4 @@ pub mod FormsAgree
 pub mod Tracks
 pub mod Counts
 pub mod Following
+pub mod OrdersAreValid

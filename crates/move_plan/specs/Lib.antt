@@ -4,3 +4,4 @@ pub mod Effect
 pub mod Live
 pub mod Laws
 pub mod Track
+pub mod AsMoves

@@ -1,6 +1,7 @@
 //! Laws of valid lists of moves, each a contract over the definitions alone.
 
 ghost use Rattle.move_plan.specs.Valid.{FormsAgree};
+ghost use Rattle.move_plan.specs.AsMoves.{OrdersAreValid};
 ghost use Rattle.move_plan.specs.Laws.{MovesGivePaths, MovesGiveAmplitudes, OthersAreZero, IdleAreZero};
 
 /// To be valid by the moves before each move, and by the progress so far, is one.
@@ -28,4 +29,9 @@ pub fn others_are_zero()
 /// After any moves that may come each wire that is not live is 0 in each term.
 pub fn idle_are_zero()
     ensures { IdleAreZero }
+{}
+
+/// Each linear order of the circuit graph of a flat form, read as moves, is valid.
+pub fn orders_are_valid()
+    ensures { OrdersAreValid }
 {}

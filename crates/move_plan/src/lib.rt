@@ -3,8 +3,10 @@
 
 pub mod laws;
 pub mod moves;
+pub mod orders;
 pub mod rows;
 mod track;
 
 pub use moves::{Move, MoveList, Plan};
+pub use orders::move_of;
 pub use rows::Rows;

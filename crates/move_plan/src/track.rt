@@ -282,9 +282,8 @@ impl Track {
     }
 }
 
-// Whether there is a step of this number that is undone again.
-fn is_undone(flat: &Flat, s: StepId) -> bool
-    requires { IsFlat flat.now }
+/// Whether there is a step of this number that is undone again.
+pub fn is_undone(flat: &Flat, s: StepId) -> bool
     ensures value { result ≡ undone flat.now s }
     ensures there { IsTrue result → s.number < length flat.now.steps }
 {
@@ -299,7 +298,6 @@ fn is_undone(flat: &Flat, s: StepId) -> bool
 
 // Whether there is a step of this number that is not undone again.
 fn lasts(flat: &Flat, s: StepId) -> bool
-    requires { IsFlat flat.now }
     ensures { IsTrue result ↔ (s.number < length flat.now.steps) × (undone flat.now s ≡ false) }
 {
     (s.number as usize) < flat.steps() && !is_undone(flat, s)
