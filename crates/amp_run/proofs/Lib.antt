@@ -3,3 +3,4 @@ pub mod Joining
 pub mod Begin
 pub mod Few
 pub mod Rows
+pub mod Taking

@@ -9,18 +9,20 @@ ghost use Rattle.amp_run.specs.Refusal.{fault_of};
 
 mod column;
 mod fault;
+mod ins;
 mod parts;
 mod run;
 mod start;
 
 pub use fault::RunFault;
 use gate_core::{Circuit, QubitLists};
+pub use ins::are_inputs;
 use std::alloc::Global;
 use sum_laws::Table;
 
 /// The table of a circuit over all its qubits, from the input bits on the qubits of `ins`, in their order, and 0 on
 /// the others, and for these outcomes of the measures. The value of a row has the bit of qubit 0 first. An outcome
-/// bit that no statement measures is not looked at.
+/// bit that no statement measures is not looked at. `are_inputs` tells whether `ins` is as asked.
 ///
 /// `Bits` comes where the input has not one bit for each qubit of `ins`, or else the outcome not one for each
 /// classical bit; `Limit` above 20 qubits, or else above 50 Hadamard gates, those under an `if` included.
@@ -166,6 +168,19 @@ mod tests {
     const Y0: Gate = One { kind: Y, q: 0 };
 
     const MEASURE0: Gate = Measure { q: 0, bit: 0 };
+
+    #[test]
+    fn inputs_that_fit(rt: HostRuntime) -> Result<(), Fail> {
+        let alloc = rt.alloc();
+        let circuit = Circuit::new(alloc, 2, 0);
+        let two = are_inputs(alloc, &circuit, &first_qubits(alloc, 2)?)?;
+        let three = are_inputs(alloc, &circuit, &first_qubits(alloc, 3)?)?;
+        let mut again = first_qubits(alloc, 2)?;
+        again.push(QubitList::new(alloc))?;
+        let empty = are_inputs(alloc, &circuit, &again)?;
+        assert_eq!(rt; [two, three, empty], [true, false, true]);
+        Ok(())
+    }
 
     #[test]
     fn tables_of_small_circuits(rt: HostRuntime) -> Result<(), Fail> {
