@@ -1,5 +1,5 @@
 -- Texts put part by part.
-use Rattle.std.proofs.Common.{◌≡◌, ℕ, zero, suc, ◌+◌, ◌-◌, ◌<◌, List, [], ◌∷◌, ◌++◌, drop, length, get_or, Option, ap, subst, ◌∙◌, refl, sym, append_assoc, append-nil, add-one, drop-cons, arith}
+use Rattle.std.proofs.Common.{◌≡◌, ℕ, zero, suc, ◌+◌, ◌-◌, ◌<◌, List, [], ◌++◌, drop, length, get_or, Option, ap, subst, ◌∙◌, refl, sym, append_assoc, append-nil, add-one, drop-cons, arith}
 use Rattle.std.specs.Prelude.{decimal, codes}
 use Rattle.silq_io.specs.Sinks.{Adds, Breaks}
 use Rattle.silq_io.proofs.Added.{adds_more, breaks_front, breaks_rest, rose_after}
