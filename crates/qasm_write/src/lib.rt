@@ -1,0 +1,12 @@
+#![tactic(auto)]
+//! Writing circuits as OpenQASM 2.0.
+
+pub(crate) mod line;
+pub(crate) mod list;
+pub(crate) mod piece;
+pub mod writer;
+
+pub use writer::QasmWriter;
+
+#[cfg(test)]
+mod tests;
