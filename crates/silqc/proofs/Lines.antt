@@ -1,7 +1,7 @@
 -- Lines put one after another.
 use Rattle.std.proofs.Common.{◌≡◌, ℕ, ◌+◌, ◌<◌, List, [], ◌∷◌, ◌++◌, drop, length, get_or, Option, ap, subst, ◌∙◌, sym, append_assoc, add-one, drop-cons}
 use Rattle.silqc.specs.declared.form.Operation.{Operation}
-use Rattle.silqc.specs.Written.{gate_line}
+use Rattle.qasm_write.specs.Written.{gate_line}
 use Rattle.silqc.specs.Text.{gate_of, lines_of, text_of}
 use Rattle.std.specs.Prelude.{decimal, codes}
 use Rattle.std.proofs.Common.{lit<}

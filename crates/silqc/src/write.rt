@@ -4,7 +4,7 @@ ghost use Rattle.std.specs.Prelude.{◌≡◌, ℕ, ◌≤◌, List, [], ◌∷�
 ghost use Rattle.silq_io.specs.Counts.{Rose};
 ghost use Rattle.silq_io.specs.Sinks.{Adds, Breaks};
 ghost use Rattle.silqc.specs.Text.{text_of, lines_of, gate_of};
-ghost use Rattle.silqc.specs.Written.{gate_line};
+ghost use Rattle.qasm_write.specs.Written.{gate_line};
 
 use crate::form::Operation;
 use silq_io::{Failed, Sink, put_all};
