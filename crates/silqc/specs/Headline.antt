@@ -11,7 +11,7 @@ use Rattle.silqc.specs.declared.form.Operation.{Operation}
 use Rattle.silqc.specs.Job.{Job, IsJob}
 use Rattle.silqc.specs.Form.{IsProgram}
 use Rattle.silqc.specs.Source.{source_amplitude}
-use Rattle.silqc.specs.Written.{written_text}
+use Rattle.qasm_write.specs.Written.{written_text}
 
 -- A circuit with the qubits of the parameters and of the returned values.
 pub record Spelled : Type 0 where

@@ -1,7 +1,6 @@
 pub mod Job
 pub mod Form
 pub mod Source
-pub mod Written
 pub mod Headline
 pub mod Note
 pub mod Parts

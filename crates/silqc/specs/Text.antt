@@ -5,7 +5,7 @@ use Rattle.gate_core.specs.declared.gate.Gate.{Gate}
 use Rattle.gate_core.specs.declared.gate.Gate.TheVariants.{One}
 use Rattle.silqc.specs.declared.form.Operation.{Operation}
 use Rattle.silqc.specs.declared.form.Operation.TheVariants.{Hadamard, Not}
-use Rattle.silqc.specs.Written.{written_text, gate_lines}
+use Rattle.qasm_write.specs.Written.{written_text, gate_lines}
 
 abbrev pub gate_of : Operation → Gate
 gate_of Hadamard = One H 0

@@ -1,25 +1,32 @@
 use Rattle.std.proofs.lemmas.Result.{on_err_weaker, on_ok_weaker}
-use Rattle.silq_io.proofs.Added.{on_err_from}
-use Rattle.silqc.proofs.Lines.{broke_in_head, broke_in_lines, broke_in_end, put_whole}
+use Rattle.std.proofs.Common.{[], ◌∷◌, ◌++◌, refl}
+use Rattle.silq_io.proofs.Added.{on_err_from, adds_more, breaks_front, breaks_rest}
+use Rattle.qasm_write.specs.Written.{head_text, out_text}
+use Rattle.qasm_write.proofs.Parts.{broke_first, broke_second, put_both}
+use Rattle.silqc.specs.Text.{lines_of, text_of}
 use Rattle.silqc.proofs.write.write_text.Goals as goal
 
-pub returns-in_err-put_all-clause-broken : goal.returns-in_err-put_all-clause-broken
-returns-in_err-put_all-clause-broken g c =
-    on_err_from c.from_residual.result (broke_in_head c.args.program.now _ _ c.in_err-put_all.ensures.broken)
+pub returns-in_err-head-clause-broken : goal.returns-in_err-head-clause-broken
+returns-in_err-head-clause-broken g c = on_err_from c.from_residual.result
+    (broke_first _ _ (head_text 1 0 ((0 ∷ []) ∷ [])) (lines_of c.args.program.now ++ out_text ((0 ∷ []) ∷ []))
+    (text_of c.args.program.now) refl (rw c.requires at c.in_err-head.ensures.broken))
 
 pub returns-in_err-write_gates-clause-broken : goal.returns-in_err-write_gates-clause-broken
-returns-in_err-write_gates-clause-broken g c =
-    on_err_from c.from_residual-in_err-write_gates.result
-    (broke_in_lines c.args.program.now _ _ _ c.in_ok-put_all.ensures.ok c.in_err-write_gates.ensures.broken)
+returns-in_err-write_gates-clause-broken g c = on_err_from c.from_residual-in_err-write_gates.result
+    (broke_second _ _ _ (head_text 1 0 ((0 ∷ []) ∷ [])) (lines_of c.args.program.now ++ out_text ((0 ∷ []) ∷ []))
+    (text_of c.args.program.now) refl (rw c.requires at c.in_ok-head.ensures.ok)
+    (breaks_front _ _ (lines_of c.args.program.now) (out_text ((0 ∷ []) ∷ [])) c.in_err-write_gates.ensures.broken))
 
 pub returns-clause-ok : goal.returns-clause-ok
-returns-clause-ok g c =
-    on_ok_weaker c.put_all-2.result
-    (λ h. put_whole c.args.program.now _ _ _ _ c.in_ok-put_all.ensures.ok c.in_ok-write_gates.ensures.ok h)
-    c.put_all-2.ensures.ok
+returns-clause-ok g c = on_ok_weaker c.finish.result
+    (λ h. put_both _ _ _ (head_text 1 0 ((0 ∷ []) ∷ [])) (lines_of c.args.program.now ++ out_text ((0 ∷ []) ∷ []))
+    (text_of c.args.program.now) refl (rw c.requires at c.in_ok-head.ensures.ok)
+    (adds_more _ _ _ (lines_of c.args.program.now) (out_text ((0 ∷ []) ∷ [])) c.in_ok-write_gates.ensures.ok h))
+    (rw c.requires at c.finish.ensures.ok)
 
 pub returns-clause-broken : goal.returns-clause-broken
-returns-clause-broken g c =
-    on_err_weaker c.put_all-2.result
-    (λ h. broke_in_end c.args.program.now _ _ _ _ c.in_ok-put_all.ensures.ok c.in_ok-write_gates.ensures.ok h)
-    c.put_all-2.ensures.broken
+returns-clause-broken g c = on_err_weaker c.finish.result
+    (λ h. broke_second _ _ _ (head_text 1 0 ((0 ∷ []) ∷ [])) (lines_of c.args.program.now ++ out_text ((0 ∷ []) ∷ []))
+    (text_of c.args.program.now) refl (rw c.requires at c.in_ok-head.ensures.ok)
+    (breaks_rest _ _ _ (lines_of c.args.program.now) (out_text ((0 ∷ []) ∷ [])) c.in_ok-write_gates.ensures.ok h))
+    (rw c.requires at c.finish.ensures.broken)
