@@ -35,8 +35,24 @@ pub fn write_text<S: Sink>(
     ensures broken { OnErr result (Breaks (S.put_so_far out.old) (S.put_so_far out.new) (text_of program.now)) }
 {
     let mut writer = QasmWriter::new(out);
+    write_parts(&mut writer, program, lists)
+}
+
+// Puts the head, the gates and the end.
+fn write_parts<S: Sink>(
+    writer: &mut QasmWriter<S>,
+    program: &[Operation],
+    lists: &QubitLists,
+) -> Result<(), Failed>
+    requires { lists.now ≡ (0 ∷ []) ∷ [] }
+    ensures same_sink { writer.new.out.ghost_name ≡ writer.old.out.ghost_name }
+    ensures ok { OnOk result (Adds (S.put_so_far writer.old.out.now) (S.put_so_far writer.new.out.now) (text_of program.now)) }
+    ensures count { S.faults writer.old.out.now ≤ S.faults writer.new.out.now }
+    ensures failed { OnErr result (Rose (S.faults writer.old.out.now) (S.faults writer.new.out.now)) }
+    ensures broken { OnErr result (Breaks (S.put_so_far writer.old.out.now) (S.put_so_far writer.new.out.now) (text_of program.now)) }
+{
     writer.head(1, 0, lists)?;
-    write_gates(&mut writer, program)?;
+    write_gates(writer, program)?;
     writer.finish(lists)
 }
 

@@ -4,7 +4,7 @@ use Rattle.silq_io.proofs.Added.{on_err_from, adds_more, breaks_front, breaks_re
 use Rattle.qasm_write.specs.Written.{head_text, out_text}
 use Rattle.qasm_write.proofs.Parts.{broke_first, broke_second, put_both}
 use Rattle.silqc.specs.Text.{lines_of, text_of}
-use Rattle.silqc.proofs.write.write_text.Goals as goal
+use Rattle.silqc.proofs.write.write_parts.Goals as goal
 
 pub returns-in_err-head-clause-broken : goal.returns-in_err-head-clause-broken
 returns-in_err-head-clause-broken g c = on_err_from c.from_residual.result
