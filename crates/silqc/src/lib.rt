@@ -110,10 +110,13 @@ fn compile<F: Files, S: Sink>(
     if bytes.len() > SOURCE_LIMIT {
         return Status::Unbuilt;
     }
+    let Ok(lists) = write::qubit_lists(alloc) else {
+        return Status::Memory;
+    };
     match form::read_form(alloc, &bytes, entry) {
         Err(_) => Status::Memory,
         Ok(None) => Status::Unbuilt,
-        Ok(Some(program)) => match write::write_text(out, &program) {
+        Ok(Some(program)) => match write::write_text(out, &program, &lists) {
             Ok(()) => Status::Done,
             Err(_) => Status::WriteFault,
         },
