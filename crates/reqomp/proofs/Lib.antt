@@ -1,0 +1,4 @@
+pub mod Search
+pub mod Greedy
+pub mod CircuitEdges
+pub mod LevelZero
