@@ -120,8 +120,7 @@ module _ (f : FlatForm) (flat : IsFlat f) where
 
   found : (kind : EdgeKind) (a b : Vertex) → SlotEdge f (Uses f) kind a b → Found kind a b
   found kind a b (in_chain w j p q) =
-      let at : place f w a ≡ j = (placed f ok w j a p).at in
-      (
+      let at : place f w a ≡ j = (placed f ok w j a p).at in (
         w,
         listed_at wire_id (length f.wires) w.number (chain_there w j a p),
         (ap (λ (i : ℕ). slice_get (chain f w) i) at ∙ p, ap (λ (i : ℕ). slice_get (chain f w) (suc i)) at ∙ q),

@@ -154,6 +154,7 @@ module _ (g : Digraph) (all : List Vertex) (fin : IsFinite g all) where
       | inr r ↦ closed b.0 v b.1.0 l.0 b.2 r
     ]
   ]
+
   abbrev Rest : List Vertex → Type 0
   Rest taken = (rest : List Vertex) × AreNext g taken rest × ((v : Vertex) → g.IsVertex v → Contains (taken ++ rest) v)
 

@@ -76,6 +76,7 @@ level_zero f flat = record {
   where
     ok : KeepsEnds f
     ok = keeps_ends f flat
+
     has : (order : List Vertex) → IsReadyOrder (circuit_graph f) order → IsLevel f 0 (moves_of f order)
     has order o = record {
       level = omega arith;
@@ -84,6 +85,7 @@ level_zero f flat = record {
       groups = subst (λ (m : List WireId). AreMoves f m order (moves_of f order)) (sym (none_marked f)) (own_moves f order);
       valid = orders_are_valid f flat order (ready_order_is_linear (circuit_graph f) order o);
     }
+
     only : (moves : List Move) → IsLevel f 0 moves → (order : List Vertex) × IsReadyOrder (circuit_graph f) order × (moves ≡ moves_of f order)
     only moves l = (
       l.order,
