@@ -53,7 +53,7 @@ entry_made d entry =
     let read : wire_in (d.wires ++ blank ∷ []) (wire_id (length d.wires)) ≡ blank = get_or-append_seam d.wires blank [] no_wire in
     ap (λ (ws : List WireForm). record { wires = ws; steps = d.steps; lines = d.lines })
     (set-append_seam d.wires blank [] (record { input = (wire_in (d.wires ++ blank ∷ []) (wire_id (length d.wires))).input; ending = entry.end })
-      ∙ ap (λ (x : WireForm). d.wires ++ record { input = x.input; ending = entry.end } ∷ []) read)
+    ∙ ap (λ (x : WireForm). d.wires ++ record { input = x.input; ending = entry.end } ∷ []) read)
 
 entries_made : (d : DraftForm) (entries : List WireEntry) → with_entries d entries ≡ draft_with d (wire_forms_of entries)
 entries_made d [] = ap (λ (ws : List WireForm). record { wires = ws; steps = d.steps; lines = d.lines }) (sym (append-nil d.wires))
@@ -176,11 +176,11 @@ module _ (wires : List WireEntry) (steps : List StepEntry) where
       | inr g ↦ let d : Output ≡ Measured = sym (ap (λ (x : WireForm). x.ending) g) ∙ e in cc
     ];
     ins_name = one_list Ins (wire_forms_of wires) (length wires) (λ w. is_input f w ≡ true)
-    (λ w h. elim (there w) [ inl l ↦ (l, h) | inr g ↦ absurd (both_ways (is_input f w) (ap (λ (x : WireForm). x.input) g) h) ])
-    (λ w l h. h);
+        (λ w h. elim (there w) [ inl l ↦ (l, h) | inr g ↦ absurd (both_ways (is_input f w) (ap (λ (x : WireForm). x.input) g) h) ])
+        (λ w l h. h);
     outs_name = one_list Outs (wire_forms_of wires) (length wires) (λ w. (w.number < length f.wires) × (end_of f w ≡ Output))
-    (λ w h. ((let l = h.0 in let m = as_many in omega arith), ap is_output h.1))
-    (λ w l h. ((let m = as_many in omega arith), output_is (end_of f w) h));
+        (λ w h. ((let l = h.0 in let m = as_many in omega arith), ap is_output h.1))
+        (λ w l h. ((let m = as_many in omega arith), output_is (end_of f w) h));
   }
 
   -- what the draft becomes
@@ -188,4 +188,4 @@ module _ (wires : List WireEntry) (steps : List StepEntry) where
   table_flat d ins outs is in_is out_is ok wires_fit steps_fit =
       subst IsFlat (sym (made_flat wires steps d ins outs is in_is out_is))
       (drafts_become_flat (made wires steps) (ids Ins (wire_forms_of wires) (length wires) ∷ []) (ids Outs (wire_forms_of wires) (length wires) ∷ [])
-        (subst IsDraft is ok) (ends_fit wires_fit steps_fit))
+      (subst IsDraft is ok) (ends_fit wires_fit steps_fit))

@@ -6,14 +6,13 @@ ghost use Rattle.flat_core.specs.declared.step.StepId.{StepId};
 ghost use Rattle.flat_core.specs.Label.{wire_id, wire_in, step_in};
 ghost use Rattle.flat_core.specs.Drafts.{empty_draft};
 ghost use Rattle.flat_table.specs.Table.{wire_form_of, wire_forms_of, steps_of, form_of, with_entry, with_entries, with_steps, WireFits, StepFits};
-ghost use Rattle.flat_table.specs.declared.table.TableFault.TheVariants.{Draft as DraftFault};
 
 use crate::checks::may_follow;
 use crate::entries::{StepEntry, WireEntry};
 use crate::lists::{Side, side_of};
 use flat_core::{Draft, End, Flat, Step, WireId};
 use silq_io::LimitFault;
-use std::alloc::{AllocError, Global};
+use std::alloc::{AllocError, AllocFailed, Global};
 
 /// Why a table has no flat form.
 #[derive(Debug, Drop)]
@@ -32,6 +31,12 @@ impl From<LimitFault> for TableFault {
 
 impl From<AllocError> for TableFault {
     fn from(_error: AllocError) -> TableFault {
+        TableFault::Draft(LimitFault::Memory)
+    }
+}
+
+impl<T: Drop> From<AllocFailed<T>> for TableFault {
+    fn from(_error: AllocFailed<T>) -> TableFault {
         TableFault::Draft(LimitFault::Memory)
     }
 }
