@@ -1,11 +1,8 @@
 -- No power of w over a power of root two is zero.
-use Rattle.std.proofs.Common.{◌≡◌, ◌↔◌, ℕ, zero, suc, Bool, true, false, cond, ℤ, pos, neg_ℤ, refl, sym, ap, ◌∙◌, subst, List}
+use Rattle.std.proofs.Common.{◌≡◌, ℕ, zero, suc, Bool, true, false, cond, ℤ, pos, neg_ℤ, refl, sym, ap, ◌∙◌}
 use Rattle.std.proofs.lemmas.Bool.{both_ways}
 use Rattle.std.proofs.Math.IntN.{neg_ℤ-neg_ℤ}
-use Rattle.amp_core.specs.declared.Amp.{Amp}
 use Rattle.amp_core.specs.Amplitude.{Numerator, no_numerator, times_w, times_power_of_w, numerator, over_root_two, none, one, times}
-use Rattle.flat_core.specs.declared.step.Step.{Step}
-use Rattle.flat_mean.specs.Row.{Row}
 use Rattle.flat_mean.specs.Path.{possible_path, path_halvings, path_eighths, path_weight}
 use Rattle.flat_mean.specs.Laws.{WeightTells, WeightsTellPossible}
 

@@ -1,5 +1,5 @@
 -- A table whose ends fit has a flat form.
-use Rattle.std.proofs.Common.{◌≡◌, ℕ, zero, suc, ◌+◌, ◌^◌, ◌<◌, ◌≤◌, ◌⊎◌, Bool, cond, le_refl, true, false, List, [], ◌∷◌, ◌++◌, map, length, get_or, refl, sym, ap, ◌∙◌, subst, inl, inr, arith, append-nil, append_assoc}
+use Rattle.std.proofs.Common.{◌≡◌, ℕ, zero, suc, ◌+◌, ◌^◌, ◌<◌, ◌≤◌, ◌⊎◌, Bool, cond, le_refl, true, List, [], ◌∷◌, ◌++◌, length, get_or, refl, sym, ap, ◌∙◌, subst, inl, inr, arith, append-nil, append_assoc}
 use Rattle.std.proofs.lemmas.List.{length-map, get_or-map}
 use Rattle.std.proofs.lemmas.Bool.{cases_lt, cases_Bool, both_ways}
 use Rattle.std.proofs.Math.ListN.{get_or-eq_default}
@@ -16,7 +16,7 @@ use Rattle.flat_core.specs.Form.{WireForm, FlatForm, DraftForm}
 use Rattle.flat_core.specs.Label.{step_id, wire_id, changes, no_step, no_wire, step_in, step_at, wire_in, end_of, is_input}
 use Rattle.flat_core.specs.Ends.{measures}
 use Rattle.flat_core.specs.Sound.{is_x, IsFlat}
-use Rattle.flat_core.specs.Drafts.{empty_draft, with_wire, finished, is_measured, IsDraft, FitsEnds}
+use Rattle.flat_core.specs.Drafts.{empty_draft, finished, is_measured, IsDraft, FitsEnds}
 use Rattle.flat_core.proofs.Labels.{same_wire_is}
 use Rattle.flat_core.proofs.Finishes.{drafts_become_flat}
 use Rattle.flat_mean.specs.Row.{is_h}

@@ -1,13 +1,13 @@
 -- A graph whose vertices are listed and whose edges are decided has a ready order or a cycle.
-use Rattle.std.proofs.Common.{◌≡◌, ℕ, zero, suc, ◌≤◌, ◌⊎◌, List, [], ◌∷◌, ◌++◌, length, Contains, refl, sym, ap, ◌∙◌, subst, inl, inr, arith, append_assoc, append-nil, le_refl}
+use Rattle.std.proofs.Common.{◌≡◌, ℕ, zero, suc, ◌≤◌, ◌⊎◌, List, [], ◌∷◌, ◌++◌, length, Contains, sym, subst, inl, inr, arith, append_assoc, append-nil, le_refl}
 use Rattle.std.proofs.lemmas.Bool.{cases_lt}
-use Rattle.std.proofs.lemmas.List.Elements.{Contains-append_left, Contains-append_right, Contains-push_cases}
+use Rattle.std.proofs.lemmas.List.Elements.{Contains-append_left, Contains-append_right}
 use Rattle.graph_core.specs.declared.vertex.Vertex.{Vertex}
 use Rattle.graph_core.specs.declared.vertex.Vertex.TheVariants.{Forward, Reverse, Free}
 use Rattle.graph_core.specs.Digraph.{Digraph, IsReady, IsPathTo, IsCycle, IsAcyclic}
-use Rattle.topo_order.specs.ReadyOrder.{GoesFirst, IsNext, AreNext, IsReadyOrder}
+use Rattle.topo_order.specs.ReadyOrder.{GoesFirst, AreNext, IsReadyOrder}
 use Rattle.topo_order.specs.GivenCycle.{IsLeft}
-use Rattle.topo_order.proofs.Orders.{contains_nil, contains_cases, contains_here, contains_later}
+use Rattle.topo_order.proofs.Orders.{contains_nil, contains_cases, contains_here}
 use Rattle.topo_order.proofs.Best.{goes_first_trans}
 use Rattle.reqomp.proofs.Search.{Decided, both, denied, find_in, Without, without, in_list}
 

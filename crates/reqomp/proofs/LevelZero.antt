@@ -5,7 +5,6 @@ use Rattle.flat_core.specs.declared.step.WireId.{WireId}
 use Rattle.flat_core.specs.declared.step.StepId.{StepId}
 use Rattle.flat_core.specs.Form.{FlatForm}
 use Rattle.flat_core.specs.Ends.{KeepsEnds}
-use Rattle.flat_core.specs.Sound.{IsFlat}
 use Rattle.flat_core.proofs.Kept.{keeps_ends}
 use Rattle.graph_core.specs.declared.vertex.Vertex.{Vertex}
 use Rattle.graph_core.specs.Digraph.{IsSame}
@@ -19,7 +18,7 @@ use Rattle.move_plan.specs.declared.moves.Move.TheVariants.{Up, Down}
 use Rattle.move_plan.specs.AsMoves.{move_of, moves_of}
 use Rattle.move_plan.proofs.OrdersAreValid.{orders_are_valid}
 use Rattle.reqomp.specs.Simple.{simple_wires, marked_at}
-use Rattle.reqomp.specs.Level.{RestsOn, directly, further, Needs, itself, below, IsKept, level_graph, IsRedone, AreMoves, none, more, last_level, IsLevel, LevelZero}
+use Rattle.reqomp.specs.Level.{RestsOn, directly, further, Needs, itself, below, IsKept, level_graph, IsRedone, AreMoves, none, more, IsLevel, LevelZero}
 use Rattle.reqomp.proofs.CircuitEdges.{acyclic_has_order}
 
 none_marked : (f : FlatForm) → marked_at f 0 ≡ []

@@ -4,7 +4,6 @@ use Rattle.flat_core.specs.declared.step.Step.{Step}
 use Rattle.flat_core.specs.declared.step.Step.TheVariants.{X, H}
 use Rattle.flat_core.specs.declared.step.End.TheVariants.{Output, Dropped}
 use Rattle.flat_core.specs.declared.step.Lit.{Lit}
-use Rattle.flat_core.specs.declared.step.WireId.{WireId}
 use Rattle.flat_core.specs.Form.{WireForm, FlatForm}
 use Rattle.flat_core.specs.Label.{wire_id}
 use Rattle.reqomp.specs.Simple.{simple_wires, marked_at}

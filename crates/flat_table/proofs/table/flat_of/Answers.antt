@@ -1,10 +1,8 @@
-use Rattle.std.proofs.Common.{◌≡◌, ◌<◌, length, List, true, sym, ap, ◌∙◌, subst}
-use Rattle.flat_core.specs.declared.step.Step.{Step}
-use Rattle.flat_core.specs.declared.step.StepId.{StepId}
+use Rattle.std.proofs.Common.{◌≡◌, ◌<◌, length, ◌∙◌, subst}
 use Rattle.flat_core.specs.declared.step.WireId.{WireId}
 use Rattle.flat_core.specs.Form.{DraftForm}
 use Rattle.flat_core.specs.Label.{wire_in}
-use Rattle.flat_table.specs.Table.{wire_forms_of, steps_of, WireFits}
+use Rattle.flat_table.specs.Table.{wire_forms_of, WireFits}
 use Rattle.flat_table.proofs.Fits.{made, draft_made, as_many_made, few_made, made_flat, table_flat}
 use Rattle.flat_table.proofs.table.flat_of.Goals as goal
 

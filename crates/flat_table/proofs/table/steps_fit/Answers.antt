@@ -1,4 +1,4 @@
-use Rattle.std.proofs.Common.{false, refl, sym, ◌∙◌, arith}
+use Rattle.std.proofs.Common.{false, refl, sym, ◌∙◌}
 use Rattle.std.proofs.lemmas.Bool.{both_ways}
 use Rattle.flat_table.specs.Table.{wire_forms_of}
 use Rattle.flat_table.proofs.Fits.{next_step_fits, more_steps_fit}

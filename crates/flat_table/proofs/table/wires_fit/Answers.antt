@@ -1,4 +1,4 @@
-use Rattle.std.proofs.Common.{false, refl, sym, ◌∙◌, arith}
+use Rattle.std.proofs.Common.{false, refl, sym, ◌∙◌}
 use Rattle.std.proofs.lemmas.Bool.{both_ways}
 use Rattle.flat_table.proofs.Fits.{next_wire_fits, more_wires_fit}
 use Rattle.flat_table.proofs.table.wires_fit.Goals as goal
