@@ -1,5 +1,5 @@
 -- The vertices of a circuit graph are listed, and its edges are decided.
-use Rattle.std.proofs.Common.{◌≡◌, ℕ, zero, suc, ◌<◌, Bool, true, List, ◌++◌, length, slice_get, Some, Contains, refl, ap, ◌∙◌, subst, inl, inr, arith, le_refl}
+use Rattle.std.proofs.Common.{◌≡◌, ℕ, zero, suc, ◌+◌, length-append, ◌<◌, ◌≤◌, Bool, true, List, ◌++◌, length, slice_get, Some, Contains, refl, ap, ◌∙◌, subst, inl, inr, arith, le_refl}
 use Rattle.std.proofs.lemmas.Bool.{cases_lt, cases_Bool, both_ways}
 use Rattle.std.proofs.lemmas.List.Elements.{Contains-append_left, Contains-append_right}
 use Rattle.flat_core.specs.declared.step.Step.{Step}
@@ -14,7 +14,7 @@ use Rattle.graph_core.specs.declared.vertex.Vertex.{Vertex}
 use Rattle.graph_core.specs.declared.vertex.Vertex.TheVariants.{Forward, Reverse, Free}
 use Rattle.graph_core.specs.declared.vertex.EdgeKind.{EdgeKind}
 use Rattle.graph_core.specs.declared.vertex.EdgeKind.TheVariants.{Target, Control, Availability}
-use Rattle.graph_core.specs.Digraph.{IsAcyclic}
+use Rattle.graph_core.specs.Digraph.{IsLinearOrder, IsAcyclic}
 use Rattle.graph_core.specs.Circuit.{IsVertex, chain, Uses, Edge, circuit_graph}
 use Rattle.graph_core.specs.Slots.{slot, SlotEdge, in_chain, from_before, to_after}
 use Rattle.graph_core.proofs.BySlots.{edges_by_slots}
@@ -25,8 +25,8 @@ use Rattle.unqomp.specs.declared.uses.Use.{Use}
 use Rattle.unqomp.specs.UseList.{uses_before}
 use Rattle.unqomp.proofs.Last.{freed_there}
 use Rattle.unqomp.proofs.UseLists.{IsUse, before_sound, before_whole}
-use Rattle.reqomp.proofs.Search.{Decided, both, find_in, listed, listed_at, same_vertex, stands_at}
-use Rattle.reqomp.proofs.Greedy.{IsFinite, acyclic_ordered}
+use Rattle.reqomp.proofs.Search.{Decided, both, find_in, listed, listed_at, length-listed, same_vertex, stands_at}
+use Rattle.reqomp.proofs.Greedy.{IsFinite, order_within, acyclic_ordered}
 
 is_true : (b : Bool) → Decided (b ≡ true)
 is_true b = elim (cases_Bool b) [ inl t ↦ inl t | inr f ↦ inr (λ t. both_ways b f t) ]
@@ -161,3 +161,12 @@ module _ (f : FlatForm) (flat : IsFlat f) where
 -- a circuit graph without cycles has a ready order
 pub acyclic_has_order : (f : FlatForm) → IsFlat f → IsAcyclic (circuit_graph f) → (order : List Vertex) × IsReadyOrder (circuit_graph f) order
 acyclic_has_order f flat none = acyclic_ordered (circuit_graph f) (all f flat) (finite f flat) none
+
+-- a linear order has at most 500,000 vertices
+pub few_in_order : (f : FlatForm) → IsFlat f → (order : List Vertex) → IsLinearOrder (circuit_graph f) order → length order ≤ 500000
+few_in_order f flat order o =
+    let within : length order ≤ length (all f flat) = order_within (circuit_graph f) (all f flat) (finite f flat) order o in
+    let parts : length (all f flat) ≡ length f.steps + (length f.steps + length f.wires) = rw length-append rw length-append rw length-listed rw length-listed rw length-listed refl in
+    let steps : length f.steps ≤ 200000 = flat.few_steps in
+    let wires : length f.wires ≤ 100000 = flat.few_wires in
+    omega arith

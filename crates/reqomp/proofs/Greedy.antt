@@ -4,7 +4,7 @@ use Rattle.std.proofs.lemmas.Bool.{cases_lt}
 use Rattle.std.proofs.lemmas.List.Elements.{Contains-append_left, Contains-append_right}
 use Rattle.graph_core.specs.declared.vertex.Vertex.{Vertex}
 use Rattle.graph_core.specs.declared.vertex.Vertex.TheVariants.{Forward, Reverse, Free}
-use Rattle.graph_core.specs.Digraph.{Digraph, IsReady, IsPathTo, IsCycle, IsAcyclic}
+use Rattle.graph_core.specs.Digraph.{Digraph, IsReady, IsRun, IsLinearOrder, IsPathTo, IsCycle, IsAcyclic}
 use Rattle.topo_order.specs.ReadyOrder.{GoesFirst, AreNext, IsReadyOrder}
 use Rattle.topo_order.specs.GivenCycle.{IsLeft}
 use Rattle.topo_order.proofs.Orders.{contains_nil, contains_cases, contains_here}
@@ -198,6 +198,18 @@ module _ (g : Digraph) (all : List Vertex) (fin : IsFinite g all) where
         more taken r (grow n (taken ++ r.v ∷ []) w.rest (omega arith) (waits_less taken waiting r.v w each))
     | inr none ↦ at_end taken none
   ]
+
+  -- vertices that are taken in their turn are no more than those that wait
+  run_within : (taken order waiting : List Vertex) → IsRun g taken order → Waits taken waiting → length order ≤ length waiting
+  run_within taken [] waiting run each = omega arith
+  run_within taken (v ∷ rest) waiting run each =
+      let w = without waiting v (each v (run.0.vertex, run.0.fresh)) in
+      let s = w.shorter in
+      let r = run_within (taken ++ v ∷ []) rest w.rest run.1 (waits_less taken waiting v w each) in
+      omega arith
+
+  pub order_within : (order : List Vertex) → IsLinearOrder g order → length order ≤ length all
+  order_within order o = run_within [] order all o.run (λ v l. fin.each v l.0)
 
   pub acyclic_ordered : IsAcyclic g → (order : List Vertex) × IsReadyOrder g order
   acyclic_ordered none = elim (grow (length all) [] all (le_refl (length all)) (λ v l. fin.each v l.0)) [

@@ -1,5 +1,6 @@
 -- Level 0 marks no wire, so its graph is the circuit graph and each vertex gives its own move alone.
-use Rattle.std.proofs.Common.{◌≡◌, ℕ, ◌+◌, ◌/◌, arith, List, [], ◌∷◌, ◌++◌, map, reverse, length, take, refl, sym, ap, ◌∙◌, subst, mul-zero}
+use Rattle.std.proofs.Common.{◌≡◌, ℕ, ◌+◌, ◌≤◌, ◌/◌, arith, List, [], ◌∷◌, ◌++◌, map, reverse, length, take, refl, sym, ap, ◌∙◌, subst, mul-zero}
+use Rattle.std.proofs.lemmas.List.{length-map}
 use Rattle.std.proofs.lemmas.Option.{none-some}
 use Rattle.flat_core.specs.declared.step.WireId.{WireId}
 use Rattle.flat_core.specs.declared.step.StepId.{StepId}
@@ -19,7 +20,7 @@ use Rattle.move_plan.specs.AsMoves.{move_of, moves_of}
 use Rattle.move_plan.proofs.OrdersAreValid.{orders_are_valid}
 use Rattle.reqomp.specs.Simple.{simple_wires, marked_at}
 use Rattle.reqomp.specs.Level.{RestsOn, directly, further, Needs, itself, below, IsKept, level_graph, IsRedone, AreMoves, none, more, IsLevel, LevelZero}
-use Rattle.reqomp.proofs.CircuitEdges.{acyclic_has_order}
+use Rattle.reqomp.proofs.CircuitEdges.{few_in_order, acyclic_has_order}
 
 none_marked : (f : FlatForm) → marked_at f 0 ≡ []
 none_marked f = ap (λ (n : ℕ). take ((n + 15) / 16) (simple_wires f)) (mul-zero (length (simple_wires f)))
@@ -71,6 +72,11 @@ level_zero f flat = record {
   only = only;
   there = λ no_cycle. let o = acyclic_has_order f flat no_cycle in (moves_of f o.0, has o.0 o.1);
   acyclic = λ moves l. let o = only moves l in ordered_is_acyclic (circuit_graph f) o.0 (ready_order_is_linear (circuit_graph f) o.0 o.1);
+  few = λ moves l.
+      let o = only moves l in
+      let m : length moves ≡ length o.0 = ap length o.2 ∙ length-map o.0 (move_of f) in
+      let n : length o.0 ≤ 500000 = few_in_order f flat o.0 (ready_order_is_linear (circuit_graph f) o.0 o.1) in
+      omega arith;
 }
   where
     ok : KeepsEnds f

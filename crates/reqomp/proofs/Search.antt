@@ -75,6 +75,10 @@ listed_at f (suc n) k l = elim (cases_eq n k) [
   | inr ne ↦ contains_later (f n) (f k) (listed f n) (listed_at f n k (omega arith))
 ]
 
+pub length-listed : {A : Type 0} (f : ℕ → A) (n : ℕ) → length (listed f n) ≡ n
+length-listed f zero = refl
+length-listed f (suc n) = ap suc (length-listed f n)
+
 abbrev number_of : Vertex → ℕ
 number_of (Forward s) = s.number
 number_of (Reverse s) = s.number

@@ -69,12 +69,14 @@ pub record IsLevel (f : FlatForm) (k : ℕ) (moves : List Move) : Type 0 where
   pub groups : AreMoves f (marked_at f k) order moves
   pub valid : IsPlan f moves
 
--- level 0 has the moves of the circuit graph's ready order, and is there exactly where that graph has no cycle
+-- level 0 has the moves of the circuit graph's ready order, at most 500,000 of them, and is there exactly where that
+-- graph has no cycle
 pub record IsLevelZero (f : FlatForm) : Type 0 where
   pub has : (order : List Vertex) → IsReadyOrder (circuit_graph f) order → IsLevel f 0 (moves_of f order)
   pub only : (moves : List Move) → IsLevel f 0 moves → (order : List Vertex) × IsReadyOrder (circuit_graph f) order × (moves ≡ moves_of f order)
   pub there : IsAcyclic (circuit_graph f) → (moves : List Move) × IsLevel f 0 moves
   pub acyclic : (moves : List Move) → IsLevel f 0 moves → IsAcyclic (circuit_graph f)
+  pub few : (moves : List Move) → IsLevel f 0 moves → length moves ≤ 500000
 
 abbrev pub LevelZero : Type 0
 LevelZero = (f : FlatForm) → IsFlat f → IsLevelZero f
