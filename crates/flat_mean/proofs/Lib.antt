@@ -9,3 +9,4 @@ pub mod Sequence
 pub mod Amplitudes
 pub mod Walks
 pub mod Examples
+pub mod Weights

@@ -1,7 +1,7 @@
 -- The laws of paths, as statements.
-use Rattle.std.specs.Prelude.{◌≡◌, ℕ, Bool, cond, ◌&&◌, List, [], ◌∷◌}
+use Rattle.std.specs.Prelude.{◌≡◌, ◌↔◌, ℕ, Bool, true, false, cond, ◌&&◌, List, [], ◌∷◌}
 use Rattle.amp_core.specs.declared.Amp.{Amp}
-use Rattle.amp_core.specs.Amplitude.{none, plus}
+use Rattle.amp_core.specs.Amplitude.{none, one, plus, times}
 use Rattle.sum_laws.specs.Terms.{same_bits, amplitude}
 use Rattle.flat_core.specs.declared.step.Step.{Step}
 use Rattle.flat_core.specs.declared.step.WireId.{WireId}
@@ -39,3 +39,12 @@ StepsGiveAmplitudes =
     (steps : List Step) (input : Row) (outcome : ℕ → Bool) (wires : List WireId) (values : List Bool)
     → amplitude values (seen_at wires (do_steps outcome steps (first_term input ∷ [])))
     ≡ path_amplitude steps input outcome wires values
+
+-- a path's weight is zero exactly where the path is impossible, and else the power of w over the power of root two that
+-- its steps add up to
+pub record WeightTells (steps : List Step) (input : Row) (choice : ℕ → Bool) : Type 0 where
+  pub zero_if_not_possible : (path_weight steps input choice ≡ none) ↔ (possible_path steps input choice ≡ false)
+  pub factor_if_possible : possible_path steps input choice ≡ true → path_weight steps input choice ≡ times (path_eighths steps input choice) (path_halvings steps input choice) one
+
+abbrev pub WeightsTellPossible : Type 0
+WeightsTellPossible = (steps : List Step) (input : Row) (choice : ℕ → Bool) → WeightTells steps input choice

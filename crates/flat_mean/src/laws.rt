@@ -1,6 +1,6 @@
 //! Laws of paths, each a contract over the definitions alone.
 
-ghost use Rattle.flat_mean.specs.Laws.{StepsGivePaths, StepsGiveAmplitudes};
+ghost use Rattle.flat_mean.specs.Laws.{StepsGivePaths, StepsGiveAmplitudes, WeightsTellPossible};
 
 /// Doing the steps one by one on terms gives, whatever one adds up over the terms, what the paths give.
 pub fn steps_give_paths()
@@ -11,4 +11,9 @@ pub fn steps_give_paths()
 /// agree with the outcome bits and have that value at the tops.
 pub fn steps_give_amplitudes()
     ensures { StepsGiveAmplitudes }
+{}
+
+/// The weight of a path is zero exactly where the path is impossible: no power of w over a power of root two is zero.
+pub fn weights_tell_possible()
+    ensures { WeightsTellPossible }
 {}
