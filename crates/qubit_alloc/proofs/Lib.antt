@@ -3,3 +3,4 @@ pub mod Lives
 pub mod Placing
 pub mod Starting
 pub mod ApartLaws
+pub mod Spreading
