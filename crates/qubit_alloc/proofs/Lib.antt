@@ -7,3 +7,4 @@ pub mod Spreading
 pub mod Named
 pub mod Composed
 pub mod Circuit
+pub mod Heaps

@@ -2,3 +2,4 @@ pub mod Place
 pub mod PlacedMoves
 pub mod Spread
 pub mod Laws
+pub mod Free

@@ -1,6 +1,7 @@
 #![tactic(auto)]
 //! Wires on qubits: which qubit each wire stands on, move by move.
 
+mod free;
 pub mod laws;
 pub mod placed;
 
