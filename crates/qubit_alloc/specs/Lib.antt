@@ -3,3 +3,4 @@ pub mod PlacedMoves
 pub mod Spread
 pub mod Laws
 pub mod Free
+pub mod State

@@ -1,0 +1,143 @@
+-- What a placer keeps, and what it stands for.
+use Rattle.std.specs.Prelude.{◌≡◌, ℕ, ◌<◌, ◌≤◌, ◌==◌, Bool, true, false, cond, not, ◌&&◌, nat_lt, List, ◌∷◌, length, get_or, slice_set, count_by, Option, Some, None, All}
+use Rattle.std.specs.List.Sorted.{IsPermutation}
+use Rattle.flat_core.specs.declared.step.Step.{Step}
+use Rattle.flat_core.specs.declared.step.Step.TheVariants.{X, H, P, M}
+use Rattle.flat_core.specs.declared.step.WireId.{WireId}
+use Rattle.flat_core.specs.Form.{FlatForm}
+use Rattle.move_plan.specs.declared.moves.Move.{Move}
+use Rattle.move_plan.specs.declared.moves.Move.TheVariants.{Up, Down, Do, Free}
+use Rattle.move_plan.specs.Progress.{Progress}
+use Rattle.move_plan.specs.Effect.{number_of}
+use Rattle.move_plan.specs.Live.{live, live_at_end}
+use Rattle.qubit_alloc.specs.declared.track.Track.{Track}
+use Rattle.qubit_alloc.specs.Free.{FreeList}
+use Rattle.qubit_alloc.specs.Place.{Place, is_taken, IsPlaced}
+
+-- the rows of wires and steps that are kept of the moves so far
+pub record HasRows (f : FlatForm) (t : Track) : Type 0 where
+  pub label_rows : length t.labels.items ≡ length f.wires
+  pub done_rows : length t.done.items ≡ length f.steps
+  pub measured_rows : length t.measured.items ≡ length f.wires
+  pub gone_rows : length t.gone.items ≡ length f.wires
+
+-- the progress that they tell
+abbrev pub told : Track → Progress
+told t = record {
+  label = λ w. get_or t.labels.items w.number 0;
+  done = λ s. get_or t.done.items s.number false;
+  measured = λ w. get_or t.measured.items w.number false;
+  gone = λ w. get_or t.gone.items w.number false;
+}
+
+-- how often a number is in a list
+abbrev pub times_in : List ℕ → ℕ → ℕ
+times_in items j = count_by (λ x. x == j) items
+
+-- how many wires and steps there are rows for, the width, the progress, the qubit of each wire that is on one, the outcome
+-- numbers of measured wires, how often a qubit is free (once or not at all), and whether the untouched Output wires are placed
+pub record PlacerState : Type 0 where
+  pub wires : ℕ
+  pub steps : ℕ
+  pub width : ℕ
+  pub progress : Progress
+  pub qubit : WireId → Option ℕ
+  pub number : WireId → ℕ
+  pub free : ℕ → ℕ
+  pub finished : Bool
+
+abbrev pub state_of : Track → List (Option ℕ) → List ℕ → FreeList → ℕ → Bool → PlacerState
+state_of t qubits numbers free width finished = record {
+  wires = length t.labels.items;
+  steps = length t.done.items;
+  width = width;
+  progress = told t;
+  qubit = λ w. get_or qubits w.number None;
+  number = λ w. get_or numbers w.number 0;
+  free = times_in free.items;
+  finished = finished;
+}
+
+-- one row for each wire, and room for all qubits
+pub record HasEvenRows (t : Track) (qubits : List (Option ℕ)) (numbers : List ℕ) (free : FreeList) (width : ℕ) : Type 0 where
+  pub measured_rows : length t.measured.items ≡ length t.labels.items
+  pub gone_rows : length t.gone.items ≡ length t.labels.items
+  pub qubit_rows : length qubits ≡ length t.labels.items
+  pub number_rows : length numbers ≡ length t.labels.items
+  pub room : width ≤ free.room
+
+-- the wires that are on stand on different qubits below the width, and each other qubit below it is free, once
+pub record IsSeated (f : FlatForm) (on : WireId → Bool) (width : ℕ) (place : Place) (free : ℕ → ℕ) : Type 0 where
+  pub placed : IsPlaced f on width place
+  pub free_are : (j : ℕ) → free j ≡ cond (nat_lt j width && not (is_taken f on place j)) 1 0
+
+-- a qubit is told of each wire that is on, its place, and of no other
+abbrev pub TellsOf : FlatForm → (WireId → Bool) → Place → (WireId → Option ℕ) → Type 0
+TellsOf f on place qubit = (w : WireId) → w.number < length f.wires → qubit w ≡ cond (on w) (Some (place w)) None
+
+-- the wires on qubits: the live ones, and at the end all Output wires
+abbrev pub on_in : FlatForm → PlacerState → WireId → Bool
+on_in f v = cond v.finished (live_at_end f v.progress) (live f v.progress)
+
+-- a placer tells these places
+abbrev pub Tells : FlatForm → PlacerState → Place → Type 0
+Tells f v place = TellsOf f (on_in f v) place v.qubit
+
+-- what holds of a placer that was made for a flat form
+pub record IsMadeFor (f : FlatForm) (v : PlacerState) : Type 0 where
+  pub wires_are : v.wires ≡ length f.wires
+  pub steps_are : v.steps ≡ length f.steps
+  pub place : Place
+  pub tells : Tells f v place
+  pub seated : IsSeated f (on_in f v) v.width place v.free
+  pub numbered : (w : WireId) → w.number < length f.wires → v.progress.measured w ≡ true → v.number w ≡ number_of f.steps w
+
+-- the outcome number of a measured wire noted
+abbrev pub noted_step : List ℕ → Step → List ℕ
+noted_step numbers (X target first second) = numbers
+noted_step numbers (H target control) = numbers
+noted_step numbers (P eighths control) = numbers
+noted_step numbers (M wire number) = slice_set numbers wire.number number
+
+abbrev pub noted : List ℕ → Option Step → List ℕ
+noted numbers None = numbers
+noted numbers (Some step) = noted_step numbers step
+
+-- a wire that has no qubit takes the least free one
+pub record Takes (w : WireId) (qubits : List (Option ℕ)) (free : List ℕ) (qubits' : List (Option ℕ)) (free' : List ℕ) : Type 0 where
+  pub qubit : ℕ
+  pub row : qubits' ≡ slice_set qubits w.number (Some qubit)
+  pub rest : IsPermutation free (qubit ∷ free')
+  pub least : All (λ x. qubit ≤ x) free
+
+abbrev pub Seats : Option ℕ → WireId → List (Option ℕ) → List ℕ → List (Option ℕ) → List ℕ → Type 0
+Seats None w qubits free qubits' free' = Takes w qubits free qubits' free'
+Seats (Some q) w qubits free qubits' free' = (qubits' ≡ qubits) × (free' ≡ free)
+
+abbrev pub SeatsIfAny : Option WireId → List (Option ℕ) → List ℕ → List (Option ℕ) → List ℕ → Type 0
+SeatsIfAny None qubits free qubits' free' = (qubits' ≡ qubits) × (free' ≡ free)
+SeatsIfAny (Some w) qubits free qubits' free' = Seats (get_or qubits w.number None) w qubits free qubits' free'
+
+-- a wire that has a qubit gives it back
+abbrev pub Gives : Option ℕ → WireId → List (Option ℕ) → List ℕ → List (Option ℕ) → List ℕ → Type 0
+Gives None w qubits free qubits' free' = (qubits' ≡ qubits) × (free' ≡ free)
+Gives (Some q) w qubits free qubits' free' = (qubits' ≡ slice_set qubits w.number None) × IsPermutation (q ∷ free) free'
+
+abbrev pub GivesIfAny : Option WireId → List (Option ℕ) → List ℕ → List (Option ℕ) → List ℕ → Type 0
+GivesIfAny None qubits free qubits' free' = (qubits' ≡ qubits) × (free' ≡ free)
+GivesIfAny (Some w) qubits free qubits' free' = Gives (get_or qubits w.number None) w qubits free qubits' free'
+
+-- a wire, where it passes a test
+abbrev pub keep_if : (WireId → Bool) → Option WireId → Option WireId
+keep_if test None = None
+keep_if test (Some w) = cond (test w) (Some w) None
+
+-- a wire that is there, where another one is not
+abbrev pub unless : Option WireId → Option WireId → Option WireId
+unless None o = o
+unless (Some w) o = None
+
+-- the qubit told of a wire, if any
+abbrev pub qubit_of : List (Option ℕ) → Option WireId → Option ℕ
+qubit_of qubits None = None
+qubit_of qubits (Some w) = get_or qubits w.number None
