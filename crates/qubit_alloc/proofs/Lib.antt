@@ -8,3 +8,4 @@ pub mod Named
 pub mod Composed
 pub mod Circuit
 pub mod Heaps
+pub mod Seating

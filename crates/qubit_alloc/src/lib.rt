@@ -2,6 +2,7 @@
 //! Wires on qubits: which qubit each wire stands on, move by move.
 
 mod free;
+mod seats;
 mod track;
 pub mod laws;
 pub mod placed;
