@@ -9,3 +9,4 @@ pub mod Composed
 pub mod Circuit
 pub mod Heaps
 pub mod Seating
+pub mod Moving
