@@ -8,11 +8,14 @@ use Rattle.flat_core.specs.Form.{FlatForm}
 use Rattle.move_plan.specs.declared.moves.Move.{Move}
 use Rattle.move_plan.specs.declared.moves.Move.TheVariants.{Up, Down, Do, Free}
 use Rattle.move_plan.specs.Progress.{Progress}
-use Rattle.move_plan.specs.Effect.{number_of}
+use Rattle.flat_core.specs.Label.{main_wire, first_wire, second_wire, step_at, end_of}
+use Rattle.move_plan.specs.Effect.{is_measured, number_of}
 use Rattle.move_plan.specs.Live.{live, live_at_end}
 use Rattle.qubit_alloc.specs.declared.track.Track.{Track}
+use Rattle.qubit_alloc.specs.declared.placed.Placed.{Placed}
 use Rattle.qubit_alloc.specs.Free.{FreeList}
 use Rattle.qubit_alloc.specs.Place.{Place, is_taken, IsPlaced}
+use Rattle.qubit_alloc.specs.PlacedMoves.{end_wire, number_in}
 
 -- the rows of wires and steps that are kept of the moves so far
 pub record HasRows (f : FlatForm) (t : Track) : Type 0 where
@@ -141,3 +144,32 @@ unless (Some w) o = None
 abbrev pub qubit_of : List (Option ℕ) → Option WireId → Option ℕ
 qubit_of qubits None = None
 qubit_of qubits (Some w) = get_or qubits w.number None
+
+-- what is told of a step, and of a freed wire, by the rows
+abbrev pub step_row : FlatForm → Move → Step → List (Option ℕ) → Placed
+step_row f mv s qubits = record {
+  mv = mv;
+  step = Some s;
+  end = end_of f (end_wire s);
+  target = qubit_of qubits (main_wire s);
+  first = qubit_of qubits (first_wire s);
+  second = qubit_of qubits (second_wire s);
+  bit = number_in s;
+}
+
+abbrev pub free_row : FlatForm → Move → WireId → List (Option ℕ) → List ℕ → Placed
+free_row f mv w qubits numbers = record {
+  mv = mv;
+  step = None;
+  end = end_of f w;
+  target = qubit_of qubits (Some w);
+  first = None;
+  second = None;
+  bit = cond (is_measured (end_of f w)) (get_or numbers w.number 0) 0;
+}
+
+abbrev pub placed_row : FlatForm → Move → List (Option ℕ) → List ℕ → Placed
+placed_row f (Up s) qubits numbers = step_row f (Up s) (step_at f s) qubits
+placed_row f (Down s) qubits numbers = step_row f (Down s) (step_at f s) qubits
+placed_row f (Do s) qubits numbers = step_row f (Do s) (step_at f s) qubits
+placed_row f (Free w) qubits numbers = free_row f (Free w) w qubits numbers

@@ -3,6 +3,7 @@
 
 mod free;
 mod seats;
+mod told;
 mod track;
 pub mod laws;
 pub mod placed;
