@@ -37,29 +37,44 @@ told t = record {
 abbrev pub times_in : List ℕ → ℕ → ℕ
 times_in items j = count_by (λ x. x == j) items
 
--- how many wires and steps there are rows for, the width, the progress, the qubit of each wire that is on one, the outcome
--- numbers of measured wires, how often a qubit is free (once or not at all), and whether the untouched Output wires are placed
+-- what a placer keeps: rows of wires for labels, measured and freed ones, qubits and outcome numbers, rows of steps for
+-- those done, the free qubits in no particular order, the width, and whether the untouched Output wires are placed
 pub record PlacerState : Type 0 where
-  pub wires : ℕ
-  pub steps : ℕ
+  pub labels : List ℕ
+  pub done : List Bool
+  pub measured : List Bool
+  pub gone : List Bool
+  pub qubits : List (Option ℕ)
+  pub numbers : List ℕ
+  pub free : List ℕ
   pub width : ℕ
-  pub progress : Progress
-  pub qubit : WireId → Option ℕ
-  pub number : WireId → ℕ
-  pub free : ℕ → ℕ
   pub finished : Bool
 
 abbrev pub state_of : Track → List (Option ℕ) → List ℕ → FreeList → ℕ → Bool → PlacerState
 state_of t qubits numbers free width finished = record {
-  wires = length t.labels.items;
-  steps = length t.done.items;
+  labels = t.labels.items;
+  done = t.done.items;
+  measured = t.measured.items;
+  gone = t.gone.items;
+  qubits = qubits;
+  numbers = numbers;
+  free = free.items;
   width = width;
-  progress = told t;
-  qubit = λ w. get_or qubits w.number None;
-  number = λ w. get_or numbers w.number 0;
-  free = times_in free.items;
   finished = finished;
 }
+
+-- the progress that a placer has come to
+abbrev pub progress_of : PlacerState → Progress
+progress_of v = record {
+  label = λ w. get_or v.labels w.number 0;
+  done = λ s. get_or v.done s.number false;
+  measured = λ w. get_or v.measured w.number false;
+  gone = λ w. get_or v.gone w.number false;
+}
+
+-- the qubit that it tells of a wire
+abbrev pub qubit_told : PlacerState → WireId → Option ℕ
+qubit_told v w = get_or v.qubits w.number None
 
 -- one row for each wire, and room for all qubits
 pub record HasEvenRows (t : Track) (qubits : List (Option ℕ)) (numbers : List ℕ) (free : FreeList) (width : ℕ) : Type 0 where
@@ -80,20 +95,20 @@ TellsOf f on place qubit = (w : WireId) → w.number < length f.wires → qubit 
 
 -- the wires on qubits: the live ones, and at the end all Output wires
 abbrev pub on_in : FlatForm → PlacerState → WireId → Bool
-on_in f v = cond v.finished (live_at_end f v.progress) (live f v.progress)
+on_in f v = cond v.finished (live_at_end f (progress_of v)) (live f (progress_of v))
 
 -- a placer tells these places
 abbrev pub Tells : FlatForm → PlacerState → Place → Type 0
-Tells f v place = TellsOf f (on_in f v) place v.qubit
+Tells f v place = TellsOf f (on_in f v) place (qubit_told v)
 
 -- what holds of a placer that was made for a flat form
 pub record IsMadeFor (f : FlatForm) (v : PlacerState) : Type 0 where
-  pub wires_are : v.wires ≡ length f.wires
-  pub steps_are : v.steps ≡ length f.steps
+  pub wires_are : length v.labels ≡ length f.wires
+  pub steps_are : length v.done ≡ length f.steps
   pub place : Place
   pub tells : Tells f v place
-  pub seated : IsSeated f (on_in f v) v.width place v.free
-  pub numbered : (w : WireId) → w.number < length f.wires → v.progress.measured w ≡ true → v.number w ≡ number_of f.steps w
+  pub seated : IsSeated f (on_in f v) v.width place (times_in v.free)
+  pub numbered : (w : WireId) → w.number < length f.wires → (progress_of v).measured w ≡ true → get_or v.numbers w.number 0 ≡ number_of f.steps w
 
 -- the outcome number of a measured wire noted
 abbrev pub noted_step : List ℕ → Step → List ℕ

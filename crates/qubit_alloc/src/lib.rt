@@ -7,5 +7,7 @@ mod told;
 mod track;
 pub mod laws;
 pub mod placed;
+pub mod placer;
 
 pub use placed::Placed;
+pub use placer::Placer;
