@@ -10,3 +10,4 @@ pub mod Circuit
 pub mod Heaps
 pub mod Seating
 pub mod Moving
+pub mod Turning

@@ -66,6 +66,20 @@ module _ (f : FlatForm) (ok : IsFlat f) (p : Progress) (m : Move) (st : Stands f
   touched_there (Do s) w h e = subst (λ (o : Option WireId). IfSome o (λ v. v.number < length f.wires)) e (ok.in_range s h.2.step).0
   touched_there (Free v) w h e = let is : v ≡ w = cc in subst (λ (x : WireId). x.number < length f.wires) is (freed_there f v h.ending)
 
+  pub touched_in_range : IfSome (touched f m) (λ w. w.number < length f.wires)
+  touched_in_range = by (touched f m) refl
+    where
+      by : (o : Option WireId) → touched f m ≡ o → IfSome o (λ w. w.number < length f.wires)
+      by None e = tt
+      by (Some w) e = touched_there m w st e
+
+  pub left_in_range : (o : Option WireId) (n : ℕ) → length f.wires ≡ n → o ≡ unless (keep_if (live f (moved f p m)) (touched f m)) (touched f m) → IfSome o (λ w. w.number < n)
+  left_in_range o n e h = subst (λ (k : ℕ). IfSome o (λ w. w.number < k)) e (subst (λ (x : Option WireId). IfSome x (λ w. w.number < length f.wires)) (sym h) (by (touched f m) (keep_if (live f (moved f p m)) (touched f m)) touched_in_range))
+    where
+      by : (x other : Option WireId) → IfSome x (λ w. w.number < length f.wires) → IfSome (unless other x) (λ w. w.number < length f.wires)
+      by x None k = k
+      by x (Some v) k = tt
+
   -- a freed wire is live no more
   main_touched : (x : Move) (w : WireId) → touched f x ≡ Some w → live f (moved f p x) w ≡ true → main_of f x ≡ Some w
   main_touched (Up s) w e on = e
