@@ -12,3 +12,4 @@ pub mod Seating
 pub mod Moving
 pub mod Turning
 pub mod Finishing
+pub mod Examples
