@@ -9,5 +9,8 @@ pub mod laws;
 pub mod placed;
 pub mod placer;
 
+#[cfg(test)]
+mod tests;
+
 pub use placed::Placed;
 pub use placer::Placer;
