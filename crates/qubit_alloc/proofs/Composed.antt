@@ -98,7 +98,7 @@ module _ (f : FlatForm) (outcome : ℕ → Bool) (ok : IsFlat f) (p : Progress) 
       by (Some w) e = ap (λ b. cond b place (put_on w (least_free f (live f p) place) place)) (down_live f p s w st e)
 
   was : (m : Move) (v : WireId) → (main_of f m ≡ Some v → live f p v ≡ true) → live f (moved f p m) v ≡ true → live f p v ≡ true
-  was m v main h = elim (live_back f p m v h) [ | inl o ↦ o | inr e ↦ main e ]
+  was m v main h = elim (live_back f p m v h) [ inl o ↦ o | inr e ↦ main e ]
 
   -- the terms that a move leaves, where it makes no wire live
   fewer : (m : Move) → ((v : WireId) → main_of f m ≡ Some v → live f p v ≡ true) → (ts : List Term) → All (Idle (live f (moved f p m))) ts → spread_all f (live f p) place ts ≡ spread_all f (live f (moved f p m)) place ts

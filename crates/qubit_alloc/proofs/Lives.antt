@@ -139,4 +139,4 @@ module _ (f : FlatForm) (p : Progress) where
   ]
   live_back (Free u) v h =
       let g = live_to f (moved f p (Free u)) v h in
-      inl (live_from f p v (record { kept = elim (cases_Bool (p.gone v)) [ | inl t ↦ absurd (both_ways _ g.kept (or_right _ (p.gone v) t)) | inr t ↦ t ]; why = g.why }))
+      inl (live_from f p v (record { kept = elim (cases_Bool (p.gone v)) [ inl t ↦ absurd (both_ways _ g.kept (or_right _ (p.gone v) t)) | inr t ↦ t ]; why = g.why }))

@@ -119,7 +119,7 @@ module _ (f : FlatForm) (ok : IsFlat f) (p : Progress) (m : Move) (st : Stands f
 
       stays : after w ≡ false ⊎ before w ≡ true → main_of f m ≡ Some w → before w ≡ true
       stays (inr on) g = on
-      stays (inl off) g = elim (cases_Bool (before w)) [ | inl on ↦ on | inr idle ↦ absurd (both_ways (after w) off (live_new f p m w st g idle)) ]
+      stays (inl off) g = elim (cases_Bool (before w)) [ inl on ↦ on | inr idle ↦ absurd (both_ways (after w) off (live_new f p m w st g idle)) ]
 
       -- no wire comes to be live
       place_same : after w ≡ false ⊎ before w ≡ true → place_move f p place m ≡ place
@@ -194,7 +194,7 @@ module _ (f : FlatForm) (ok : IsFlat f) (p : Progress) (m : Move) (st : Stands f
             let same : place_move f p place m ≡ put_on w t.qubit place = place_new w e on off ∙ ap (λ q. put_on w q place) (sym is) in
             let main_on : during w ≡ true = or_right (before w) (after w) on in
             let pl : IsPlaced f during wide (place_wire f (live f p) place w) = placed_more f wide (live f p) during place w
-            (λ v h. elim (cases_Bool (same_wire v w)) [ | inl i ↦ inr (same_wire_is v w i) | inr ne ↦ inl (sym (during_other w e v ne) ∙ h) ])
+            (λ v h. elim (cases_Bool (same_wire v w)) [ inl i ↦ inr (same_wire_is v w i) | inr ne ↦ inl (sym (during_other w e v ne) ∙ h) ])
             (λ _. (omega (arith, more, all), omega (arith, more, fits))) seated.placed in
             let pl' : IsPlaced f during wide (put_on w t.qubit place) = subst (IsPlaced f during wide) (ap (λ b. cond b place (put_on w (least_free f (live f p) place) place)) off ∙ ap (λ q. put_on w q place) (sym is)) pl in
             let now : IsSeated f during wide (put_on w t.qubit place) (times_in free') = seated_more f (live f p) wide place (times_in free) seated during w t.qubit (times_in free') wl off main_on (during_other w e) pl' in_free counted in
@@ -244,8 +244,8 @@ module _ (f : FlatForm) (ok : IsFlat f) (p : Progress) (m : Move) (st : Stands f
                 at : (b : Bool) → after w ≡ b → SeatsIfAny (cond b (Some w) None) rows free rows' free' → Done
                 at true on g = seat w e on (before w) refl g
                 at false off g = kept (place_same w e (inl off)) (during_on w e (inl off)) g
+                -- and once the wire that is live no more has given its own back
 
-      -- and once the wire that is live no more has given its own back
     module _ (wide : ℕ) (rows : List (Option ℕ)) (free : List ℕ) (long : length rows ≡ length f.wires) (at : Place) (tells : TellsOf f during at (rows_told rows)) (seated : IsSeated f during wide at (times_in free)) where
       left_of : (o : Option WireId) (w : WireId) → o ≡ unless (keep_if (live f (moved f p m)) (touched f m)) (touched f m) → o ≡ Some w → (touched f m ≡ Some w) × (after w ≡ false)
       left_of o w h e = by (touched f m) refl (sym e ∙ h)
@@ -308,8 +308,7 @@ module _ (f : FlatForm) (ok : IsFlat f) (p : Progress) (m : Move) (st : Stands f
             ] in
             let it : Some q ≡ Some (at w) = sym row ∙ tells w wl ∙ ap (λ x. cond x (Some (at w)) None) on in
             let is : q ≡ at w = cc in
-            let counted : (j : ℕ) → times_in free' j ≡ cond (at w == j) 1 0 + times_in free j = λ j. times_permuted (q ∷ free) free' j g.1 ∙ times_cons q free j ∙ ap (λ n. cond (n == j) 1 0 + times_in free j) is in
-            (
+            let counted : (j : ℕ) → times_in free' j ≡ cond (at w == j) 1 0 + times_in free j = λ j. times_permuted (q ∷ free) free' j g.1 ∙ times_cons q free j ∙ ap (λ n. cond (n == j) 1 0 + times_in free j) is in (
               (λ v vl. ap (λ (xs : List (Option ℕ)). rows_told xs v) g.0 ∙ row_set rows w v None None (subst (λ n. w.number < n) (sym long) wl) ∙ cleared w e off v vl (same_wire v w) refl),
               seated_less f during wide at (times_in free) seated (live f (moved f p m)) w (times_in free') wl on off (after_other w e) counted,
             )

@@ -84,7 +84,13 @@ fn outputs_that_nothing_touches(rt: HostRuntime) -> Result<(), Fail> {
     };
     assert_eq!(rt; freed, wanted);
     placer.finish(&flat);
-    for (number, qubit) in [(0, Some(1)), (1, Some(0)), (2, Some(2)), (3, None), (4, None)] {
+    for (number, qubit) in [
+        (0, Some(1)),
+        (1, Some(0)),
+        (2, Some(2)),
+        (3, None),
+        (4, None),
+    ] {
         assert_eq!(rt; placer.qubit(wire(number)), qubit, "wire {number}");
     }
     Ok(())

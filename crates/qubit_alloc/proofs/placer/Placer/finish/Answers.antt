@@ -27,12 +27,12 @@ loop-n-init c =
       numbers = ap (λ (x : PlacerState). x.numbers) c.self.view_is;
       width = wide;
       tells = λ place h.
-      subst (λ (q : Progress). TellsOf f (on_below f q 0) place (rows_told i.qubits.items)) same
-      (tells_same f (live f (told i.track)) (on_below f (told i.track) 0) place (rows_told i.qubits.items) (λ x xl. below_first f (told i.track) x) (tells_open f v w c.self.view_is c.requires.going place h));
+          subst (λ (q : Progress). TellsOf f (on_below f q 0) place (rows_told i.qubits.items)) same
+          (tells_same f (live f (told i.track)) (on_below f (told i.track) 0) place (rows_told i.qubits.items) (λ x xl. below_first f (told i.track) x) (tells_open f v w c.self.view_is c.requires.going place h));
       seated = λ place h.
-      subst (λ (q : Progress). IsSeated f (on_below f q 0) w.width place (times_in i.free.items)) same
-      (subst (λ n. IsSeated f (on_below f (told i.track) 0) n place (times_in i.free.items)) wide
-      (on_same f (live f (told i.track)) (on_below f (told i.track) 0) i.width place (times_in i.free.items) (λ x xl. below_first f (told i.track) x) (seated_open f v w c.self.view_is c.requires.going c.requires.made place h)));
+          subst (λ (q : Progress). IsSeated f (on_below f q 0) w.width place (times_in i.free.items)) same
+          (subst (λ n. IsSeated f (on_below f (told i.track) 0) n place (times_in i.free.items)) wide
+          (on_same f (live f (told i.track)) (on_below f (told i.track) 0) i.width place (times_in i.free.items) (λ x xl. below_first f (told i.track) x) (seated_open f v w c.self.view_is c.requires.going c.requires.made place h)));
     }
 
 pub seat-requires-clause-some : goal.seat-requires-clause-some
@@ -71,11 +71,11 @@ loop-n-preserved c =
       numbers = inv.numbers;
       width = inv.width;
       tells = λ place h.
-      subst (λ k. TellsOf f (on_below f p k) (place_outputs f p place k) (rows_told c.seat.new.qubits.items)) (sym (add-one n))
-      (seated_output f p c.args.self.now.width c.requires.fits n within (place_outputs f p place n) c.loop-n.self-inside.qubits.items c.loop-n.self-inside.free.items long (inv.tells place h) (inv.seated place h) c.seat.new.qubits.items c.seat.new.free.items seats).0;
+          subst (λ k. TellsOf f (on_below f p k) (place_outputs f p place k) (rows_told c.seat.new.qubits.items)) (sym (add-one n))
+          (seated_output f p c.args.self.now.width c.requires.fits n within (place_outputs f p place n) c.loop-n.self-inside.qubits.items c.loop-n.self-inside.free.items long (inv.tells place h) (inv.seated place h) c.seat.new.qubits.items c.seat.new.free.items seats).0;
       seated = λ place h.
-      subst (λ k. IsSeated f (on_below f p k) c.args.self.now.width (place_outputs f p place k) (times_in c.seat.new.free.items)) (sym (add-one n))
-      (seated_output f p c.args.self.now.width c.requires.fits n within (place_outputs f p place n) c.loop-n.self-inside.qubits.items c.loop-n.self-inside.free.items long (inv.tells place h) (inv.seated place h) c.seat.new.qubits.items c.seat.new.free.items seats).1;
+          subst (λ k. IsSeated f (on_below f p k) c.args.self.now.width (place_outputs f p place k) (times_in c.seat.new.free.items)) (sym (add-one n))
+          (seated_output f p c.args.self.now.width c.requires.fits n within (place_outputs f p place n) c.loop-n.self-inside.qubits.items c.loop-n.self-inside.free.items long (inv.tells place h) (inv.seated place h) c.seat.new.qubits.items c.seat.new.free.items seats).1;
     }
 
 pub returns-clause-made : goal.returns-clause-made
