@@ -1,14 +1,12 @@
 -- The example is a flat form, and its one move may come.
-use Rattle.std.proofs.Common.{◌≡◌, ℕ, zero, suc, ◌<◌, ◌≤◌, ◌⊎◌, inl, inr, Bool, true, false, Some, None, List, [], ◌∷◌, Contains, length, get_or, slice_get, refl, sym, ◌∙◌, ap, subst, arith, lit<, lit≤}
-use Rattle.std.proofs.lemmas.Bool.{both_ways, eqb-false}
-use Rattle.std.proofs.lemmas.Option.{slice_get_within}
-use Rattle.flat_core.specs.declared.step.End.{End}
-use Rattle.flat_core.specs.declared.step.End.TheVariants.{Output, Dropped, Measured, Zeroed}
+use Rattle.std.proofs.Common.{◌≡◌, ℕ, zero, suc, ◌<◌, ◌≤◌, true, false, Some, List, [], ◌∷◌, Contains, get_or, slice_get, refl, sym, ◌∙◌, ap, subst, arith, lit<, lit≤}
+use Rattle.std.proofs.lemmas.Bool.{both_ways}
+use Rattle.flat_core.specs.declared.step.End.TheVariants.{Output}
 use Rattle.flat_core.specs.declared.step.WireId.{WireId}
 use Rattle.flat_core.specs.Form.{FlatForm, DraftForm}
 use Rattle.flat_core.specs.Label.{wire_id, end_of, is_input}
 use Rattle.flat_core.specs.Sound.{NamesExactly, IsFlat}
-use Rattle.flat_core.specs.Drafts.{IsDraft, FitsEnds, finished}
+use Rattle.flat_core.specs.Drafts.{IsDraft, finished}
 use Rattle.flat_core.specs.Ends.{is_dropped}
 use Rattle.flat_core.proofs.Finishes.{drafts_become_flat}
 use Rattle.flat_mean.specs.Path.{count_inputs}

@@ -1,15 +1,13 @@
 -- What a placer's rows tell as a move is made.
-use Rattle.std.proofs.Common.{◌≡◌, ℕ, suc, pred, ◌+◌, ◌<◌, ◌≤◌, ◌⊎◌, inl, inr, Bool, true, false, cond, not, nat_lt, ◌==◌, ◌&&◌, ◌||◌, Option, Some, None, IfSome, List, [], ◌∷◌, length, get_or, slice_set, All, refl, sym, ◌∙◌, ap, ap₂, subst, arith, get_or-set_same, get_or-set_other}
+use Rattle.std.proofs.Common.{◌≡◌, ℕ, suc, pred, ◌+◌, ◌<◌, ◌≤◌, ◌⊎◌, inl, inr, Bool, true, false, cond, not, nat_lt, ◌==◌, ◌&&◌, ◌||◌, Option, Some, None, IfSome, List, ◌∷◌, length, get_or, slice_set, refl, sym, ◌∙◌, ap, ap₂, subst, arith, get_or-set_same, get_or-set_other}
 use Rattle.std.proofs.lemmas.Bool.{cases_Bool, both_ways, eq-eqb, eqb-true, eqb-false, ne_eqb, false_from_ne_true, or_left, or_right}
-use Rattle.std.specs.List.Sorted.{IsPermutation}
-use Rattle.flat_core.specs.declared.step.Step.{Step}
 use Rattle.flat_core.specs.declared.step.WireId.{WireId}
 use Rattle.flat_core.specs.declared.step.StepId.{StepId}
 use Rattle.flat_core.specs.Form.{FlatForm}
 use Rattle.flat_core.specs.Label.{wire_id, same_wire, changes, main_wire, step_at, is_input}
 use Rattle.flat_core.specs.Ends.{measures}
 use Rattle.flat_core.specs.Sound.{IsFlat}
-use Rattle.flat_core.proofs.Labels.{same_wire_is, same_wire-refl, main_of_changed, main_of_measured}
+use Rattle.flat_core.proofs.Labels.{same_wire_is, main_of_changed, main_of_measured}
 use Rattle.move_plan.specs.declared.moves.Move.{Move}
 use Rattle.move_plan.specs.declared.moves.Move.TheVariants.{Up, Down, Do, Free}
 use Rattle.move_plan.specs.Progress.{Progress, Stands, moved}
@@ -20,7 +18,7 @@ use Rattle.qubit_alloc.specs.Place.{Place, main_of, least_free, put_on, place_wi
 use Rattle.qubit_alloc.specs.State.{times_in, IsSeated, TellsOf, Takes, Seats, SeatsIfAny, Gives, GivesIfAny, keep_if, unless}
 use Rattle.qubit_alloc.proofs.Pigeon.{count_more, count_max}
 use Rattle.qubit_alloc.proofs.Lives.{live_new, live_stay}
-use Rattle.qubit_alloc.proofs.Placing.{placed_more, placed_less}
+use Rattle.qubit_alloc.proofs.Placing.{placed_more}
 use Rattle.qubit_alloc.proofs.Seating.{times_cons, times_permuted, times_least, seated_same, seated_more, seated_less, some_free, taken_least, room_for}
 
 -- a row written

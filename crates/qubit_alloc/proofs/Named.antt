@@ -1,5 +1,5 @@
 -- The wires that a move names are on qubits in it.
-use Rattle.std.proofs.Common.{◌≡◌, ℕ, ◌<◌, ◌⊎◌, inl, inr, Bool, true, false, cond, ◌||◌, Option, Some, None, IfSome, [], ◌∷◌, length, Contains, option_map, refl, sym, ◌∙◌, ap, ap₂, subst, arith}
+use Rattle.std.proofs.Common.{◌≡◌, ℕ, ◌<◌, ◌⊎◌, inl, inr, Bool, true, false, cond, ◌||◌, Option, Some, None, IfSome, length, Contains, option_map, refl, ap, arith}
 use Rattle.std.proofs.lemmas.Bool.{cases_Bool, or_left, or_right}
 use Rattle.std.proofs.lemmas.List.Elements.{Contains-append_left, Contains-append_right}
 use Rattle.flat_core.specs.declared.step.Step.{Step}
@@ -11,7 +11,7 @@ use Rattle.flat_core.specs.Form.{FlatForm}
 use Rattle.flat_core.specs.Label.{used, control_wires, wire_of, main_wire, first_wire, second_wire, EachControl, EachNamed, step_at, is_input, label_before}
 use Rattle.flat_core.specs.Sound.{IsFlat}
 use Rattle.move_plan.specs.declared.moves.Move.{Move}
-use Rattle.move_plan.specs.declared.moves.Move.TheVariants.{Up, Down, Do, Free}
+use Rattle.move_plan.specs.declared.moves.Move.TheVariants.{Up, Down, Do}
 use Rattle.move_plan.specs.Progress.{Progress, StandsAt, Stands, moved}
 use Rattle.move_plan.specs.Live.{live}
 use Rattle.qubit_alloc.specs.declared.placed.Placed.{Placed}

@@ -1,18 +1,18 @@
 -- Placing keeps live wires on different qubits below the width.
-use Rattle.std.proofs.Common.{◌≡◌, ◌≢◌, ℕ, zero, suc, ◌+◌, ◌<◌, ◌≤◌, ◌⊎◌, inl, inr, Bool, true, false, cond, not, nat_lt, ◌==◌, ◌&&◌, ◌||◌, max, Option, Some, None, IfSome, List, [], ◌∷◌, ◌++◌, length, take, refl, sym, ◌∙◌, ap, ap₂, subst, arith, add-one}
-use Rattle.std.proofs.lemmas.Bool.{cases_Bool, cases_order, both_ways, not-true, not-false, or_cases, or_left, or_right, and_parts, eq-eqb, eqb-true, lt-ltb, ltb-true}
+use Rattle.std.proofs.Common.{◌≡◌, ℕ, zero, suc, ◌+◌, ◌<◌, ◌≤◌, ◌⊎◌, inl, inr, Bool, true, false, cond, not, nat_lt, ◌==◌, ◌&&◌, Option, Some, None, IfSome, List, [], ◌∷◌, ◌++◌, length, refl, sym, ◌∙◌, ap, ap₂, subst, arith}
+use Rattle.std.proofs.lemmas.Bool.{cases_order, both_ways, not-true, not-false, or_cases, or_left, or_right, and_parts, eq-eqb, lt-ltb, ltb-true}
 use Rattle.flat_core.specs.declared.step.WireId.{WireId}
 use Rattle.flat_core.specs.Form.{FlatForm}
-use Rattle.flat_core.specs.Label.{wire_id, same_wire, end_of, is_input, step_at, main_wire}
+use Rattle.flat_core.specs.Label.{wire_id, same_wire, end_of}
 use Rattle.flat_core.specs.Sound.{IsFlat}
 use Rattle.flat_core.proofs.Labels.{same_wire_is}
 use Rattle.move_plan.specs.declared.moves.Move.{Move}
 use Rattle.move_plan.specs.declared.moves.Move.TheVariants.{Up, Down, Do, Free}
-use Rattle.move_plan.specs.Progress.{Progress, Stands, at_start, moved, AllStand, progress}
+use Rattle.move_plan.specs.Progress.{Progress, Stands, moved, AllStand, progress}
 use Rattle.move_plan.specs.Effect.{is_output}
-use Rattle.move_plan.specs.Live.{live, live_at_end, count_wires, width_from, width}
+use Rattle.move_plan.specs.Live.{live, live_at_end, count_wires, width_from}
 use Rattle.move_plan.proofs.Counts.{width_from-ge}
-use Rattle.qubit_alloc.specs.Place.{Place, main_of, any_below, is_taken, least_free, put_on, place_wire, place_if_any, place_move, place_all, on_below, place_outputs, at_end, IsPlaced}
+use Rattle.qubit_alloc.specs.Place.{Place, main_of, is_taken, least_free, put_on, place_wire, place_if_any, place_move, place_all, on_below, place_outputs, at_end, IsPlaced}
 use Rattle.qubit_alloc.proofs.Pigeon.{pigeons, find_below, first_found, any_at, count_more, count_max}
 use Rattle.qubit_alloc.proofs.Lives.{live_back, live_new, live_stay}
 

@@ -1,6 +1,5 @@
-use Rattle.std.proofs.Common.{◌≡◌, ◌≤◌, sym, ◌∙◌, ap, subst}
+use Rattle.std.proofs.Common.{◌≤◌, sym, ◌∙◌, ap, subst}
 use Rattle.flat_core.specs.declared.step.WireId.{WireId}
-use Rattle.flat_core.specs.Label.{wire_id}
 use Rattle.move_plan.specs.declared.moves.Move.TheVariants.{Free}
 use Rattle.move_plan.specs.Progress.{Stands, moved}
 use Rattle.move_plan.specs.Live.{live, live_at_end, count_wires}

@@ -1,11 +1,9 @@
-use Rattle.std.proofs.Common.{◌≡◌, ℕ, suc, ◌+◌, ◌≤◌, ◌<◌, Bool, true, cond, Option, Some, None, IfSome, List, length, get_or, sym, ◌∙◌, ap, ap₂, subst, arith, add-one}
+use Rattle.std.proofs.Common.{◌≡◌, ℕ, ◌<◌, Option, None, IfSome, List, length, get_or, sym, ◌∙◌, ap, subst, arith, add-one}
 use Rattle.flat_core.specs.declared.step.WireId.{WireId}
-use Rattle.flat_core.specs.Label.{wire_id, end_of}
 use Rattle.move_plan.specs.Progress.{Progress}
-use Rattle.move_plan.specs.Effect.{is_output, number_of}
-use Rattle.move_plan.specs.Live.{live, live_at_end}
-use Rattle.qubit_alloc.specs.Place.{Place, on_below, place_outputs, at_end}
-use Rattle.qubit_alloc.specs.State.{PlacerState, progress_of, state_of, qubit_told, told, times_in, TellsOf, IsSeated, SeatsIfAny}
+use Rattle.move_plan.specs.Live.{live}
+use Rattle.qubit_alloc.specs.Place.{on_below, place_outputs, at_end}
+use Rattle.qubit_alloc.specs.State.{PlacerState, progress_of, state_of, told, times_in, TellsOf, IsSeated, SeatsIfAny}
 use Rattle.qubit_alloc.proofs.Moving.{rows_told}
 use Rattle.qubit_alloc.proofs.Turning.{tells_open, seated_open}
 use Rattle.qubit_alloc.proofs.Finishing.{output_at, some_output, seated_output, below_first, tells_same, on_same, ended_tells, ended_seated}
