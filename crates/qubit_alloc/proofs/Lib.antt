@@ -1,0 +1,16 @@
+pub mod Pigeon
+pub mod Lives
+pub mod Placing
+pub mod Starting
+pub mod ApartLaws
+pub mod Spreading
+pub mod Named
+pub mod Composed
+pub mod Circuit
+pub mod Heaps
+pub mod Seating
+pub mod Moving
+pub mod Turning
+pub mod Finishing
+pub mod Examples
+pub mod ExampleForm
