@@ -1,0 +1,6 @@
+#![tactic(auto)]
+//! Wires on qubits: which qubit each wire stands on, move by move.
+
+pub mod placed;
+
+pub use placed::Placed;
