@@ -1,3 +1,4 @@
 pub mod Place
 pub mod PlacedMoves
 pub mod Spread
+pub mod Laws

@@ -1,0 +1,64 @@
+-- Where the wires stand at the start.
+use Rattle.std.proofs.Common.{◌≡◌, ℕ, zero, suc, ◌+◌, ◌<◌, ◌≤◌, ◌⊎◌, inl, inr, Bool, true, false, cond, not, nat_lt, ◌==◌, ◌&&◌, ◌||◌, List, length, take, count_by, refl, sym, ◌∙◌, ap, ap₂, subst, arith, add-one, take_all, le_refl, eq-or-lt_of_le, le_of_suc-le-suc}
+use Rattle.std.proofs.lemmas.Bool.{cases_order, cases_lt}
+use Rattle.std.proofs.lemmas.List.Sums.{sum_by_more}
+use Rattle.flat_core.specs.declared.step.WireId.{WireId}
+use Rattle.flat_core.specs.Form.{FlatForm, WireForm}
+use Rattle.flat_core.specs.Label.{wire_id, is_input, no_wire}
+use Rattle.flat_mean.specs.Path.{sum_below, inputs_before, count_inputs}
+use Rattle.flat_mean.proofs.Below.{sum_below_ext}
+use Rattle.move_plan.specs.Progress.{at_start}
+use Rattle.move_plan.specs.Live.{live, count_wires}
+use Rattle.qubit_alloc.specs.Place.{first_place, IsPlaced}
+
+abbrev one_if : Bool → ℕ
+one_if b = cond b 1 0
+
+module _ (f : FlatForm) where
+  pub inputs_more : (n : ℕ) → n < length f.wires → inputs_before f.wires (n + 1) ≡ inputs_before f.wires n + cond (is_input f (wire_id n)) 1 0
+  inputs_more n h = sum_by_more (λ (w : WireForm). cond w.input 1 0) f.wires n no_wire h
+
+  -- at the start the inputs are live
+  pub live_start : (w : WireId) → live f at_start w ≡ is_input f w
+  live_start w = by (is_input f w)
+    where
+      by : (b : Bool) → (not false && (b || nat_lt 0 0 || false)) ≡ b
+      by true = refl
+      by false = refl
+
+  inputs_below : (n : ℕ) → n ≤ length f.wires → sum_below n (λ q. cond (live f at_start (wire_id q)) 1 0) ≡ inputs_before f.wires n
+  inputs_below zero h = refl
+  inputs_below (suc n) h =
+      let more : inputs_before f.wires (n + 1) ≡ inputs_before f.wires n + cond (is_input f (wire_id n)) 1 0 = inputs_more n (omega arith) in
+      ap₂ ◌+◌ (inputs_below n (omega arith)) (ap (λ b. cond b 1 0) (live_start (wire_id n))) ∙ (sym more ∙ ap (inputs_before f.wires) (add-one n))
+
+  pub count_start : count_wires f (live f at_start) ≡ count_inputs f.wires
+  count_start = inputs_below (length f.wires) (le_refl (length f.wires)) ∙ ap (count_by (λ (w : WireForm). w.input)) (take_all (length f.wires) f.wires (le_refl (length f.wires)))
+
+  -- each input comes after those before it
+  pub first_less : (v n : ℕ) → v < n → n ≤ length f.wires → is_input f (wire_id v) ≡ true → inputs_before f.wires v + 1 ≤ inputs_before f.wires n
+  first_less v zero lt nl on = absurd (omega arith)
+  first_less v (suc n) lt nl on = by (first_less v n) (eq-or-lt_of_le (le_of_suc-le-suc lt))
+    where
+      more : inputs_before f.wires (suc n) ≡ inputs_before f.wires n + cond (is_input f (wire_id n)) 1 0
+      more = ap (inputs_before f.wires) (sym (add-one n)) ∙ inputs_more n (omega arith)
+
+      by : (v < n → n ≤ length f.wires → is_input f (wire_id v) ≡ true → inputs_before f.wires v + 1 ≤ inputs_before f.wires n) → (v ≡ n) ⊎ (v < n) → inputs_before f.wires v + 1 ≤ inputs_before f.wires (suc n)
+      by ih (inl e) =
+          let one : one_if (is_input f (wire_id n)) ≡ 1 = ap one_if (ap (λ (k : ℕ). is_input f (wire_id k)) (sym e) ∙ on) in
+          let same : inputs_before f.wires v ≡ inputs_before f.wires n = ap (inputs_before f.wires) e in
+          omega (arith, more, one, same)
+      by ih (inr l) = let h : inputs_before f.wires v + 1 ≤ inputs_before f.wires n = ih l (omega arith) on in omega (arith, more, h)
+
+  pub placed_start : (wide : ℕ) → count_wires f (live f at_start) ≤ wide → IsPlaced f (live f at_start) wide (first_place f)
+  placed_start wide fits = record {
+    below = λ w wl on.
+        let h : inputs_before f.wires w.number + 1 ≤ inputs_before f.wires (length f.wires) = first_less w.number (length f.wires) wl (le_refl (length f.wires)) (sym (live_start w) ∙ on) in
+        let all : count_wires f (live f at_start) ≡ inputs_before f.wires (length f.wires) = inputs_below (length f.wires) (le_refl (length f.wires)) in
+        omega (arith, h, all, fits);
+    apart = λ v w vl wl ov ow e. elim (cases_order v.number w.number) [
+      | inl s ↦ ap wire_id s
+      | inr (inl l) ↦ let h : inputs_before f.wires v.number + 1 ≤ inputs_before f.wires w.number = first_less v.number w.number l (omega arith) (sym (live_start v) ∙ ov) in absurd (omega (arith, h, e))
+      | inr (inr l) ↦ let h : inputs_before f.wires w.number + 1 ≤ inputs_before f.wires v.number = first_less w.number v.number l (omega arith) (sym (live_start w) ∙ ow) in absurd (omega (arith, h, e))
+    ];
+  }
