@@ -30,3 +30,9 @@ set-register (suc n) row zero b = ap (λ (u : List Bool). b ∷ u) (ap (register
 set-register (suc n) row (suc q) b =
     ap₂ (λ (x : Bool) (u : List Bool). x ∷ u) (sym (put_first q b row))
     (set-register n (λ k. row (suc k)) q b ∙ ap (register n) (sym (fun_ext (put_suc q b row))))
+
+-- a value of 0 is a bit of 0, also past the end
+pub zero-register : (n : ℕ) (row : Row) (q : ℕ) → row q ≡ false → get_or (register n row) q false ≡ false
+zero-register zero row q e = refl
+zero-register (suc n) row zero e = e
+zero-register (suc n) row (suc q) e = zero-register n (λ k. row (suc k)) q e

@@ -1,10 +1,60 @@
 -- The laws that join moves on wires to gates, as statements.
-use Rattle.std.specs.Prelude.{◌≡◌, ℕ, Bool, List, [], ◌∷◌}
-use Rattle.flat_mean.specs.Row.{bits_of}
-use Rattle.flat_mean.specs.Terms.{Term}
-use Rattle.sum_laws.specs.Terms.{apply}
-use Rattle.gate_emit.specs.Plans.{effect_of}
+use Rattle.std.specs.Prelude.{◌≡◌, ◌<◌, ◌≤◌, ℕ, Bool, true, List, [], ◌∷◌, length, map, Contains}
+use Rattle.amp_core.specs.Amplitude.{none, Same}
+use Rattle.sum_laws.specs.Terms.{apply, amplitude}
+use Rattle.flat_core.specs.declared.step.WireId.{WireId}
+use Rattle.flat_core.specs.Form.{FlatForm}
+use Rattle.flat_core.specs.Sound.{IsFlat, joined as wires_joined}
+use Rattle.flat_mean.specs.Row.{Row, bits_of}
+use Rattle.flat_mean.specs.Terms.{Term, each}
+use Rattle.flat_mean.specs.Laws.{path_amplitude}
+use Rattle.move_plan.specs.declared.moves.Move.{Move}
+use Rattle.move_plan.specs.Progress.{IsPlan}
+use Rattle.move_plan.specs.Live.{width}
+use Rattle.move_plan.specs.Laws.{IsInput, ZeroedAreZero}
+use Rattle.gate_core.specs.Meaning.{bit_at, joined}
+use Rattle.gate_core.specs.Local.{AllDiffer, AllBelow}
+use Rattle.gate_core.specs.Circuit.{IsSound}
+use Rattle.gate_emit.specs.Plans.{effect_of, run_moves, MoveFits, Sound}
 use Rattle.qubit_alloc.specs.declared.placed.Placed.{Placed}
-use Rattle.qubit_alloc.specs.Spread.{do_placed}
+use Rattle.qubit_alloc.specs.Spread.{do_placed, do_all_placed}
 use Rattle.plan_gates.specs.Registers.{registers}
 use Rattle.plan_gates.specs.PlacedMoves.{move_of_placed}
+use Rattle.plan_gates.specs.PlanCircuit.{plan_moves, gates_of_plan, in_qubits, out_qubits, plan_terms, result_bits}
+
+-- a placed move does to the bits of a register, term by term, what it does to the values of the qubits
+pub record PlacedMovesActOnBits : Type 0 where
+  pub of_a_move :
+      (n k : ℕ) (bits : List ℕ) (outcome : List Bool) (pl : Placed) (ts : List Term) → MoveFits n k bits (move_of_placed pl)
+      → apply (effect_of outcome (move_of_placed pl)) (registers n ts) ≡ registers n (each (do_placed (bits_of outcome) pl) ts)
+  pub of_moves :
+      (n k : ℕ) (bits : List ℕ) (outcome : List Bool) (pls : List Placed) (ts : List Term) → Sound n k bits (map move_of_placed pls)
+      → run_moves outcome (map move_of_placed pls) (registers n ts) ≡ registers n (do_all_placed (bits_of outcome) pls ts)
+
+-- the moves of a plan and their gates fit a register of its width, and so do the qubits of the inputs and of the outputs
+pub record PlanFits (f : FlatForm) (moves : List Move) (wide : ℕ) : Type 0 where
+  pub moves_fit : Sound wide f.outcomes [] (plan_moves f moves)
+  pub circuit : IsSound wide f.outcomes (gates_of_plan f moves)
+  pub ins_differ : AllDiffer (joined (in_qubits f))
+  pub ins_in_range : AllBelow wide (joined (in_qubits f))
+  pub outs_differ : AllDiffer (joined (out_qubits f moves))
+  pub outs_in_range : AllBelow wide (joined (out_qubits f moves))
+
+abbrev pub PlansFit : Type 0
+PlansFit = (f : FlatForm) (moves : List Move) (wide : ℕ) → IsFlat f → IsPlan f moves → width f moves ≤ wide → PlanFits f moves wide
+
+-- the circuit of a plan gives what the paths of the flat form give: to each value of the results the sum of the weights of
+-- the agreeing paths that have it at the tops, and to each value with a 1 on another qubit nothing
+pub record GivesPaths (f : FlatForm) (moves : List Move) (wide : ℕ) (input : Row) (outcome : List Bool) : Type 0 where
+  pub on_results :
+      (values : List Bool) → length values ≡ length (wires_joined f.outs)
+      → Same (amplitude (result_bits f moves wide values) (plan_terms f moves wide input outcome)) (path_amplitude f.steps input (bits_of outcome) (wires_joined f.outs) values)
+  pub elsewhere :
+      (bits : List Bool) (q : ℕ) → bit_at bits q ≡ true → ¬ Contains (joined (out_qubits f moves)) q
+      → Same (amplitude bits (plan_terms f moves wide input outcome)) none
+
+abbrev pub CircuitGivesPaths : Type 0
+CircuitGivesPaths =
+    (f : FlatForm) (moves : List Move) (wide : ℕ) (input : Row) (outcome : List Bool)
+    → IsFlat f → IsInput f input → ZeroedAreZero f input → IsPlan f moves → width f moves ≤ wide
+    → GivesPaths f moves wide input outcome

@@ -1,3 +1,4 @@
 pub mod Registers
 pub mod PlacedMoves
+pub mod PlanCircuit
 pub mod Laws
