@@ -4,3 +4,4 @@ pub mod Placing
 pub mod Starting
 pub mod ApartLaws
 pub mod Spreading
+pub mod Named
