@@ -5,3 +5,5 @@ pub mod Sums
 pub mod Lists
 pub mod Ends
 pub mod Paths
+pub mod Numbers
+pub mod Fits
