@@ -5,3 +5,5 @@ pub mod Starting
 pub mod ApartLaws
 pub mod Spreading
 pub mod Named
+pub mod Composed
+pub mod Circuit
