@@ -1,2 +1,6 @@
 #![tactic(auto)]
-//! From a plan's moves to the gates of a circuit.
+//! From placed moves to the gates of a circuit, and the proof that the circuit gives what the paths of the flat form give.
+
+pub mod placed_gates;
+
+pub use placed_gates::{emit_placed, placed_move};
