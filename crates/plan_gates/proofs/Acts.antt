@@ -158,7 +158,7 @@ module _ (outcome : List Bool) (n : ℕ) (t : Term) where
       either (Some s) fits = step_acts k bs pl s fits
       either None fits = freed_acts k bs pl pl.end pl.target fits
 
-each_acts : (n k : ℕ) (bs : List ℕ) (outcome : List Bool) (pl : Placed) (ts : List Term) → MoveFits n k bs (move_of_placed pl) → apply (effect_of outcome (move_of_placed pl)) (registers n ts) ≡ registers n (each (do_placed (bits_of outcome) pl) ts)
+pub each_acts : (n k : ℕ) (bs : List ℕ) (outcome : List Bool) (pl : Placed) (ts : List Term) → MoveFits n k bs (move_of_placed pl) → apply (effect_of outcome (move_of_placed pl)) (registers n ts) ≡ registers n (each (do_placed (bits_of outcome) pl) ts)
 unfolding apply
 each_acts n k bs outcome pl [] fits = refl
 each_acts n k bs outcome pl (t ∷ ts) fits =

@@ -7,3 +7,5 @@ pub mod Ends
 pub mod Paths
 pub mod Numbers
 pub mod Fits
+pub mod Emitted
+pub mod PlanLaws

@@ -1,5 +1,5 @@
 -- The laws that join moves on wires to gates, as statements.
-use Rattle.std.specs.Prelude.{◌≡◌, ◌<◌, ◌≤◌, ℕ, Bool, true, List, [], ◌∷◌, length, map, Contains}
+use Rattle.std.specs.Prelude.{◌≡◌, ◌<◌, ◌≤◌, ℕ, Bool, true, List, [], ◌∷◌, ◌++◌, length, map, Contains}
 use Rattle.amp_core.specs.Amplitude.{none, Same}
 use Rattle.sum_laws.specs.Terms.{apply, amplitude}
 use Rattle.flat_core.specs.declared.step.WireId.{WireId}
@@ -9,17 +9,19 @@ use Rattle.flat_mean.specs.Row.{Row, bits_of}
 use Rattle.flat_mean.specs.Terms.{Term, each}
 use Rattle.flat_mean.specs.Laws.{path_amplitude}
 use Rattle.move_plan.specs.declared.moves.Move.{Move}
-use Rattle.move_plan.specs.Progress.{IsPlan}
+use Rattle.move_plan.specs.Progress.{Progress, Stands, at_start, progress, IsPlan}
 use Rattle.move_plan.specs.Live.{width}
 use Rattle.move_plan.specs.Laws.{IsInput, ZeroedAreZero}
 use Rattle.gate_core.specs.Meaning.{bit_at, joined}
 use Rattle.gate_core.specs.Local.{AllDiffer, AllBelow}
 use Rattle.gate_core.specs.Circuit.{IsSound}
-use Rattle.gate_emit.specs.Plans.{effect_of, run_moves, MoveFits, Sound}
+use Rattle.gate_emit.specs.Plans.{gates_of, effect_of, run_moves, MoveFits, Sound}
 use Rattle.qubit_alloc.specs.declared.placed.Placed.{Placed}
+use Rattle.qubit_alloc.specs.Place.{Place, first_place, place_all}
+use Rattle.qubit_alloc.specs.PlacedMoves.{placed_of}
 use Rattle.qubit_alloc.specs.Spread.{do_placed, do_all_placed}
 use Rattle.plan_gates.specs.Registers.{registers}
-use Rattle.plan_gates.specs.PlacedMoves.{move_of_placed}
+use Rattle.plan_gates.specs.PlacedMoves.{CanBeEmitted, move_of_placed}
 use Rattle.plan_gates.specs.PlanCircuit.{plan_moves, gates_of_plan, in_qubits, out_qubits, plan_terms, result_bits}
 
 -- a placed move does to the bits of a register, term by term, what it does to the values of the qubits
@@ -30,6 +32,17 @@ pub record PlacedMovesActOnBits : Type 0 where
   pub of_moves :
       (n k : ℕ) (bits : List ℕ) (outcome : List Bool) (pls : List Placed) (ts : List Term) → Sound n k bits (map move_of_placed pls)
       → run_moves outcome (map move_of_placed pls) (registers n ts) ≡ registers n (do_all_placed (bits_of outcome) pls ts)
+
+-- what placing tells of a move that may come is what its gates ask for
+abbrev pub PlacedMovesCanBeEmitted : Type 0
+PlacedMovesCanBeEmitted = (f : FlatForm) (p : Progress) (place : Place) (m : Move) → IsFlat f → Stands f p m → CanBeEmitted (placed_of f p place m)
+
+-- one more move adds its gates at the end
+abbrev pub OneMoreMoveAddsItsGates : Type 0
+OneMoreMoveAddsItsGates =
+    (f : FlatForm) (before : List Move) (m : Move)
+    → gates_of_plan f (before ++ m ∷ [])
+    ≡ gates_of_plan f before ++ gates_of (move_of_placed (placed_of f (progress f at_start before) (place_all f at_start (first_place f) before) m))
 
 -- the moves of a plan and their gates fit a register of its width, and so do the qubits of the inputs and of the outputs
 pub record PlanFits (f : FlatForm) (moves : List Move) (wide : ℕ) : Type 0 where
@@ -53,8 +66,8 @@ pub record GivesPaths (f : FlatForm) (moves : List Move) (wide : ℕ) (input : R
       (bits : List Bool) (q : ℕ) → bit_at bits q ≡ true → ¬ Contains (joined (out_qubits f moves)) q
       → Same (amplitude bits (plan_terms f moves wide input outcome)) none
 
-abbrev pub CircuitGivesPaths : Type 0
-CircuitGivesPaths =
+abbrev pub GatesGivePaths : Type 0
+GatesGivePaths =
     (f : FlatForm) (moves : List Move) (wide : ℕ) (input : Row) (outcome : List Bool)
     → IsFlat f → IsInput f input → ZeroedAreZero f input → IsPlan f moves → width f moves ≤ wide
     → GivesPaths f moves wide input outcome

@@ -1,6 +1,7 @@
 #![tactic(auto)]
 //! From placed moves to the gates of a circuit, and the proof that the circuit gives what the paths of the flat form give.
 
+pub mod laws;
 pub mod placed_gates;
 
 pub use placed_gates::{emit_placed, placed_move};
