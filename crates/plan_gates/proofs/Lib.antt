@@ -9,3 +9,4 @@ pub mod Numbers
 pub mod Fits
 pub mod Emitted
 pub mod PlanLaws
+pub mod Examples
