@@ -26,7 +26,7 @@ use Rattle.qubit_alloc.specs.Spread.{spread, spread_term, spread_all, to_qubit, 
 use Rattle.qubit_alloc.specs.Laws.{InputsStandFirst, PlacedMovesAgree, PlacedPlansAgree, CircuitGivesPaths, OtherQubitsZero}
 use Rattle.qubit_alloc.proofs.Pigeon.{count_max}
 use Rattle.qubit_alloc.proofs.Placing.{placed_move}
-use Rattle.qubit_alloc.proofs.Starting.{inputs_more, live_start, first_less, placed_start, count_start}
+use Rattle.qubit_alloc.proofs.Starting.{inputs_more, live_start, first_less, first_is, placed_start}
 use Rattle.qubit_alloc.proofs.ApartLaws.{outputs_apart}
 use Rattle.qubit_alloc.proofs.Spreading.{Apart, any_none, spread-at, spread_same}
 use Rattle.qubit_alloc.proofs.Composed.{apart_of, Idle, one_live, place_kept, spread_each, all_map, moves_on}
@@ -195,7 +195,7 @@ module _ (f : FlatForm) (input : ℕ → Bool) where
     | inl l ↦
         let g = find_input (length f.wires) j (le_refl (length f.wires)) (subst (λ n. j < n) (sym all_before) l) in
         let pl = placed_start f (length f.wires) (count_max (length f.wires) (λ n. live f at_start (wire_id n))) in
-        ap (first_row f (input_row f.wires input)) (sym g.3)
+        ap (first_row f (input_row f.wires input)) (sym (first_is f g.0 g.2 ∙ g.3))
         ∙ spread-at f (live f at_start) (first_place f) (input_row f.wires input) (apart_of f (live f at_start) (length f.wires) (first_place f) pl) g.0 g.1 (live_start f g.0 ∙ g.2)
         ∙ ap₂ (λ b n. b && input n) g.2 g.3
         ∙ sym (ap (λ b. b && input j) (lt-ltb j (count_inputs f.wires) l))
@@ -208,8 +208,9 @@ module _ (f : FlatForm) (input : ℕ → Bool) where
       none past k kl false b ea eb = refl
       none past k kl true false ea eb = refl
       none past k kl true true ea eb =
-          let less : inputs_before f.wires k + 1 ≤ inputs_before f.wires (length f.wires) = first_less f k (length f.wires) kl (le_refl (length f.wires)) (sym (live_start f (wire_id k)) ∙ ea) in
-          let at : inputs_before f.wires k ≡ j = eqb-true (first_place f (wire_id k)) j eb in
+          let on : is_input f (wire_id k) ≡ true = sym (live_start f (wire_id k)) ∙ ea in
+          let less : inputs_before f.wires k + 1 ≤ inputs_before f.wires (length f.wires) = first_less f k (length f.wires) kl (le_refl (length f.wires)) on in
+          let at : inputs_before f.wires k ≡ j = sym (first_is f (wire_id k) on) ∙ eqb-true (first_place f (wire_id k)) j eb in
           let all = all_before in
           absurd (omega (arith, less, at, all, past))
 

@@ -50,15 +50,27 @@ module _ (f : FlatForm) where
           omega (arith, more, one, same)
       by ih (inr l) = let h : inputs_before f.wires v + 1 ≤ inputs_before f.wires n = ih l (omega arith) on in omega (arith, more, h)
 
+  pub first_is : (w : WireId) → is_input f w ≡ true → first_place f w ≡ inputs_before f.wires w.number
+  first_is w on = ap (λ b. cond b (inputs_before f.wires w.number) 0) on
+
   pub placed_start : (wide : ℕ) → count_wires f (live f at_start) ≤ wide → IsPlaced f (live f at_start) wide (first_place f)
   placed_start wide fits = record {
     below = λ w wl on.
-        let h : inputs_before f.wires w.number + 1 ≤ inputs_before f.wires (length f.wires) = first_less w.number (length f.wires) wl (le_refl (length f.wires)) (sym (live_start w) ∙ on) in
+        let i : is_input f w ≡ true = sym (live_start w) ∙ on in
+        let at : first_place f w ≡ inputs_before f.wires w.number = first_is w i in
+        let h : inputs_before f.wires w.number + 1 ≤ inputs_before f.wires (length f.wires) = first_less w.number (length f.wires) wl (le_refl (length f.wires)) i in
         let all : count_wires f (live f at_start) ≡ inputs_before f.wires (length f.wires) = inputs_below (length f.wires) (le_refl (length f.wires)) in
-        omega (arith, h, all, fits);
-    apart = λ v w vl wl ov ow e. elim (cases_order v.number w.number) [
-      | inl s ↦ ap wire_id s
-      | inr (inl l) ↦ let h : inputs_before f.wires v.number + 1 ≤ inputs_before f.wires w.number = first_less v.number w.number l (omega arith) (sym (live_start v) ∙ ov) in absurd (omega (arith, h, e))
-      | inr (inr l) ↦ let h : inputs_before f.wires w.number + 1 ≤ inputs_before f.wires v.number = first_less w.number v.number l (omega arith) (sym (live_start w) ∙ ow) in absurd (omega (arith, h, e))
-    ];
+        omega (arith, at, h, all, fits);
+    apart = λ v w vl wl ov ow e. by v w vl wl (sym (live_start v) ∙ ov) (sym (live_start w) ∙ ow) e (cases_order v.number w.number);
   }
+    where
+      by : (v w : WireId) → v.number < length f.wires → w.number < length f.wires → is_input f v ≡ true → is_input f w ≡ true → first_place f v ≡ first_place f w → (v.number ≡ w.number) ⊎ ((v.number < w.number) ⊎ (w.number < v.number)) → v ≡ w
+      by v w vl wl iv iw e (inl s) = ap wire_id s
+      by v w vl wl iv iw e (inr (inl l)) =
+          let same : inputs_before f.wires v.number ≡ inputs_before f.wires w.number = sym (first_is v iv) ∙ e ∙ first_is w iw in
+          let h : inputs_before f.wires v.number + 1 ≤ inputs_before f.wires w.number = first_less v.number w.number l (omega arith) iv in
+          absurd (omega (arith, h, same))
+      by v w vl wl iv iw e (inr (inr l)) =
+          let same : inputs_before f.wires v.number ≡ inputs_before f.wires w.number = sym (first_is v iv) ∙ e ∙ first_is w iw in
+          let h : inputs_before f.wires w.number + 1 ≤ inputs_before f.wires v.number = first_less w.number v.number l (omega arith) iw in
+          absurd (omega (arith, h, same))

@@ -3,7 +3,7 @@ use Rattle.std.specs.Prelude.{◌≡◌, ℕ, zero, suc, ◌<◌, Bool, true, fa
 use Rattle.flat_core.specs.declared.step.Step.{Step}
 use Rattle.flat_core.specs.declared.step.WireId.{WireId}
 use Rattle.flat_core.specs.Form.{FlatForm}
-use Rattle.flat_core.specs.Label.{wire_id, same_wire, main_wire, step_at, end_of}
+use Rattle.flat_core.specs.Label.{wire_id, same_wire, main_wire, step_at, end_of, is_input}
 use Rattle.flat_mean.specs.Path.{inputs_before}
 use Rattle.move_plan.specs.declared.moves.Move.{Move}
 use Rattle.move_plan.specs.declared.moves.Move.TheVariants.{Up, Down, Do, Free}
@@ -67,7 +67,7 @@ place_all f p place (m ∷ ms) = place_all f (moved f p m) (place_move f p place
 
 -- the inputs stand on the qubits 0, 1 and so on, in the order of their wires
 abbrev pub first_place : FlatForm → Place
-first_place f w = inputs_before f.wires w.number
+first_place f w = cond (is_input f w) (inputs_before f.wires w.number) 0
 
 -- the wires on qubits at the end, once the Output wires among the first n are placed
 abbrev pub on_below : FlatForm → Progress → ℕ → WireId → Bool
