@@ -7,6 +7,7 @@ pub mod Ends
 pub mod Paths
 pub mod Numbers
 pub mod Fits
+pub mod Inputs
 pub mod Emitted
 pub mod PlanLaws
 pub mod Examples

@@ -1,11 +1,13 @@
 -- The laws that join moves on wires to gates, as statements.
 use Rattle.std.specs.Prelude.{◌≡◌, ◌<◌, ◌≤◌, ℕ, Bool, true, List, [], ◌∷◌, ◌++◌, length, map, Contains}
 use Rattle.amp_core.specs.Amplitude.{none, Same}
-use Rattle.sum_laws.specs.Terms.{apply, amplitude}
+use Rattle.sum_laws.specs.Terms.{apply, amplitude, positions}
 use Rattle.flat_core.specs.declared.step.WireId.{WireId}
 use Rattle.flat_core.specs.Form.{FlatForm}
+use Rattle.flat_core.specs.Label.{wire_id}
 use Rattle.flat_core.specs.Sound.{IsFlat, joined as wires_joined}
 use Rattle.flat_mean.specs.Row.{Row, bits_of}
+use Rattle.flat_mean.specs.Path.{input_row}
 use Rattle.flat_mean.specs.Terms.{Term, each}
 use Rattle.flat_mean.specs.Laws.{path_amplitude}
 use Rattle.move_plan.specs.declared.moves.Move.{Move}
@@ -22,7 +24,7 @@ use Rattle.qubit_alloc.specs.PlacedMoves.{placed_of}
 use Rattle.qubit_alloc.specs.Spread.{do_placed, do_all_placed}
 use Rattle.plan_gates.specs.Registers.{registers}
 use Rattle.plan_gates.specs.PlacedMoves.{CanBeEmitted, move_of_placed}
-use Rattle.plan_gates.specs.PlanCircuit.{plan_moves, gates_of_plan, in_qubits, out_qubits, plan_terms, result_bits}
+use Rattle.plan_gates.specs.PlanCircuit.{plan_moves, gates_of_plan, input_bits, in_qubits, out_qubits, plan_terms, result_bits}
 
 -- a placed move does to the bits of a register, term by term, what it does to the values of the qubits
 pub record PlacedMovesActOnBits : Type 0 where
@@ -43,6 +45,14 @@ OneMoreMoveAddsItsGates =
     (f : FlatForm) (before : List Move) (m : Move)
     → gates_of_plan f (before ++ m ∷ [])
     ≡ gates_of_plan f before ++ gates_of (move_of_placed (placed_of f (progress f at_start before) (place_all f at_start (first_place f) before) m))
+
+-- where the parameters' wires are the first ones in order, input bits begin on them in their order
+pub record BeginsWith (f : FlatForm) (bits : List Bool) : Type 0 where
+  pub is_input : IsInput f (input_row f.wires (bits_of bits))
+  pub in_order : input_bits f (input_row f.wires (bits_of bits)) ≡ bits
+
+abbrev pub InputsBeginInOrder : Type 0
+InputsBeginInOrder = (f : FlatForm) (bits : List Bool) → IsFlat f → wires_joined f.ins ≡ map wire_id (positions (length bits)) → BeginsWith f bits
 
 -- the moves of a plan and their gates fit a register of its width, and so do the qubits of the inputs and of the outputs
 pub record PlanFits (f : FlatForm) (moves : List Move) (wide : ℕ) : Type 0 where
