@@ -61,18 +61,21 @@ module _ (f : FlatForm) (ok : IsFlat f) (p : Progress) (place : Place) where
           is_told (Free w) (Some w) (or_left (live f p w) (live f (moved f p (Free w)) w) on)
 
 pub can_be_emitted : PlacedMovesCanBeEmitted
-can_be_emitted f p place (Up s) ok st =
-    (step_told f ok p place (Up s) (step_at f s) (placed_of f p place (Up s)) refl refl refl
-    (was_live f p place (Up s) (live f (moved f p (Up s))) (step_at f s) (λ w on. or_right (live f p w) (live f (moved f p (Up s)) w) on) (held_up f ok p s st)),
-    ok.eighths s st.1.step)
-can_be_emitted f p place (Do s) ok st =
-    (step_told f ok p place (Do s) (step_at f s) (placed_of f p place (Do s)) refl refl refl
-    (was_live f p place (Do s) (live f (moved f p (Do s))) (step_at f s) (λ w on. or_right (live f p w) (live f (moved f p (Do s)) w) on) (held_do f ok p s st)),
-    ok.eighths s st.2.step)
-can_be_emitted f p place (Down s) ok st =
-    (step_told f ok p place (Down s) (step_at f s) (placed_of f p place (Down s)) refl refl refl
-    (was_live f p place (Down s) (live f p) (step_at f s) (λ w on. or_left (live f p w) (live f (moved f p (Down s)) w) on) (held_down f ok p s st)),
-    ok.eighths s st.1.step)
+can_be_emitted f p place (Up s) ok st = (
+  step_told f ok p place (Up s) (step_at f s) (placed_of f p place (Up s)) refl refl refl
+      (was_live f p place (Up s) (live f (moved f p (Up s))) (step_at f s) (λ w on. or_right (live f p w) (live f (moved f p (Up s)) w) on) (held_up f ok p s st)),
+  ok.eighths s st.1.step,
+)
+can_be_emitted f p place (Do s) ok st = (
+  step_told f ok p place (Do s) (step_at f s) (placed_of f p place (Do s)) refl refl refl
+      (was_live f p place (Do s) (live f (moved f p (Do s))) (step_at f s) (λ w on. or_right (live f p w) (live f (moved f p (Do s)) w) on) (held_do f ok p s st)),
+  ok.eighths s st.2.step,
+)
+can_be_emitted f p place (Down s) ok st = (
+  step_told f ok p place (Down s) (step_at f s) (placed_of f p place (Down s)) refl refl refl
+      (was_live f p place (Down s) (live f p) (step_at f s) (λ w on. or_left (live f p w) (live f (moved f p (Down s)) w) on) (held_down f ok p s st)),
+  ok.eighths s st.1.step,
+)
 can_be_emitted f p place (Free w) ok st = freed_told f ok p place w st
 
 -- the gates of one more move

@@ -184,11 +184,12 @@ module _ (f : FlatForm) (ok : IsFlat f) where
   known_move p bits (Free w) st known = record { of_bits = known.of_bits; of_wires = known.of_wires }
 
   new_bit : (p : Progress) (bits : List ℕ) (s : StepId) → Stands f p (Do s) → IsKnown f p bits → is_m (step_at f s) ≡ true → (number_in (step_at f s) < f.outcomes) × (¬ Contains bits (number_in (step_at f s)))
-  new_bit p bits s st known m =
-      (number_below f ok s st.2.step m,
-      λ c. let k = known.of_bits (number_in (step_at f s)) c in
-      let same : k.0 ≡ s = one_number f ok k.0 s k.1 st.2.step k.2 m k.3 in
-      both_ways (p.done s) st.1 (ap p.done (sym same) ∙ k.4))
+  new_bit p bits s st known m = (
+    number_below f ok s st.2.step m,
+    λ c. let k = known.of_bits (number_in (step_at f s)) c in
+        let same : k.0 ≡ s = one_number f ok k.0 s k.1 st.2.step k.2 m k.3 in
+        both_ways (p.done s) st.1 (ap p.done (sym same) ∙ k.4),
+  )
 
   module _ (wide : ℕ) where
     away : (on : WireId → Bool) (q : Place) → IsPlaced f on wide q → (a b : Option WireId) → IfSome a (λ w. (w.number < length f.wires) × (on w ≡ true)) → IfSome b (λ w. (w.number < length f.wires) × (on w ≡ true)) → Apart a b → Away q a b
@@ -258,10 +259,11 @@ module _ (f : FlatForm) (ok : IsFlat f) where
     all_fit (m ∷ ms) p place bits st fits placed known =
         let less : count_wires f (live f (moved f p m)) ≤ width_from f (moved f p m) ms = width_from-ge f (moved f p m) ms in
         let rest : width_from f (moved f p m) ms ≤ wide = omega (arith, fits) in
-        let after : IsPlaced f (live f (moved f p m)) wide (place_move f p place m) = placed_move f ok wide p place m st.0 (omega (arith, less, rest)) placed in
-        (move_fits p place bits m st.0 placed after known,
-        subst (λ bs. Sound wide f.outcomes bs (map move_of_placed (placed_from f (moved f p m) (place_move f p place m) ms))) (sym (after_move f p place bits m))
-        (all_fit ms (moved f p m) (place_move f p place m) (bits_after f bits m) st.1 rest after (known_move p bits m st.0 known)))
+        let after : IsPlaced f (live f (moved f p m)) wide (place_move f p place m) = placed_move f ok wide p place m st.0 (omega (arith, less, rest)) placed in (
+          move_fits p place bits m st.0 placed after known,
+          subst (λ bs. Sound wide f.outcomes bs (map move_of_placed (placed_from f (moved f p m) (place_move f p place m) ms))) (sym (after_move f p place bits m))
+              (all_fit ms (moved f p m) (place_move f p place m) (bits_after f bits m) st.1 rest after (known_move p bits m st.0 known)),
+        )
 
     pub plan_fits : (moves : List Move) → IsPlan f moves → width f moves ≤ wide → Sound wide f.outcomes [] (plan_moves f moves)
     plan_fits moves plan fits =

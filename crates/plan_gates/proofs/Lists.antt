@@ -31,12 +31,13 @@ Once ws = (i j : ℕ) (w : WireId) → slice_get ws i ≡ Some w → slice_get w
 
 pub AllDiffer-map : (place : WireId → ℕ) (ws : List WireId) → Once ws → ((v w : WireId) → Contains ws v → Contains ws w → place v ≡ place w → v ≡ w) → AllDiffer (map place ws)
 AllDiffer-map place [] once h = tt
-AllDiffer-map place (w ∷ ws) once h =
-    (Absent-map place (place w) ws (λ v c e.
-    let same : v ≡ w = h v w (later w ws v c) (first w ws) e in
-    let no : suc c.0 ≡ 0 = once (suc c.0) 0 w (at_place ws v c ∙ ap (λ (x : WireId). Some x) same) refl in
-    absurd (omega (arith, no))),
-    AllDiffer-map place ws (λ i j v e g. let s : suc i ≡ suc j = once (suc i) (suc j) v e g in omega (arith, s)) (λ u v c d. h u v (later w ws u c) (later w ws v d)))
+AllDiffer-map place (w ∷ ws) once h = (
+  Absent-map place (place w) ws (λ v c e.
+      let same : v ≡ w = h v w (later w ws v c) (first w ws) e in
+      let no : suc c.0 ≡ 0 = once (suc c.0) 0 w (at_place ws v c ∙ ap (λ (x : WireId). Some x) same) refl in
+      absurd (omega (arith, no))),
+  AllDiffer-map place ws (λ i j v e g. let s : suc i ≡ suc j = once (suc i) (suc j) v e g in omega (arith, s)) (λ u v c d. h u v (later w ws u c) (later w ws v d)),
+)
 
 pub AllBelow-map : (place : WireId → ℕ) (n : ℕ) (ws : List WireId) → ((w : WireId) → Contains ws w → place w < n) → AllBelow n (map place ws)
 AllBelow-map place n [] h = tt

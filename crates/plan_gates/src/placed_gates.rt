@@ -122,3 +122,135 @@ fn told(place: Option<u32>) -> u32
 {
     place.unwrap()
 }
+
+#[cfg(test)]
+mod tests {
+    use super::*;
+    use flat_core::{StepId, WireId};
+    use gate_core::gate::{Gate, OneKind, PlainGate};
+    use move_plan::Move;
+
+    // A control on a wire: what its qubit is stands beside the step.
+    fn literal(positive: bool) -> Lit {
+        Lit {
+            wire: WireId { number: 7 },
+            positive,
+        }
+    }
+
+    // A step with its qubits.
+    fn placed(step: Step, target: Option<u32>, first: Option<u32>, second: Option<u32>) -> Placed
+        ensures step_is { result.step ≡ Some step }
+        ensures target_is { result.target ≡ target }
+        ensures first_is { result.first ≡ first }
+        ensures second_is { result.second ≡ second }
+    {
+        Placed {
+            mv: Move::Do(StepId { number: 0 }),
+            step: Some(step),
+            end: End::Output,
+            target,
+            first,
+            second,
+            bit: 0,
+        }
+    }
+
+    // The freeing of a wire.
+    fn freeing(end: End, target: Option<u32>, bit: u32) -> Placed
+        ensures step_is { result.step ≡ None }
+        ensures end_is { result.end ≡ end }
+        ensures target_is { result.target ≡ target }
+    {
+        Placed {
+            mv: Move::Free(WireId { number: 7 }),
+            step: None,
+            end,
+            target,
+            first: None,
+            second: None,
+            bit,
+        }
+    }
+
+    #[test]
+    fn controls_stand_on_their_own_qubits(rt: HostRuntime) {
+        let hadamard = Step::H {
+            target: WireId { number: 7 },
+            control: Some(literal(false)),
+        };
+        let wanted = [
+            Gate::One {
+                kind: OneKind::X,
+                q: 1,
+            },
+            Gate::One {
+                kind: OneKind::S,
+                q: 2,
+            },
+            Gate::One {
+                kind: OneKind::H,
+                q: 2,
+            },
+            Gate::One {
+                kind: OneKind::T,
+                q: 2,
+            },
+            Gate::Cx { c: 1, t: 2 },
+            Gate::One {
+                kind: OneKind::Tdg,
+                q: 2,
+            },
+            Gate::One {
+                kind: OneKind::H,
+                q: 2,
+            },
+            Gate::One {
+                kind: OneKind::Sdg,
+                q: 2,
+            },
+            Gate::One {
+                kind: OneKind::X,
+                q: 1,
+            },
+        ];
+        let row = emit_placed(&placed(hadamard, Some(2), Some(1), None));
+        assert_eq!(rt; row.as_slice(), wanted.as_slice());
+
+        let flip = Step::X {
+            target: WireId { number: 7 },
+            first: Some(literal(true)),
+            second: Some(literal(false)),
+        };
+        let wanted = [
+            Gate::One {
+                kind: OneKind::X,
+                q: 4,
+            },
+            Gate::Ccx { a: 3, b: 4, t: 0 },
+            Gate::One {
+                kind: OneKind::X,
+                q: 4,
+            },
+        ];
+        let row = emit_placed(&placed(flip, Some(0), Some(3), Some(4)));
+        assert_eq!(rt; row.as_slice(), wanted.as_slice());
+    }
+
+    #[test]
+    fn freed_wires(rt: HostRuntime) {
+        let flip = PlainGate::One {
+            kind: OneKind::X,
+            q: 4,
+        };
+        let wanted = [Gate::If {
+            bit: 3,
+            value: 1,
+            gate: flip,
+        }];
+        let row = emit_placed(&freeing(End::Measured, Some(4), 3));
+        assert_eq!(rt; row.as_slice(), wanted.as_slice());
+        let row = emit_placed(&freeing(End::Zeroed, None, 0));
+        assert_eq!(rt; row.as_slice().len(), 0);
+    }
+}
