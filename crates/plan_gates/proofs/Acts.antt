@@ -4,21 +4,17 @@ use Rattle.std.specs.Bool.{beq}
 use Rattle.std.proofs.lemmas.List.{map-append}
 use Rattle.std.proofs.lemmas.Bool.Decides.{nat_tests}
 use Rattle.std.proofs.Math.Path.{fun_ext}
-use Rattle.amp_core.specs.declared.Amp.{Amp}
 use Rattle.amp_core.specs.Amplitude.{one, times}
 use Rattle.amp_core.proofs.Amplitudes.{times_twice}
-use Rattle.sum_laws.specs.Terms.{Branch, branched, apply, same_bit}
+use Rattle.sum_laws.specs.Terms.{branched, apply, same_bit}
 use Rattle.flat_core.specs.declared.step.Step.{Step}
 use Rattle.flat_core.specs.declared.step.Step.TheVariants.{X, H, P, M}
 use Rattle.flat_core.specs.declared.step.End.{End}
 use Rattle.flat_core.specs.declared.step.End.TheVariants.{Output, Dropped, Measured as MeasuredWire, Zeroed}
 use Rattle.flat_core.specs.declared.step.Lit.{Lit}
-use Rattle.flat_core.specs.Label.{wire_id, changes}
-use Rattle.flat_mean.specs.Row.{Row, put, bits_of, flipped as flipped_value, holds as holds_in, next, new_value}
+use Rattle.flat_mean.specs.Row.{Row, put, bits_of, flipped as flipped_value, holds as holds_in}
 use Rattle.flat_mean.specs.Terms.{Term, weight, do_step, each}
-use Rattle.gate_core.specs.Meaning.{bit_at, turned, flipped, flipped_if, halved}
-use Rattle.gate_emit.specs.declared.placed.PlacedMove.{PlacedMove}
-use Rattle.gate_emit.specs.declared.placed.PlacedMove.TheVariants.{Unitary, Measured, Cleared, Released}
+use Rattle.gate_core.specs.Meaning.{bit_at, turned, flipped_if, halved}
 use Rattle.gate_emit.specs.Moves.{holds}
 use Rattle.gate_emit.specs.Plans.{effect_of, run_moves, MoveFits, measured_after, Sound}
 use Rattle.qubit_alloc.specs.declared.placed.Placed.{Placed}

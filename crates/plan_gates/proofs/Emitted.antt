@@ -1,5 +1,5 @@
 -- What placing tells of a move is what its gates ask for, and one more move adds its gates.
-use Rattle.std.proofs.Common.{◌≡◌, ℕ, ◌<◌, Bool, true, false, cond, ◌||◌, Option, Some, None, IsSome, IfSome, List, [], ◌∷◌, ◌++◌, length, map, inl, inr, refl, sym, ◌∙◌, ap, subst, append_assoc, append-nil}
+use Rattle.std.proofs.Common.{◌≡◌, ℕ, true, cond, ◌||◌, Option, Some, None, IsSome, IfSome, List, [], ◌∷◌, ◌++◌, map, inr, refl, sym, ◌∙◌, ap, subst, append_assoc, append-nil}
 use Rattle.std.proofs.lemmas.Bool.{or_left, or_right}
 use Rattle.flat_core.specs.declared.step.Step.{Step}
 use Rattle.flat_core.specs.declared.step.Step.TheVariants.{X, H, P, M}
@@ -14,12 +14,11 @@ use Rattle.move_plan.specs.declared.moves.Move.{Move}
 use Rattle.move_plan.specs.declared.moves.Move.TheVariants.{Up, Down, Do, Free}
 use Rattle.move_plan.specs.Progress.{Progress, Stands, at_start, moved, progress}
 use Rattle.move_plan.specs.Live.{live}
-use Rattle.gate_core.specs.declared.gate.Gate.{Gate}
 use Rattle.gate_emit.specs.declared.placed.PlacedMove.{PlacedMove}
 use Rattle.gate_emit.specs.Plans.{gates_of, gates_of_all}
 use Rattle.qubit_alloc.specs.declared.placed.Placed.{Placed}
 use Rattle.qubit_alloc.specs.Place.{Place, first_place, place_move, place_all}
-use Rattle.qubit_alloc.specs.PlacedMoves.{qubit_in, placed_of, placed_from, placed_all}
+use Rattle.qubit_alloc.specs.PlacedMoves.{qubit_in, placed_of, placed_from}
 use Rattle.qubit_alloc.proofs.Lives.{live_from}
 use Rattle.qubit_alloc.proofs.Named.{was_live, held_up, held_do, held_down}
 use Rattle.plan_gates.specs.PlacedMoves.{HasQubits, HasFreedQubit, move_of_placed}

@@ -1,7 +1,7 @@
 -- Where the inputs and the outputs of a plan stand.
-use Rattle.std.proofs.Common.{◌≡◌, ◌≢◌, ℕ, ◌<◌, ◌≤◌, ◌⊎◌, inl, inr, Bool, true, false, ◌&&◌, ◌==◌, List, [], ◌∷◌, All, Contains, length, map, get_or, replicate, refl, sym, ◌∙◌, ap, subst, arith, suc}
-use Rattle.std.proofs.lemmas.Bool.{both_ways, cases_lt, cases_Bool, eqb-true}
-use Rattle.std.proofs.lemmas.List.{get_or_past, get_or_default}
+use Rattle.std.proofs.Common.{◌≡◌, ℕ, ◌<◌, ◌≤◌, inl, inr, Bool, true, false, ◌&&◌, ◌==◌, List, [], ◌∷◌, Contains, length, map, replicate, refl, sym, ◌∙◌, ap, subst, arith, suc}
+use Rattle.std.proofs.lemmas.Bool.{both_ways, cases_lt, eqb-true}
+use Rattle.std.proofs.lemmas.List.{get_or_past}
 use Rattle.flat_core.specs.declared.step.End.TheVariants.{Output}
 use Rattle.flat_core.specs.declared.step.WireId.{WireId}
 use Rattle.flat_core.specs.Form.{FlatForm, WireForm}
@@ -12,17 +12,16 @@ use Rattle.flat_mean.specs.Terms.{values_of}
 use Rattle.move_plan.specs.declared.moves.Move.{Move}
 use Rattle.move_plan.specs.Progress.{at_start, IsPlan}
 use Rattle.move_plan.specs.Effect.{is_output}
-use Rattle.move_plan.specs.Live.{live, width, width_from, count_wires}
-use Rattle.move_plan.proofs.Counts.{width_from-ge}
-use Rattle.qubit_alloc.specs.Place.{Place, first_place, place_plan, IsPlaced}
-use Rattle.qubit_alloc.specs.Spread.{spread, first_row}
+use Rattle.move_plan.specs.Live.{live, width, count_wires}
+use Rattle.qubit_alloc.specs.Place.{first_place, place_plan, IsPlaced}
+use Rattle.qubit_alloc.specs.Spread.{first_row}
 use Rattle.qubit_alloc.proofs.Starting.{live_start, placed_start}
 use Rattle.qubit_alloc.proofs.Spreading.{any_none, spread-at}
 use Rattle.qubit_alloc.proofs.ApartLaws.{outputs_apart}
 use Rattle.gate_core.specs.Meaning.{placed, joined}
 use Rattle.gate_core.specs.Local.{Absent, AllDiffer, AllBelow}
 use Rattle.plan_gates.specs.Registers.{register}
-use Rattle.plan_gates.specs.PlanCircuit.{qubits_on, in_qubits, out_qubits, input_bits}
+use Rattle.plan_gates.specs.PlanCircuit.{in_qubits, out_qubits, input_bits}
 use Rattle.plan_gates.proofs.Spots.{on_zeros, register_is_placed}
 use Rattle.plan_gates.proofs.Lists.{joined_on, AllDiffer-map, AllBelow-map, absent_of_none}
 

@@ -1,5 +1,5 @@
 -- The moves of a plan fit their register.
-use Rattle.std.proofs.Common.{◌≡◌, ◌≢◌, ℕ, zero, suc, ◌<◌, ◌≤◌, ◌⊎◌, inl, inr, Bool, true, false, cond, ◌||◌, ◌&&◌, Option, Some, None, IfSome, List, [], ◌∷◌, Contains, length, map, option_map, refl, sym, ◌∙◌, ap, subst, arith, eq-eqb}
+use Rattle.std.proofs.Common.{◌≡◌, ◌≢◌, ℕ, suc, ◌<◌, ◌≤◌, ◌⊎◌, inl, inr, Bool, true, cond, Option, Some, None, IfSome, List, [], ◌∷◌, Contains, length, map, refl, sym, ◌∙◌, ap, subst, arith, eq-eqb}
 use Rattle.std.proofs.lemmas.Bool.{both_ways, cases_lt, or_cases, or_left, or_right}
 use Rattle.flat_core.specs.declared.step.Step.{Step}
 use Rattle.flat_core.specs.declared.step.Step.TheVariants.{X, H, P, M}
@@ -9,7 +9,7 @@ use Rattle.flat_core.specs.declared.step.Lit.{Lit}
 use Rattle.flat_core.specs.declared.step.WireId.{WireId}
 use Rattle.flat_core.specs.declared.step.StepId.{StepId}
 use Rattle.flat_core.specs.Form.{FlatForm}
-use Rattle.flat_core.specs.Label.{main_wire, first_wire, second_wire, EachNamed, Apart, WiresDiffer, step_at, end_of}
+use Rattle.flat_core.specs.Label.{main_wire, first_wire, second_wire, EachNamed, Apart, step_at, end_of}
 use Rattle.flat_core.specs.Ends.{undone_step, measures}
 use Rattle.flat_core.specs.Sound.{IsFlat, HasEighths, is_m}
 use Rattle.move_plan.specs.declared.moves.Move.{Move}
@@ -18,11 +18,9 @@ use Rattle.move_plan.specs.Progress.{Progress, Stands, at_start, moved, AllStand
 use Rattle.move_plan.specs.Effect.{is_measured, number_of}
 use Rattle.move_plan.specs.Live.{live, width, width_from, count_wires}
 use Rattle.move_plan.proofs.Counts.{width_from-ge}
-use Rattle.move_plan.proofs.Idle.{Tracked}
 use Rattle.move_plan.proofs.Measures.{number_is, end_past, bit_of as bit_in}
-use Rattle.gate_core.specs.Local.{AllDiffer, AllBelow}
 use Rattle.gate_emit.specs.declared.placed.PlacedMove.{PlacedMove}
-use Rattle.gate_emit.specs.declared.placed.PlacedMove.TheVariants.{Unitary, Measured, Cleared, Released}
+use Rattle.gate_emit.specs.declared.placed.PlacedMove.TheVariants.{Unitary, Measured}
 use Rattle.gate_emit.specs.declared.placed.QubitMove.TheVariants.{Flip, FlipBy, FlipByTwo, Hadamard, HadamardBy, PhaseBy}
 use Rattle.gate_emit.specs.declared.placed.Control.{Control}
 use Rattle.gate_emit.specs.Plans.{MoveFits, measured_after, Sound}

@@ -1,5 +1,5 @@
 -- Input bits begin on the wires of the parameters in their order.
-use Rattle.std.proofs.Common.{◌≡◌, ℕ, zero, suc, ◌+◌, ◌<◌, ◌≤◌, Bool, true, false, cond, ◌&&◌, List, [], ◌∷◌, Contains, length, map, get_or, refl, sym, ◌∙◌, ap, subst, arith, add-one}
+use Rattle.std.proofs.Common.{◌≡◌, ℕ, zero, suc, ◌+◌, ◌<◌, ◌≤◌, Bool, true, false, cond, ◌&&◌, List, Contains, length, map, get_or, refl, sym, ◌∙◌, ap, subst, arith, add-one}
 use Rattle.std.proofs.lemmas.List.{get_or-map, length-map}
 use Rattle.sum_laws.specs.Terms.{positions}
 use Rattle.flat_core.specs.declared.step.WireId.{WireId}
@@ -9,10 +9,8 @@ use Rattle.flat_core.specs.Sound.{IsFlat, joined as wires_joined}
 use Rattle.flat_mean.specs.Row.{Row, bits_of}
 use Rattle.flat_mean.specs.Path.{inputs_before, input_row}
 use Rattle.flat_mean.specs.Terms.{values_of}
-use Rattle.move_plan.specs.Laws.{IsInput}
 use Rattle.qubit_alloc.proofs.Starting.{inputs_more}
 use Rattle.plan_gates.specs.Laws.{BeginsWith, InputsBeginInOrder}
-use Rattle.plan_gates.specs.PlanCircuit.{input_bits}
 use Rattle.plan_gates.proofs.Spots.{same_list}
 use Rattle.plan_gates.proofs.Ends.{input_there}
 

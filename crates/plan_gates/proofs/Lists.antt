@@ -3,7 +3,7 @@ use Rattle.std.proofs.Common.{◌≡◌, ◌≢◌, ℕ, zero, suc, ◌<◌, Lis
 use Rattle.std.proofs.lemmas.List.{map-append}
 use Rattle.std.proofs.lemmas.Option.{slice_get-get_or}
 use Rattle.flat_core.specs.declared.step.WireId.{WireId}
-use Rattle.flat_core.specs.Sound.{joined as wires_joined, NamesExactly}
+use Rattle.flat_core.specs.Sound.{joined as wires_joined}
 use Rattle.gate_core.specs.Meaning.{joined}
 use Rattle.gate_core.specs.Local.{Absent, AllDiffer, AllBelow}
 use Rattle.plan_gates.specs.PlanCircuit.{qubits_on}

@@ -1,18 +1,15 @@
 -- The circuit of a plan gives what the paths give.
-use Rattle.std.proofs.Common.{◌≡◌, ◌≢◌, ℕ, ◌<◌, ◌≤◌, Bool, true, false, List, [], ◌∷◌, All, Contains, length, map, get_or, replicate, refl, sym, ◌∙◌, ap, ap₂, subst, arith}
+use Rattle.std.proofs.Common.{◌≡◌, ℕ, ◌<◌, ◌≤◌, Bool, false, List, [], ◌∷◌, All, length, map, get_or, replicate, sym, ◌∙◌, ap, subst, arith}
 use Rattle.std.proofs.lemmas.List.{length-map, get_or_default}
-use Rattle.std.proofs.lemmas.List.Elements.{All-weaker}
-use Rattle.amp_core.specs.declared.Amp.{Amp}
-use Rattle.amp_core.specs.Amplitude.{none, one, times, Same}
+use Rattle.amp_core.specs.Amplitude.{one}
 use Rattle.amp_core.proofs.Amplitudes.{times_zero, Same-equal, Same-trans}
 use Rattle.sum_laws.specs.Terms.{amplitude, SameTerms}
 use Rattle.flat_core.specs.declared.step.End.TheVariants.{Output}
-use Rattle.flat_core.specs.declared.step.WireId.{WireId}
 use Rattle.flat_core.specs.Form.{FlatForm}
-use Rattle.flat_core.specs.Label.{wire_id, end_of}
+use Rattle.flat_core.specs.Label.{end_of}
 use Rattle.flat_core.specs.Sound.{IsFlat, joined as wires_joined}
 use Rattle.flat_mean.specs.Row.{Row, bits_of}
-use Rattle.flat_mean.specs.Terms.{Term, first_term, weight, seen_at}
+use Rattle.flat_mean.specs.Terms.{Term, first_term}
 use Rattle.flat_mean.specs.Laws.{path_amplitude}
 use Rattle.move_plan.specs.declared.moves.Move.{Move}
 use Rattle.move_plan.specs.Progress.{at_start, IsPlan}
@@ -21,18 +18,18 @@ use Rattle.move_plan.specs.Laws.{IsInput, ZeroedAreZero}
 use Rattle.move_plan.proofs.Counts.{width_from-ge}
 use Rattle.qubit_alloc.specs.Place.{place_plan}
 use Rattle.qubit_alloc.specs.PlacedMoves.{placed_all}
-use Rattle.qubit_alloc.specs.Spread.{first_row, do_all_placed, to_qubit}
+use Rattle.qubit_alloc.specs.Spread.{first_row, do_all_placed}
 use Rattle.qubit_alloc.specs.Laws.{OtherQubitsZero, CircuitGivesPaths as TermsGivePaths}
-use Rattle.gate_core.specs.Meaning.{bit_at, placed, joined, meaning, run}
+use Rattle.gate_core.specs.Meaning.{placed, joined, meaning, run}
 use Rattle.gate_core.specs.Local.{Absent, AllDiffer, AllBelow, HasWidth}
-use Rattle.gate_emit.specs.Plans.{run_moves, Sound}
+use Rattle.gate_emit.specs.Plans.{Sound}
 use Rattle.gate_emit.proofs.Plans.{gates_act}
-use Rattle.plan_gates.specs.Registers.{register, registers}
+use Rattle.plan_gates.specs.Registers.{registers}
 use Rattle.plan_gates.specs.PlanCircuit.{plan_moves, gates_of_plan, in_qubits, out_qubits, input_bits, plan_terms, result_bits}
 use Rattle.plan_gates.specs.Laws.{GivesPaths}
 use Rattle.plan_gates.proofs.Acts.{moves_act}
 use Rattle.plan_gates.proofs.Registers.{length-register}
-use Rattle.plan_gates.proofs.Spots.{absent_from, length-on_zeros}
+use Rattle.plan_gates.proofs.Spots.{absent_from}
 use Rattle.plan_gates.proofs.Sums.{amplitude_on_zeros, amplitude_elsewhere, seen_on}
 use Rattle.plan_gates.proofs.Lists.{joined_on, absent_of_none}
 use Rattle.plan_gates.proofs.Ends.{first_register, outs_differ, outs_below}

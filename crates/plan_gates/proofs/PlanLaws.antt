@@ -1,6 +1,5 @@
 -- The laws of plans.
 use Rattle.std.proofs.Common.{◌≤◌, arith}
-use Rattle.flat_core.specs.Form.{FlatForm}
 use Rattle.move_plan.specs.Progress.{at_start}
 use Rattle.move_plan.specs.Live.{live, width, count_wires}
 use Rattle.move_plan.proofs.Counts.{width_from-ge}

@@ -1,5 +1,5 @@
 -- A register that is 0 but on some qubits is their bits placed on zeros.
-use Rattle.std.proofs.Common.{◌≡◌, ◌≢◌, ℕ, zero, suc, ◌<◌, ◌⊎◌, inl, inr, Bool, true, false, List, [], ◌∷◌, Contains, map, length, get_or, set, replicate, refl, sym, ◌∙◌, ap, subst, arith, length-set}
+use Rattle.std.proofs.Common.{◌≡◌, ◌≢◌, ℕ, suc, ◌<◌, ◌⊎◌, inl, inr, Bool, false, List, [], ◌∷◌, Contains, map, length, get_or, set, replicate, refl, sym, ◌∙◌, ap, subst, arith}
 use Rattle.std.proofs.lemmas.List.{get_or-set_other, get_or-map, get_or-replicate, get_or_default, length-map, length-replicate}
 use Rattle.gate_core.specs.Meaning.{bit_at, placed}
 use Rattle.gate_core.specs.Local.{Absent, AllDiffer, AllBelow}

@@ -1,9 +1,8 @@
 -- Amplitudes of the bits of some qubits, of terms that are 0 on all others.
-use Rattle.std.proofs.Common.{◌≡◌, ℕ, Bool, true, false, cond, List, [], ◌∷◌, Contains, All, map, length, refl, sym, ◌∙◌, ap, ap₂, subst}
-use Rattle.std.proofs.lemmas.Bool.{cases_Bool, both_ways}
+use Rattle.std.proofs.Common.{◌≡◌, ℕ, Bool, true, false, cond, List, [], ◌∷◌, All, map, length, refl, sym, ◌∙◌, ap, ap₂, subst}
+use Rattle.std.proofs.lemmas.Bool.{both_ways}
 use Rattle.std.proofs.lemmas.List.{length-map}
 use Rattle.std.proofs.lemmas.List.Elements.{All-head, All-tail}
-use Rattle.amp_core.specs.declared.Amp.{Amp}
 use Rattle.amp_core.specs.Amplitude.{none, plus}
 use Rattle.sum_laws.specs.Terms.{same_bits, amplitude}
 use Rattle.sum_laws.proofs.TermLists.{same_bits-refl, same_bits-equal}
@@ -14,7 +13,7 @@ use Rattle.flat_mean.specs.Terms.{Term, weight, values_of, seen_at}
 use Rattle.gate_core.specs.Meaning.{bit_at}
 use Rattle.gate_core.specs.Local.{Absent, AllDiffer, AllBelow}
 use Rattle.plan_gates.specs.Registers.{register, registers}
-use Rattle.plan_gates.proofs.Registers.{length-register, get-register, zero-register}
+use Rattle.plan_gates.proofs.Registers.{zero-register}
 use Rattle.plan_gates.proofs.Spots.{on_zeros, register_is_placed, placed_apart}
 
 pub tests_alike : (a b : Bool) → (a ≡ true → b ≡ true) → (b ≡ true → a ≡ true) → a ≡ b

@@ -1,8 +1,7 @@
 -- The laws that join moves on wires to gates, as statements.
-use Rattle.std.specs.Prelude.{◌≡◌, ◌<◌, ◌≤◌, ℕ, Bool, true, List, [], ◌∷◌, ◌++◌, length, map, Contains}
+use Rattle.std.specs.Prelude.{◌≡◌, ◌≤◌, ℕ, Bool, true, List, [], ◌∷◌, ◌++◌, length, map, Contains}
 use Rattle.amp_core.specs.Amplitude.{none, Same}
 use Rattle.sum_laws.specs.Terms.{apply, amplitude, positions}
-use Rattle.flat_core.specs.declared.step.WireId.{WireId}
 use Rattle.flat_core.specs.Form.{FlatForm}
 use Rattle.flat_core.specs.Label.{wire_id}
 use Rattle.flat_core.specs.Sound.{IsFlat, joined as wires_joined}
