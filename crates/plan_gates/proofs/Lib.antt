@@ -11,3 +11,4 @@ pub mod Inputs
 pub mod Emitted
 pub mod PlanLaws
 pub mod Examples
+pub mod ExampleForms
