@@ -1,6 +1,7 @@
 -- The two examples are flat forms.
-use Rattle.std.proofs.Common.{◌≡◌, ◌≢◌, ℕ, zero, suc, ◌<◌, ◌≤◌, ◌⊎◌, inl, inr, Bool, true, false, Option, Some, None, List, [], ◌∷◌, Contains, length, get_or, slice_get, refl, sym, ◌∙◌, ap, subst, arith, lit<, lit≤}
+use Rattle.std.proofs.Common.{◌≡◌, ◌≢◌, ℕ, zero, suc, ◌<◌, ◌≤◌, ◌⊎◌, inl, inr, Bool, true, false, Option, Some, None, List, [], ◌∷◌, ◌++◌, ◌+◌, Contains, length, take, replicate, get_or, slice_get, le_refl, refl, sym, ◌∙◌, ap, subst, arith, lit<, lit≤}
 use Rattle.std.proofs.lemmas.Bool.{both_ways, eqb-false}
+use Rattle.std.proofs.lemmas.List.{take_more, take_all, take-replicate, length-replicate, get_or-replicate, get_or_default}
 use Rattle.flat_core.specs.declared.step.Step.{Step}
 use Rattle.flat_core.specs.declared.step.Step.TheVariants.{X, H, P, M}
 use Rattle.flat_core.specs.declared.step.End.{End}
@@ -8,13 +9,13 @@ use Rattle.flat_core.specs.declared.step.End.TheVariants.{Output, Dropped, Measu
 use Rattle.flat_core.specs.declared.step.WireId.{WireId}
 use Rattle.flat_core.specs.declared.step.StepId.{StepId}
 use Rattle.flat_core.specs.Form.{FlatForm, DraftForm}
-use Rattle.flat_core.specs.Label.{wire_id, step_id, step_in, step_at, end_of, is_input, changes, same_wire}
+use Rattle.flat_core.specs.Label.{wire_id, step_id, no_step, step_in, step_at, end_of, is_input, changes, same_wire}
 use Rattle.flat_core.specs.Ends.{measures}
 use Rattle.flat_core.specs.Sound.{NamesExactly, IsFlat, is_x}
-use Rattle.flat_core.specs.Drafts.{first_steps, IsNextStep, IsDraft, FitsEnds}
+use Rattle.flat_core.specs.Drafts.{first_steps, with_step, IsNextStep, IsDraft, FitsEnds, finished}
 use Rattle.flat_core.proofs.Finishes.{drafts_become_flat}
 use Rattle.flat_core.proofs.Labels.{same_wire_is}
-use Rattle.plan_gates.specs.Example.{teleportation_draft, teleportation, controlled_hadamard_draft, controlled_hadamard}
+use Rattle.plan_gates.specs.Example.{with_steps, teleportation_draft, teleportation, controlled_hadamard_draft, controlled_hadamard}
 
 -- something of each number below n
 abbrev pub Each : ℕ → (ℕ → Type 0) → Type 0
@@ -223,3 +224,32 @@ controlled_hadamard_is_flat = drafts_become_flat controlled_hadamard_draft ((wir
   ins_name = two_wires (λ w. is_input controlled_hadamard w ≡ true) refl refl (λ w i. inputs_two w.number i);
   outs_name = two_wires (λ w. (w.number < 2) × (end_of controlled_hadamard w ≡ Output)) (lit< tt, refl) (lit< tt, refl) (λ w o. below_two w.number o.0);
 })
+
+-- the first steps of a draft with these steps alone
+pub no_steps : (d : DraftForm) (steps : List Step) → with_steps d [] ≡ first_steps (with_steps d steps) 0
+no_steps d [] = refl
+no_steps d (s ∷ steps) = refl
+
+pub all_steps : (d : DraftForm) (steps : List Step) → first_steps (with_steps d steps) (length steps) ≡ with_steps d steps
+all_steps d steps =
+    let whole : take (length steps) steps ≡ steps = take_all (length steps) steps (le_refl (length steps)) in
+    let lines : take (length steps) (replicate (length steps) 1) ≡ replicate (length steps) 1 = take-replicate (length steps) (length steps) 1 (le_refl (length steps)) in
+    λ i. record { wires = d.wires; steps = whole i; lines = lines i }
+
+pub one_step_more : (d : DraftForm) (steps : List Step) (k : ℕ) (s : Step) → k < length steps → with_step (first_steps (with_steps d steps) k) (get_or steps k s) 1 ≡ first_steps (with_steps d steps) (k + 1)
+one_step_more d steps k s l =
+    let more : take k steps ++ get_or steps k s ∷ [] ≡ take (k + 1) steps = sym (take_more steps k s l) in
+    let short : k < length (replicate (length steps) 1) = subst (λ n. k < n) (sym (length-replicate (length steps) 1)) l in
+    let line : take k (replicate (length steps) 1) ++ 1 ∷ [] ≡ take (k + 1) (replicate (length steps) 1) =
+    ap (λ x. take k (replicate (length steps) 1) ++ x ∷ []) (sym (get_or-replicate (length steps) k 1 1 l)) ∙ sym (take_more (replicate (length steps) 1) k 1 short) in
+    λ i. record { wires = d.wires; steps = more i; lines = line i }
+
+pub step_there : (d : DraftForm) (steps : List Step) (k : ℕ) (s : Step) (now : DraftForm) → k < length steps → now ≡ first_steps (with_steps d steps) k
+    → IsNextStep (first_steps (with_steps d steps) k) (step_in steps (step_id k)) → IsNextStep now (get_or steps k s)
+step_there d steps k s now l is h = subst (λ x. IsNextStep x (get_or steps k s)) (sym is) (subst (IsNextStep (first_steps (with_steps d steps) k)) (get_or_default steps k no_step s l) h)
+
+pub step_added : (d : DraftForm) (steps : List Step) (k : ℕ) (s : Step) (now next : DraftForm) → k < length steps → now ≡ first_steps (with_steps d steps) k → next ≡ with_step now (get_or steps k s) 1 → next ≡ first_steps (with_steps d steps) (k + 1)
+step_added d steps k s now next l is made = made ∙ ap (λ x. with_step x (get_or steps k s) 1) is ∙ one_step_more d steps k s l
+
+pub teleportation_made : (d : DraftForm) (ins outs : List (List WireId)) → d ≡ teleportation_draft → ins ≡ (wire_id 0 ∷ []) ∷ [] → outs ≡ (wire_id 2 ∷ []) ∷ [] → IsFlat (finished d ins outs)
+teleportation_made d ins outs e g h = subst IsFlat (λ i. finished (sym e i) (sym g i) (sym h i)) teleportation_is_flat

@@ -1,5 +1,5 @@
 -- Two flat forms and lists of moves of them, to be worked out.
-use Rattle.std.specs.Prelude.{ℕ, true, false, Some, None, List, [], ◌∷◌}
+use Rattle.std.specs.Prelude.{ℕ, true, false, Some, None, List, [], ◌∷◌, length, replicate}
 use Rattle.flat_core.specs.declared.step.Step.{Step}
 use Rattle.flat_core.specs.declared.step.Step.TheVariants.{X, H, P, M}
 use Rattle.flat_core.specs.declared.step.End.TheVariants.{Output, Dropped, Measured}
@@ -9,6 +9,10 @@ use Rattle.flat_core.specs.Label.{wire_id, step_id}
 use Rattle.flat_core.specs.Drafts.{finished}
 use Rattle.move_plan.specs.declared.moves.Move.{Move}
 use Rattle.move_plan.specs.declared.moves.Move.TheVariants.{Up, Down, Do, Free}
+
+-- a draft with these steps alone, all of line 1
+abbrev pub with_steps : DraftForm → List Step → DraftForm
+with_steps d steps = record { wires = d.wires; steps = steps; lines = replicate (length steps) 1 }
 
 abbrev pub literal : ℕ → Lit
 literal w = record { wire = wire_id w; positive = true }

@@ -3,5 +3,7 @@
 
 pub mod laws;
 pub mod placed_gates;
+#[cfg(test)]
+mod tests;
 
 pub use placed_gates::{emit_placed, placed_move};

@@ -1,0 +1,90 @@
+//! Gates of whole lists of moves, from forms made by hand.
+
+ghost use Rattle.std.specs.Prelude.{◌≡◌, ◌∷◌, [], IfOk, OnOk, true};
+ghost use Rattle.flat_core.specs.Drafts.{IsDraft};
+ghost use Rattle.plan_gates.specs.Example.{with_steps, teleportation_draft, teleportation_steps, teleportation};
+
+use flat_core::{Draft, End, Flat, Lit, Step, StepId, WireId, WireList, WireLists};
+use move_plan::{Move, Rows};
+use silq_io::LimitFault;
+use std::alloc::{AllocError, Global};
+use std::test::Fail;
+
+fn wire(number: u32) -> WireId
+    ensures { result ≡ record { number = number } }
+{
+    WireId { number }
+}
+
+// A control that holds at 1.
+fn set(number: u32) -> Option<Lit>
+    ensures { result ≡ Some (record { wire = record { number = number }; positive = true }) }
+{
+    Some(Lit {
+        wire: wire(number),
+        positive: true,
+    })
+}
+
+// Adds steps to a draft without steps.
+fn add_steps(draft: &mut Draft, steps: &[Step]) -> Result<(), LimitFault>
+    requires none { draft.old ≡ with_steps draft.old [] }
+    requires follow { IsDraft (with_steps draft.old steps.now) }
+    ensures { OnOk result (draft.new ≡ with_steps draft.old steps.now) }
+{
+    for step in steps {
+        draft.step(*step, 1)?;
+    }
+    Ok(())
+}
+
+fn teleportation_wires(alloc: Global) -> Result<Draft, LimitFault>
+    ensures { IfOk result (λ d. d ≡ with_steps teleportation_draft []) }
+{
+    let mut draft = Draft::new(alloc);
+    draft.wire(true)?;
+    draft.wire(false)?;
+    draft.wire(false)?;
+    draft.wire(false)?;
+    draft.end(wire(0), End::Measured);
+    draft.end(wire(1), End::Measured);
+    draft.end(wire(2), End::Output);
+    Ok(draft)
+}
+
+fn teleportation_steps() -> [Step; 9]
+    ensures { result ≡ teleportation_steps }
+{
+    [
+        Step::H { target: wire(1), control: None },
+        Step::X { target: wire(2), first: set(1), second: None },
+        Step::X { target: wire(1), first: set(0), second: None },
+        Step::H { target: wire(0), control: None },
+        Step::M { wire: wire(0), number: 0 },
+        Step::M { wire: wire(1), number: 1 },
+        Step::X { target: wire(2), first: set(1), second: None },
+        Step::X { target: wire(3), first: set(0), second: set(2) },
+        Step::P { eighths: 4, control: Lit { wire: wire(3), positive: true } },
+    ]
+}
+
+// One list with one wire.
+fn single(alloc: Global, w: WireId) -> Result<WireLists, AllocError>
+    ensures { IfOk result (λ lists. lists ≡ (w ∷ []) ∷ []) }
+{
+    let mut list = WireList::new(alloc);
+    list.push(w)?;
+    let mut lists = WireLists::new(alloc);
+    lists.push(list)?;
+    Ok(lists)
+}
+
+fn teleportation(alloc: Global) -> Result<Flat, LimitFault>
+    ensures { IfOk result (λ f. f ≡ teleportation) }
+{
+    let mut draft = teleportation_wires(alloc)?;
+    add_steps(&mut draft, &teleportation_steps())?;
+    let ins = single(alloc, wire(0))?;
+    let outs = single(alloc, wire(2))?;
+    Ok(draft.finish(ins, outs))
+}
