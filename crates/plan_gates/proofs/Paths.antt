@@ -1,9 +1,9 @@
 -- The circuit of a plan gives what the paths give.
 use Rattle.std.proofs.Common.{◌≡◌, ℕ, ◌<◌, ◌≤◌, Bool, false, List, [], ◌∷◌, All, length, map, get_or, replicate, sym, ◌∙◌, ap, subst, arith}
 use Rattle.std.proofs.lemmas.List.{length-map, get_or_default}
-use Rattle.amp_core.specs.Amplitude.{one}
+use Rattle.amp_core.specs.Amplitude.{one, Same}
 use Rattle.amp_core.proofs.Amplitudes.{times_zero, Same-equal, Same-trans}
-use Rattle.sum_laws.specs.Terms.{amplitude, SameTerms}
+use Rattle.sum_laws.specs.Terms.{amplitude, pick, SameTerms}
 use Rattle.flat_core.specs.declared.step.End.TheVariants.{Output}
 use Rattle.flat_core.specs.Form.{FlatForm}
 use Rattle.flat_core.specs.Label.{end_of}
@@ -20,8 +20,9 @@ use Rattle.qubit_alloc.specs.Place.{place_plan}
 use Rattle.qubit_alloc.specs.PlacedMoves.{placed_all}
 use Rattle.qubit_alloc.specs.Spread.{first_row, do_all_placed}
 use Rattle.qubit_alloc.specs.Laws.{OtherQubitsZero, CircuitGivesPaths as TermsGivePaths}
-use Rattle.gate_core.specs.Meaning.{placed, joined, meaning, run}
+use Rattle.gate_core.specs.Meaning.{bit_at, placed, joined, meaning, run}
 use Rattle.gate_core.specs.Local.{Absent, AllDiffer, AllBelow, HasWidth}
+use Rattle.gate_core.proofs.Local.{length-pick}
 use Rattle.gate_emit.specs.Plans.{Sound}
 use Rattle.gate_emit.proofs.Plans.{gates_act}
 use Rattle.plan_gates.specs.Registers.{registers}
@@ -29,7 +30,7 @@ use Rattle.plan_gates.specs.PlanCircuit.{plan_moves, gates_of_plan, in_qubits, o
 use Rattle.plan_gates.specs.Laws.{GivesPaths}
 use Rattle.plan_gates.proofs.Acts.{moves_act}
 use Rattle.plan_gates.proofs.Registers.{length-register}
-use Rattle.plan_gates.proofs.Spots.{absent_from}
+use Rattle.plan_gates.proofs.Spots.{bits_are_placed}
 use Rattle.plan_gates.proofs.Sums.{amplitude_on_zeros, amplitude_elsewhere, seen_on}
 use Rattle.plan_gates.proofs.Lists.{joined_on, absent_of_none}
 use Rattle.plan_gates.proofs.Ends.{first_register, outs_differ, outs_below}
@@ -81,8 +82,21 @@ module _ (terms_give : TermsGivePaths) (others : OtherQubitsZero) (f : FlatForm)
       ∙ ap (amplitude values) (seen_on (place_plan f moves) (wires_joined f.outs) terms)
       ∙ terms_give f input (bits_of outcome) moves ok given zeroed plan (wires_joined f.outs) values each_out
 
+  of_values : (values : List Bool) → length values ≡ length (wires_joined f.outs)
+      → Same (amplitude (result_bits f moves wide values) (plan_terms f moves wide input outcome)) (path_amplitude f.steps input (bits_of outcome) (wires_joined f.outs) values)
+  of_values values e = Same-trans _ _ _ (acts.each (result_bits f moves wide values)) (Same-equal _ _ (on_results values e))
+
+  of_bits : (bits : List Bool) → length bits ≡ wide → ((q : ℕ) → q < length bits → Absent q (joined (out_qubits f moves)) → bit_at bits q ≡ false)
+      → Same (amplitude bits (plan_terms f moves wide input outcome)) (path_amplitude f.steps input (bits_of outcome) (wires_joined f.outs) (pick (joined (out_qubits f moves)) bits))
+  of_bits bits e zeros =
+      let qs : List ℕ = joined (out_qubits f moves) in
+      let is : bits ≡ result_bits f moves wide (pick qs bits) = bits_are_placed wide qs (outs_differ f ok wide moves plan fits) (outs_below f ok wide moves plan fits) bits e zeros in
+      let as_many : length (pick qs bits) ≡ length (wires_joined f.outs) = length-pick qs bits ∙ ap length spots_are ∙ length-map (wires_joined f.outs) (place_plan f moves) in
+      subst (λ u. Same (amplitude u (plan_terms f moves wide input outcome)) (path_amplitude f.steps input (bits_of outcome) (wires_joined f.outs) (pick qs bits))) (sym is) (of_values (pick qs bits) as_many)
+
   pub gives_paths : GivesPaths f moves wide input outcome
   gives_paths = record {
-    on_results = λ values e. Same-trans _ _ _ (acts.each (result_bits f moves wide values)) (Same-equal _ _ (on_results values e));
-    elsewhere = λ bits q e no. Same-trans _ _ _ (acts.each bits) (Same-equal _ _ (amplitude_elsewhere wide bits q terms e (zero_at q (subst (Absent q) spots_are (absent_from q _ no)))));
+    of_values = of_values;
+    of_bits = of_bits;
+    elsewhere = λ bits q a e. Same-trans _ _ _ (acts.each bits) (Same-equal _ _ (amplitude_elsewhere wide bits q terms e (zero_at q (subst (Absent q) spots_are a))));
   }

@@ -1,9 +1,10 @@
 -- A register that is 0 but on some qubits is their bits placed on zeros.
-use Rattle.std.proofs.Common.{◌≡◌, ◌≢◌, ℕ, suc, ◌<◌, ◌⊎◌, inl, inr, Bool, false, List, [], ◌∷◌, Contains, map, length, get_or, set, replicate, refl, sym, ◌∙◌, ap, subst, arith}
+use Rattle.std.proofs.Common.{◌≡◌, ◌≢◌, ℕ, zero, suc, ◌<◌, ◌⊎◌, inl, inr, Bool, false, List, [], ◌∷◌, Contains, map, length, get_or, set, replicate, refl, sym, ◌∙◌, ap, subst, arith}
 use Rattle.std.proofs.lemmas.List.{get_or-set_other, get_or-map, get_or-replicate, get_or_default, length-map, length-replicate}
 use Rattle.gate_core.specs.Meaning.{bit_at, placed}
 use Rattle.gate_core.specs.Local.{Absent, AllDiffer, AllBelow}
-use Rattle.gate_core.proofs.Local.{length-placed, bit_at-placed}
+use Rattle.gate_core.proofs.Local.{length-placed, length-pick, bit_at-placed}
+use Rattle.sum_laws.specs.Terms.{pick}
 use Rattle.flat_mean.specs.Row.{Row}
 use Rattle.plan_gates.specs.Registers.{register}
 use Rattle.plan_gates.proofs.Registers.{length-register, get-register}
@@ -30,13 +31,15 @@ absent_or q (p ∷ qs) = by (equal_or_not p q) (absent_or q qs)
     by (inr n) (inl a) = inl (n, a)
     by (inr n) (inr c) = inr (suc c.0, omega (arith, c.1), c.2)
 
-pub absent_from : (q : ℕ) (qs : List ℕ) → ¬ Contains qs q → Absent q qs
-absent_from q qs h = elim (absent_or q qs) [ inl a ↦ a | inr c ↦ absurd (h c) ]
-
 bit_at-placed_absent : (q : ℕ) (qs : List ℕ) (w u : List Bool) → Absent q qs → bit_at (placed qs w u) q ≡ bit_at u q
 bit_at-placed_absent q [] w u h = refl
 bit_at-placed_absent q (p ∷ qs) [] u h = refl
 bit_at-placed_absent q (p ∷ qs) (c ∷ w) u h = bit_at-placed_absent q qs w (set u p c) h.1 ∙ get_or-set_other u p q c false (λ e. h.0 (sym e))
+
+at-pick : (qs : List ℕ) (u : List Bool) (k : ℕ) → k < length qs → bit_at (pick qs u) k ≡ bit_at u (get_or qs k 0)
+at-pick [] u k l = absurd (omega (arith, l))
+at-pick (q ∷ qs) u zero l = refl
+at-pick (q ∷ qs) u (suc k) l = at-pick qs u k (omega (arith, l))
 
 -- the bits of some qubits, placed on zeros
 abbrev pub on_zeros : ℕ → List ℕ → List Bool → List Bool
@@ -69,3 +72,16 @@ module _ (n : ℕ) (qs : List ℕ) (differ : AllDiffer qs) (below : AllBelow n q
   placed_apart v w ev ew e = same_list v w (ev ∙ sym ew) (λ i l.
       let lt : i < length qs = subst (λ m. i < m) ev l in
       sym (at_spot v i ev lt) ∙ ap (λ u. bit_at u (get_or qs i 0)) e ∙ at_spot w i ew lt)
+
+  -- bits that are 0 on all other qubits
+  pub bits_are_placed : (bits : List Bool) → length bits ≡ n → ((q : ℕ) → q < length bits → Absent q qs → bit_at bits q ≡ false) → bits ≡ on_zeros n qs (pick qs bits)
+  bits_are_placed bits e zeros = same_list bits (on_zeros n qs (pick qs bits)) (e ∙ sym (length-on_zeros n qs (pick qs bits))) (λ i l. by i l (absent_or i qs))
+    where
+      by : (i : ℕ) → i < length bits → Absent i qs ⊎ Contains qs i → bit_at bits i ≡ bit_at (on_zeros n qs (pick qs bits)) i
+      by i l (inl a) =
+          let lt : i < n = subst (λ m. i < m) e l in
+          zeros i l a ∙ sym (bit_at-placed_absent i qs (pick qs bits) (replicate n false) a ∙ get_or-replicate n i false false lt)
+      by i l (inr c) =
+          let spot : get_or qs c.0 0 ≡ i = get_or_default qs c.0 0 i c.1 ∙ c.2 in
+          ap (bit_at bits) (sym spot) ∙ sym (at-pick qs bits c.0 c.1) ∙ sym (at_spot (pick qs bits) c.0 (length-pick qs bits) c.1)
+          ∙ ap (bit_at (on_zeros n qs (pick qs bits))) spot

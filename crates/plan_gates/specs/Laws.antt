@@ -1,7 +1,7 @@
 -- The laws that join moves on wires to gates, as statements.
-use Rattle.std.specs.Prelude.{◌≡◌, ◌≤◌, ℕ, Bool, true, List, [], ◌∷◌, ◌++◌, length, map, Contains}
+use Rattle.std.specs.Prelude.{◌≡◌, ◌<◌, ◌≤◌, ℕ, Bool, false, true, List, [], ◌∷◌, ◌++◌, length, map}
 use Rattle.amp_core.specs.Amplitude.{none, Same}
-use Rattle.sum_laws.specs.Terms.{apply, amplitude, positions}
+use Rattle.sum_laws.specs.Terms.{apply, amplitude, positions, pick}
 use Rattle.flat_core.specs.Form.{FlatForm}
 use Rattle.flat_core.specs.Label.{wire_id}
 use Rattle.flat_core.specs.Sound.{IsFlat, joined as wires_joined}
@@ -14,7 +14,7 @@ use Rattle.move_plan.specs.Progress.{Progress, Stands, at_start, progress, IsPla
 use Rattle.move_plan.specs.Live.{width}
 use Rattle.move_plan.specs.Laws.{IsInput, ZeroedAreZero}
 use Rattle.gate_core.specs.Meaning.{bit_at, joined}
-use Rattle.gate_core.specs.Local.{AllDiffer, AllBelow}
+use Rattle.gate_core.specs.Local.{Absent, AllDiffer, AllBelow}
 use Rattle.gate_core.specs.Circuit.{IsSound}
 use Rattle.gate_emit.specs.Plans.{gates_of, effect_of, run_moves, MoveFits, Sound}
 use Rattle.qubit_alloc.specs.declared.placed.Placed.{Placed}
@@ -65,14 +65,18 @@ pub record PlanFits (f : FlatForm) (moves : List Move) (wide : ℕ) : Type 0 whe
 abbrev pub PlansFit : Type 0
 PlansFit = (f : FlatForm) (moves : List Move) (wide : ℕ) → IsFlat f → IsPlan f moves → width f moves ≤ wide → PlanFits f moves wide
 
--- the circuit of a plan gives what the paths of the flat form give: to each value of the results the sum of the weights of
--- the agreeing paths that have it at the tops, and to each value with a 1 on another qubit nothing
+-- The circuit of a plan gives what the paths of the flat form give: to each value of the results the sum of the weights of
+-- the agreeing paths that have it at the tops. The value stands on the qubits of the results with 0 on all others, and bits
+-- with a 1 on another qubit have the amplitude 0.
 pub record GivesPaths (f : FlatForm) (moves : List Move) (wide : ℕ) (input : Row) (outcome : List Bool) : Type 0 where
-  pub on_results :
+  pub of_values :
       (values : List Bool) → length values ≡ length (wires_joined f.outs)
       → Same (amplitude (result_bits f moves wide values) (plan_terms f moves wide input outcome)) (path_amplitude f.steps input (bits_of outcome) (wires_joined f.outs) values)
+  pub of_bits :
+      (bits : List Bool) → length bits ≡ wide → ((q : ℕ) → q < length bits → Absent q (joined (out_qubits f moves)) → bit_at bits q ≡ false)
+      → Same (amplitude bits (plan_terms f moves wide input outcome)) (path_amplitude f.steps input (bits_of outcome) (wires_joined f.outs) (pick (joined (out_qubits f moves)) bits))
   pub elsewhere :
-      (bits : List Bool) (q : ℕ) → bit_at bits q ≡ true → ¬ Contains (joined (out_qubits f moves)) q
+      (bits : List Bool) (q : ℕ) → Absent q (joined (out_qubits f moves)) → bit_at bits q ≡ true
       → Same (amplitude bits (plan_terms f moves wide input outcome)) none
 
 abbrev pub GatesGivePaths : Type 0
