@@ -32,15 +32,33 @@ Next d k = IsNextStep (first_steps d k) (step_in d.steps (step_id k))
 
 teleportation_steps_follow : Each 9 (Next teleportation_draft)
 teleportation_steps_follow = (
-  record { there = (lit< tt, (tt, tt)); differ = (tt, tt, tt); known = (tt, tt); unmeasured = refl; eighths = tt; next_number = tt }, (
-  record { there = (lit< tt, (lit< tt, tt)); differ = (eqb-false 2 1 refl, tt, tt); known = (inr (lit< tt), tt); unmeasured = refl; eighths = tt; next_number = tt }, (
-  record { there = (lit< tt, (lit< tt, tt)); differ = (eqb-false 1 0 refl, tt, tt); known = (inl refl, tt); unmeasured = refl; eighths = tt; next_number = tt }, (
-  record { there = (lit< tt, (tt, tt)); differ = (tt, tt, tt); known = (tt, tt); unmeasured = refl; eighths = tt; next_number = tt }, (
-  record { there = (lit< tt, (tt, tt)); differ = (tt, tt, tt); known = (tt, tt); unmeasured = refl; eighths = tt; next_number = refl }, (
-  record { there = (lit< tt, (tt, tt)); differ = (tt, tt, tt); known = (tt, tt); unmeasured = refl; eighths = tt; next_number = refl }, (
-  record { there = (lit< tt, (lit< tt, tt)); differ = (eqb-false 2 1 refl, tt, tt); known = (inr (lit< tt), tt); unmeasured = refl; eighths = tt; next_number = tt }, (
-  record { there = (lit< tt, (lit< tt, lit< tt)); differ = (eqb-false 3 0 refl, eqb-false 3 2 refl, eqb-false 0 2 refl); known = (inl refl, inr (lit< tt)); unmeasured = refl; eighths = tt; next_number = tt }, (
-  record { there = (tt, (lit< tt, tt)); differ = (tt, tt, tt); known = (inr (lit< tt), tt); unmeasured = tt; eighths = (lit< tt, lit< tt); next_number = tt }, tt)))))))))
+  record { there = (lit< tt, (tt, tt)); differ = (tt, tt, tt); known = (tt, tt); unmeasured = refl; eighths = tt; next_number = tt },
+  (
+    record { there = (lit< tt, (lit< tt, tt)); differ = (eqb-false 2 1 refl, tt, tt); known = (inr (lit< tt), tt); unmeasured = refl; eighths = tt; next_number = tt },
+    (
+      record { there = (lit< tt, (lit< tt, tt)); differ = (eqb-false 1 0 refl, tt, tt); known = (inl refl, tt); unmeasured = refl; eighths = tt; next_number = tt },
+      (
+        record { there = (lit< tt, (tt, tt)); differ = (tt, tt, tt); known = (tt, tt); unmeasured = refl; eighths = tt; next_number = tt },
+        (
+          record { there = (lit< tt, (tt, tt)); differ = (tt, tt, tt); known = (tt, tt); unmeasured = refl; eighths = tt; next_number = refl },
+          (
+            record { there = (lit< tt, (tt, tt)); differ = (tt, tt, tt); known = (tt, tt); unmeasured = refl; eighths = tt; next_number = refl },
+            (
+              record { there = (lit< tt, (lit< tt, tt)); differ = (eqb-false 2 1 refl, tt, tt); known = (inr (lit< tt), tt); unmeasured = refl; eighths = tt; next_number = tt },
+              (
+                record { there = (lit< tt, (lit< tt, lit< tt)); differ = (eqb-false 3 0 refl, eqb-false 3 2 refl, eqb-false 0 2 refl); known = (inl refl, inr (lit< tt)); unmeasured = refl; eighths = tt; next_number = tt },
+                (
+                  record { there = (tt, (lit< tt, tt)); differ = (tt, tt, tt); known = (inr (lit< tt), tt); unmeasured = tt; eighths = (lit< tt, lit< tt); next_number = tt },
+                  tt,
+                ),
+              ),
+            ),
+          ),
+        ),
+      ),
+    ),
+  ),
+)
 
 pub teleportation_is_draft : IsDraft teleportation_draft
 teleportation_is_draft = record {
@@ -88,15 +106,33 @@ other_wire v b w m d c = absurd (not_dropped (end_of teleportation w) d (inl (ap
 
 teleportation_has_x : Each 9 HasX
 teleportation_has_x = (
-  λ w e c. other_wire 1 false w refl e c, (
-  λ w e c. refl, (
-  λ w e c. refl, (
-  λ w e c. other_wire 0 false w refl e c, (
-  λ w e c. c, (
-  λ w e c. c, (
-  λ w e c. refl, (
-  λ w e c. refl, (
-  λ w e c. c, tt)))))))))
+  λ w e c. other_wire 1 false w refl e c,
+  (
+    λ w e c. refl,
+    (
+      λ w e c. refl,
+      (
+        λ w e c. other_wire 0 false w refl e c,
+        (
+          λ w e c. c,
+          (
+            λ w e c. c,
+            (
+              λ w e c. refl,
+              (
+                λ w e c. refl,
+                (
+                  λ w e c. c,
+                  tt,
+                ),
+              ),
+            ),
+          ),
+        ),
+      ),
+    ),
+  ),
+)
 
 abbrev IsMeasured : ℕ → Type 0
 IsMeasured k = (w : WireId) → measures w (step_at teleportation (step_id k)) ≡ true → end_of teleportation w ≡ Measured
@@ -106,15 +142,33 @@ no_measure w e = absurd (cc)
 
 teleportation_measured : Each 9 IsMeasured
 teleportation_measured = (
-  no_measure, (
-  no_measure, (
-  no_measure, (
-  no_measure, (
-  λ w m. ap (end_of teleportation) (sym (same_wire_is (wire_id 0) w m)), (
-  λ w m. ap (end_of teleportation) (sym (same_wire_is (wire_id 1) w m)), (
-  no_measure, (
-  no_measure, (
-  no_measure, tt)))))))))
+  no_measure,
+  (
+    no_measure,
+    (
+      no_measure,
+      (
+        no_measure,
+        (
+          λ w m. ap (end_of teleportation) (sym (same_wire_is (wire_id 0) w m)),
+          (
+            λ w m. ap (end_of teleportation) (sym (same_wire_is (wire_id 1) w m)),
+            (
+              no_measure,
+              (
+                no_measure,
+                (
+                  no_measure,
+                  tt,
+                ),
+              ),
+            ),
+          ),
+        ),
+      ),
+    ),
+  ),
+)
 
 not_measured : {A : Type 0} (e : End) → e ≡ Measured → (e ≡ Dropped) ⊎ (e ≡ Output) → A
 not_measured e m (inl d) = let no : Measured ≡ Dropped = sym m ∙ d in absurd (cc)
@@ -253,3 +307,6 @@ step_added d steps k s now next l is made = made ∙ ap (λ x. with_step x (get_
 
 pub teleportation_made : (d : DraftForm) (ins outs : List (List WireId)) → d ≡ teleportation_draft → ins ≡ (wire_id 0 ∷ []) ∷ [] → outs ≡ (wire_id 2 ∷ []) ∷ [] → IsFlat (finished d ins outs)
 teleportation_made d ins outs e g h = subst IsFlat (λ i. finished (sym e i) (sym g i) (sym h i)) teleportation_is_flat
+
+pub controlled_hadamard_made : (d : DraftForm) (ins outs : List (List WireId)) → d ≡ controlled_hadamard_draft → ins ≡ (wire_id 0 ∷ []) ∷ (wire_id 1 ∷ []) ∷ [] → outs ≡ (wire_id 0 ∷ []) ∷ (wire_id 1 ∷ []) ∷ [] → IsFlat (finished d ins outs)
+controlled_hadamard_made d ins outs e g h = subst IsFlat (λ i. finished (sym e i) (sym g i) (sym h i)) controlled_hadamard_is_flat

@@ -2,7 +2,7 @@
 
 ghost use Rattle.std.specs.Prelude.{◌≡◌, ◌∷◌, [], IfOk, OnOk, true};
 ghost use Rattle.flat_core.specs.Drafts.{IsDraft};
-ghost use Rattle.plan_gates.specs.Example.{with_steps, teleportation_draft, teleportation_steps, teleportation};
+ghost use Rattle.plan_gates.specs.Example.{with_steps, controlled_hadamard_draft, controlled_hadamard, teleportation_draft, teleportation_steps, teleportation};
 
 use flat_core::{Draft, End, Flat, Lit, Step, StepId, WireId, WireList, WireLists};
 use move_plan::{Move, Rows};
@@ -52,19 +52,95 @@ fn teleportation_wires(alloc: Global) -> Result<Draft, LimitFault>
     Ok(draft)
 }
 
+// The wires of a controlled Hadamard matrix.
+fn hadamard_wires(alloc: Global) -> Result<Draft, LimitFault>
+    ensures { IfOk result (λ d. d ≡ with_steps controlled_hadamard_draft []) }
+{
+    let mut draft = Draft::new(alloc);
+    draft.wire(true)?;
+    draft.wire(true)?;
+    draft.end(wire(0), End::Output);
+    draft.end(wire(1), End::Output);
+    Ok(draft)
+}
+
+// A Hadamard matrix where the first of two inputs is 0.
+fn controlled_hadamard(alloc: Global) -> Result<Flat, LimitFault>
+    ensures { IfOk result (λ f. f ≡ controlled_hadamard) }
+{
+    let mut draft = hadamard_wires(alloc)?;
+    let control = Lit {
+        wire: wire(0),
+        positive: false,
+    };
+    let step = Step::H {
+        target: wire(1),
+        control: Some(control),
+    };
+    add_steps(&mut draft, &[step])?;
+    let ins = two_lists(alloc)?;
+    let outs = two_lists(alloc)?;
+    Ok(draft.finish(ins, outs))
+}
+
+// The first two wires, each in a list of its own.
+fn two_lists(alloc: Global) -> Result<WireLists, AllocError>
+    ensures { IfOk result (λ lists. lists ≡ (record { number = 0 } ∷ []) ∷ (record { number = 1 } ∷ []) ∷ []) }
+{
+    let mut lists = single(alloc, wire(0))?;
+    let mut second = WireList::new(alloc);
+    second.push(wire(1))?;
+    lists.push(second)?;
+    Ok(lists)
+}
+
 fn teleportation_steps() -> [Step; 9]
     ensures { result ≡ teleportation_steps }
 {
     [
-        Step::H { target: wire(1), control: None },
-        Step::X { target: wire(2), first: set(1), second: None },
-        Step::X { target: wire(1), first: set(0), second: None },
-        Step::H { target: wire(0), control: None },
-        Step::M { wire: wire(0), number: 0 },
-        Step::M { wire: wire(1), number: 1 },
-        Step::X { target: wire(2), first: set(1), second: None },
-        Step::X { target: wire(3), first: set(0), second: set(2) },
-        Step::P { eighths: 4, control: Lit { wire: wire(3), positive: true } },
+        Step::H {
+            target: wire(1),
+            control: None,
+        },
+        Step::X {
+            target: wire(2),
+            first: set(1),
+            second: None,
+        },
+        Step::X {
+            target: wire(1),
+            first: set(0),
+            second: None,
+        },
+        Step::H {
+            target: wire(0),
+            control: None,
+        },
+        Step::M {
+            wire: wire(0),
+            number: 0,
+        },
+        Step::M {
+            wire: wire(1),
+            number: 1,
+        },
+        Step::X {
+            target: wire(2),
+            first: set(1),
+            second: None,
+        },
+        Step::X {
+            target: wire(3),
+            first: set(0),
+            second: set(2),
+        },
+        Step::P {
+            eighths: 4,
+            control: Lit {
+                wire: wire(3),
+                positive: true,
+            },
+        },
     ]
 }
 
