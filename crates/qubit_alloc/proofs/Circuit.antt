@@ -26,7 +26,7 @@ use Rattle.qubit_alloc.specs.Spread.{spread, spread_term, spread_all, to_qubit, 
 use Rattle.qubit_alloc.specs.Laws.{InputsStandFirst, PlacedMovesAgree, PlacedPlansAgree, CircuitGivesPaths, OtherQubitsZero}
 use Rattle.qubit_alloc.proofs.Pigeon.{count_max}
 use Rattle.qubit_alloc.proofs.Placing.{placed_move}
-use Rattle.qubit_alloc.proofs.Starting.{inputs_more, live_start, first_less, first_is, placed_start}
+use Rattle.qubit_alloc.proofs.Starting.{live_start, first_less, first_is, placed_start, find_input, all_before}
 use Rattle.qubit_alloc.proofs.ApartLaws.{outputs_apart}
 use Rattle.qubit_alloc.proofs.Spreading.{Apart, any_none, spread-at, spread_same}
 use Rattle.qubit_alloc.proofs.Composed.{apart_of, Idle, one_live, place_kept, spread_each, all_map, moves_on}
@@ -167,33 +167,10 @@ other_qubits_zero f input outcome moves ok given zeros plan j none =
 
 -- the qubits of the inputs
 module _ (f : FlatForm) (input : ℕ → Bool) where
-  find_input : (n : ℕ) (j : ℕ) → n ≤ length f.wires → j < inputs_before f.wires n → (w : WireId) × (w.number < n) × (is_input f w ≡ true) × (inputs_before f.wires w.number ≡ j)
-  find_input zero j nl lt = absurd (omega arith)
-  find_input (suc n) j nl lt = by (find_input n j (omega arith)) (is_input f (wire_id n)) refl (ap (inputs_before f.wires) (sym (add-one n)) ∙ inputs_more f n (omega arith))
-    where
-      by : (j < inputs_before f.wires n → (w : WireId) × (w.number < n) × (is_input f w ≡ true) × (inputs_before f.wires w.number ≡ j)) → (b : Bool) → is_input f (wire_id n) ≡ b
-          → inputs_before f.wires (suc n) ≡ inputs_before f.wires n + cond (is_input f (wire_id n)) 1 0 → (w : WireId) × (w.number < suc n) × (is_input f w ≡ true) × (inputs_before f.wires w.number ≡ j)
-      by ih b e more = elim (cases_lt j (inputs_before f.wires n)) [
-        | inl l ↦ let g = ih l in let gl = g.1 in (g.0, omega arith, g.2, g.3)
-        | inr l ↦ here b e more l
-      ]
-        where
-          here : (b : Bool) → is_input f (wire_id n) ≡ b → inputs_before f.wires (suc n) ≡ inputs_before f.wires n + cond (is_input f (wire_id n)) 1 0 → inputs_before f.wires n ≤ j
-              → (w : WireId) × (w.number < suc n) × (is_input f w ≡ true) × (inputs_before f.wires w.number ≡ j)
-          here true e more l =
-              let m : inputs_before f.wires (suc n) ≡ inputs_before f.wires n + 1 = more ∙ ap (λ b. inputs_before f.wires n + cond b 1 0) e in
-              (wire_id n, omega arith, e, omega (arith, m, l, lt))
-          here false e more l =
-              let m : inputs_before f.wires (suc n) ≡ inputs_before f.wires n + 0 = more ∙ ap (λ b. inputs_before f.wires n + cond b 1 0) e in
-              absurd (omega (arith, m, l, lt))
-
-  all_before : inputs_before f.wires (length f.wires) ≡ count_inputs f.wires
-  all_before = ap (count_by (λ (w : WireForm). w.input)) (take_all (length f.wires) f.wires (le_refl (length f.wires)))
-
   pub first_row-is : (j : ℕ) → first_row f (input_row f.wires input) j ≡ (nat_lt j (count_inputs f.wires) && input j)
   first_row-is j = elim (cases_lt j (count_inputs f.wires)) [
     | inl l ↦
-        let g = find_input (length f.wires) j (le_refl (length f.wires)) (subst (λ n. j < n) (sym all_before) l) in
+        let g = find_input f (length f.wires) j (le_refl (length f.wires)) (subst (λ n. j < n) (sym (all_before f)) l) in
         let pl = placed_start f (length f.wires) (count_max (length f.wires) (λ n. live f at_start (wire_id n))) in
         ap (first_row f (input_row f.wires input)) (sym (first_is f g.0 g.2 ∙ g.3))
         ∙ spread-at f (live f at_start) (first_place f) (input_row f.wires input) (apart_of f (live f at_start) (length f.wires) (first_place f) pl) g.0 g.1 (live_start f g.0 ∙ g.2)
@@ -211,7 +188,7 @@ module _ (f : FlatForm) (input : ℕ → Bool) where
           let on : is_input f (wire_id k) ≡ true = sym (live_start f (wire_id k)) ∙ ea in
           let less : inputs_before f.wires k + 1 ≤ inputs_before f.wires (length f.wires) = first_less f k (length f.wires) kl (le_refl (length f.wires)) on in
           let at : inputs_before f.wires k ≡ j = sym (first_is f (wire_id k) on) ∙ eqb-true (first_place f (wire_id k)) j eb in
-          let all = all_before in
+          let all = all_before f in
           absurd (omega (arith, less, at, all, past))
 
 pub inputs_stand_first : InputsStandFirst

@@ -7,3 +7,7 @@ pub mod Spreading
 pub mod Named
 pub mod Composed
 pub mod Circuit
+pub mod Heaps
+pub mod Seating
+pub mod Moving
+pub mod Turning

@@ -1,6 +1,6 @@
 -- Where the wires stand at the start.
 use Rattle.std.proofs.Common.{◌≡◌, ℕ, zero, suc, ◌+◌, ◌<◌, ◌≤◌, ◌⊎◌, inl, inr, Bool, true, false, cond, not, nat_lt, ◌==◌, ◌&&◌, ◌||◌, List, length, take, count_by, refl, sym, ◌∙◌, ap, ap₂, subst, arith, add-one, take_all, le_refl, eq-or-lt_of_le, le_of_suc-le-suc}
-use Rattle.std.proofs.lemmas.Bool.{cases_order, cases_lt}
+use Rattle.std.proofs.lemmas.Bool.{cases_order, cases_lt, eq-eqb, eqb-true, lt-ltb, le-ltb}
 use Rattle.std.proofs.lemmas.List.Sums.{sum_by_more}
 use Rattle.flat_core.specs.declared.step.WireId.{WireId}
 use Rattle.flat_core.specs.Form.{FlatForm, WireForm}
@@ -9,7 +9,8 @@ use Rattle.flat_mean.specs.Path.{sum_below, inputs_before, count_inputs}
 use Rattle.flat_mean.proofs.Below.{sum_below_ext}
 use Rattle.move_plan.specs.Progress.{at_start}
 use Rattle.move_plan.specs.Live.{live, count_wires}
-use Rattle.qubit_alloc.specs.Place.{first_place, IsPlaced}
+use Rattle.qubit_alloc.specs.Place.{is_taken, first_place, IsPlaced}
+use Rattle.qubit_alloc.proofs.Spreading.{any_none, any_some}
 
 abbrev one_if : Bool → ℕ
 one_if b = cond b 1 0
@@ -74,3 +75,49 @@ module _ (f : FlatForm) where
           let same : inputs_before f.wires v.number ≡ inputs_before f.wires w.number = sym (first_is v iv) ∙ e ∙ first_is w iw in
           let h : inputs_before f.wires w.number + 1 ≤ inputs_before f.wires v.number = first_less w.number v.number l (omega arith) iw in
           absurd (omega (arith, h, same))
+
+  -- the input that comes at a place
+  pub find_input : (n : ℕ) (j : ℕ) → n ≤ length f.wires → j < inputs_before f.wires n → (w : WireId) × (w.number < n) × (is_input f w ≡ true) × (inputs_before f.wires w.number ≡ j)
+  find_input zero j nl lt = absurd (omega arith)
+  find_input (suc n) j nl lt = by (find_input n j (omega arith)) (is_input f (wire_id n)) refl (ap (inputs_before f.wires) (sym (add-one n)) ∙ inputs_more n (omega arith))
+    where
+      by : (j < inputs_before f.wires n → (w : WireId) × (w.number < n) × (is_input f w ≡ true) × (inputs_before f.wires w.number ≡ j)) → (b : Bool) → is_input f (wire_id n) ≡ b
+          → inputs_before f.wires (suc n) ≡ inputs_before f.wires n + cond (is_input f (wire_id n)) 1 0 → (w : WireId) × (w.number < suc n) × (is_input f w ≡ true) × (inputs_before f.wires w.number ≡ j)
+      by ih b e more = elim (cases_lt j (inputs_before f.wires n)) [
+        | inl l ↦ let g = ih l in let gl = g.1 in (g.0, omega arith, g.2, g.3)
+        | inr l ↦ here b e more l
+      ]
+        where
+          here : (b : Bool) → is_input f (wire_id n) ≡ b → inputs_before f.wires (suc n) ≡ inputs_before f.wires n + cond (is_input f (wire_id n)) 1 0 → inputs_before f.wires n ≤ j
+              → (w : WireId) × (w.number < suc n) × (is_input f w ≡ true) × (inputs_before f.wires w.number ≡ j)
+          here true e more l =
+              let m : inputs_before f.wires (suc n) ≡ inputs_before f.wires n + 1 = more ∙ ap (λ b. inputs_before f.wires n + cond b 1 0) e in
+              (wire_id n, omega arith, e, omega (arith, m, l, lt))
+          here false e more l =
+              let m : inputs_before f.wires (suc n) ≡ inputs_before f.wires n + 0 = more ∙ ap (λ b. inputs_before f.wires n + cond b 1 0) e in
+              absurd (omega (arith, m, l, lt))
+
+  pub all_before : inputs_before f.wires (length f.wires) ≡ count_inputs f.wires
+  all_before = ap (count_by (λ (w : WireForm). w.input)) (take_all (length f.wires) f.wires (le_refl (length f.wires)))
+
+  -- at the start the first qubits are taken, one for each input
+  pub taken_start : (j : ℕ) → is_taken f (live f at_start) (first_place f) j ≡ nat_lt j (count_inputs f.wires)
+  taken_start j = elim (cases_lt j (count_inputs f.wires)) [
+    | inl l ↦
+        let g = find_input (length f.wires) j (le_refl (length f.wires)) (subst (λ n. j < n) (sym all_before) l) in
+        any_some (length f.wires) (λ k. live f at_start (wire_id k) && (first_place f (wire_id k) == j)) g.0.number g.1 (ap₂ ◌&&◌ (live_start g.0 ∙ g.2) (eq-eqb (first_place f g.0) j (first_is g.0 g.2 ∙ g.3)))
+        ∙ sym (lt-ltb j (count_inputs f.wires) l)
+    | inr past ↦
+        any_none (length f.wires) (λ k. live f at_start (wire_id k) && (first_place f (wire_id k) == j)) (λ k kl. none past k kl (live f at_start (wire_id k)) (first_place f (wire_id k) == j) refl refl)
+        ∙ sym (le-ltb j (count_inputs f.wires) past)
+  ]
+    where
+      none : count_inputs f.wires ≤ j → (k : ℕ) → k < length f.wires → (a b : Bool) → live f at_start (wire_id k) ≡ a → (first_place f (wire_id k) == j) ≡ b → (a && b) ≡ false
+      none past k kl false b ea eb = refl
+      none past k kl true false ea eb = refl
+      none past k kl true true ea eb =
+          let on : is_input f (wire_id k) ≡ true = sym (live_start (wire_id k)) ∙ ea in
+          let less : inputs_before f.wires k + 1 ≤ inputs_before f.wires (length f.wires) = first_less k (length f.wires) kl (le_refl (length f.wires)) on in
+          let at : inputs_before f.wires k ≡ j = sym (first_is (wire_id k) on) ∙ eqb-true (first_place f (wire_id k)) j eb in
+          let all = all_before in
+          absurd (omega (arith, less, at, all, past))

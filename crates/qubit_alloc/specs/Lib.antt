@@ -2,3 +2,5 @@ pub mod Place
 pub mod PlacedMoves
 pub mod Spread
 pub mod Laws
+pub mod Free
+pub mod State
