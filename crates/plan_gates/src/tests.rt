@@ -1,11 +1,16 @@
 //! Gates of whole lists of moves, from forms made by hand.
 
-ghost use Rattle.std.specs.Prelude.{◌≡◌, ◌∷◌, [], IfOk, OnOk, true};
+ghost use Rattle.std.specs.Prelude.{◌≡◌, ◌≤◌, ◌∷◌, [], IfOk, OnOk, true};
 ghost use Rattle.flat_core.specs.Drafts.{IsDraft};
+ghost use Rattle.move_plan.specs.Progress.{IsPlan};
+ghost use Rattle.move_plan.specs.Live.{width as spec_width};
 ghost use Rattle.plan_gates.specs.Example.{with_steps, controlled_hadamard_draft, controlled_hadamard, teleportation_draft, teleportation_steps, teleportation};
 
+use crate::next_gates::emit_next;
 use flat_core::{Draft, End, Flat, Lit, Step, StepId, WireId, WireList, WireLists};
+use gate_core::gate::{Gate, OneKind, PlainGate};
 use move_plan::{Move, Rows};
+use qubit_alloc::Placer;
 use silq_io::LimitFault;
 use std::alloc::{AllocError, Global};
 use std::test::Fail;
@@ -163,4 +168,94 @@ fn teleportation(alloc: Global) -> Result<Flat, LimitFault>
     let ins = single(alloc, wire(0))?;
     let outs = single(alloc, wire(2))?;
     Ok(draft.finish(ins, outs))
+}
+
+// The gates of a valid list of moves, in order.
+fn gates(alloc: Global, flat: &Flat, moves: &[Move], width: usize) -> Result<Vec<Gate>, AllocError>
+    requires plan { IsPlan flat.now moves.now }
+    requires fits { spec_width flat.now moves.now ≤ width }
+    requires few { width ≤ 100000 }
+{
+    let mut placer = Placer::new(alloc, flat, width)?;
+    let mut gates = Vec::new(alloc);
+    for mv in moves {
+        let row = emit_next(&mut placer, flat, *mv);
+        gates.extend_from_slice(row.as_slice())?;
+    }
+    Ok(gates)
+}
+
+fn flip(q: u32) -> PlainGate {
+    PlainGate::One {
+        kind: OneKind::X,
+        q,
+    }
+}
+
+fn step(number: u32) -> StepId {
+    StepId { number }
+}
+
+#[test]
+fn teleportation_by_moves(rt: HostRuntime) -> Result<(), Fail> {
+    let flat = teleportation(rt.alloc())?;
+    let moves = [
+        Move::Do(step(0)),
+        Move::Do(step(1)),
+        Move::Do(step(2)),
+        Move::Do(step(3)),
+        Move::Do(step(4)),
+        Move::Do(step(5)),
+        Move::Do(step(6)),
+        Move::Free(wire(1)),
+        Move::Up(step(7)),
+        Move::Do(step(8)),
+        Move::Down(step(7)),
+        Move::Free(wire(0)),
+    ];
+        let wanted = [
+        Gate::One { kind: OneKind::H, q: 1 },
+        Gate::Cx { c: 1, t: 2 },
+        Gate::Cx { c: 0, t: 1 },
+        Gate::One { kind: OneKind::H, q: 0 },
+        Gate::Measure { q: 0, bit: 0 },
+        Gate::Measure { q: 1, bit: 1 },
+        Gate::Cx { c: 1, t: 2 },
+        Gate::If { bit: 1, value: 1, gate: flip(1) },
+        Gate::Ccx { a: 0, b: 2, t: 1 },
+        Gate::One { kind: OneKind::Z, q: 1 },
+        Gate::Ccx { a: 0, b: 2, t: 1 },
+        Gate::If { bit: 0, value: 1, gate: flip(0) },
+    ];
+    let mut rows = Rows::new(rt.alloc(), &flat)?;
+    assert!(rt; rows.valid(&flat, &moves));
+    let width = rows.width(&flat, &moves);
+    assert_eq!(rt; width, 3);
+    let gates = gates(rt.alloc(), &flat, &moves, width)?;
+    assert_eq!(rt; gates.as_slice(), wanted.as_slice());
+    Ok(())
+}
+
+#[test]
+fn controlled_hadamard_by_moves(rt: HostRuntime) -> Result<(), Fail> {
+    let flat = controlled_hadamard(rt.alloc())?;
+    let moves = [Move::Do(step(0))];
+    let wanted = [
+        Gate::One { kind: OneKind::X, q: 0 },
+        Gate::One { kind: OneKind::S, q: 1 },
+        Gate::One { kind: OneKind::H, q: 1 },
+        Gate::One { kind: OneKind::T, q: 1 },
+        Gate::Cx { c: 0, t: 1 },
+        Gate::One { kind: OneKind::Tdg, q: 1 },
+        Gate::One { kind: OneKind::H, q: 1 },
+        Gate::One { kind: OneKind::Sdg, q: 1 },
+        Gate::One { kind: OneKind::X, q: 0 },
+    ];
+    let mut rows = Rows::new(rt.alloc(), &flat)?;
+    assert!(rt; rows.valid(&flat, &moves));
+    let width = rows.width(&flat, &moves);
+    assert_eq!(rt; width, 2);
+    let gates = gates(rt.alloc(), &flat, &moves, width)?;
+    assert_eq!(rt; gates.as_slice(), wanted.as_slice());
+    Ok(())
 }
