@@ -12,3 +12,4 @@ pub mod Emitted
 pub mod PlanLaws
 pub mod Examples
 pub mod ExampleForms
+pub mod Loops
