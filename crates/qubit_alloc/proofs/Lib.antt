@@ -11,3 +11,5 @@ pub mod Heaps
 pub mod Seating
 pub mod Moving
 pub mod Turning
+pub mod Finishing
+pub mod Examples

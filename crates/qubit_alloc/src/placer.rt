@@ -1,14 +1,15 @@
 //! Wires placed on qubits, move by move.
 
 ghost use Rattle.std.specs.Prelude.{◌≡◌, ◌+◌, ◌<◌, ◌≤◌, ℕ, Bool, true, false, cond, ◌&&◌, nat_lt, leb, length, get_or, replicate, None, Some, IfOk};
-ghost use Rattle.flat_core.specs.Label.{is_input};
+ghost use Rattle.flat_core.specs.Label.{is_input, end_of};
 ghost use Rattle.flat_core.specs.declared.step.WireId.{WireId};
 ghost use Rattle.flat_mean.specs.Path.{count_inputs, inputs_before};
 ghost use Rattle.move_plan.specs.Progress.{at_start, moved, Stands, IsEnd};
+ghost use Rattle.move_plan.specs.Effect.{is_output};
 ghost use Rattle.move_plan.specs.Live.{live, live_at_end, count_wires};
 ghost use Rattle.qubit_alloc.specs.Place.{Place, first_place, place_move, at_end};
 ghost use Rattle.qubit_alloc.specs.PlacedMoves.{placed_of};
-ghost use Rattle.qubit_alloc.specs.State.{progress_of, qubit_told, IsMadeFor, Tells, times_in};
+ghost use Rattle.qubit_alloc.specs.State.{progress_of, qubit_told, IsMadeFor, Tells, times_in, keep_if};
 
 use crate::free::FreeQubits;
 use crate::placed::Placed;
@@ -96,6 +97,26 @@ impl Placer {
         placed
     }
 
+    /// Ends the moves: each Output wire that nothing touched gets the least free qubit, in the order of the wires. It
+    /// takes no memory.
+    pub fn finish(&mut self, flat: &Flat)
+        requires made { IsMadeFor flat.now self.old }
+        requires going { self.old.finished ≡ false }
+        requires fits { count_wires flat.now (live_at_end flat.now (progress_of self.old)) ≤ self.old.width }
+        ensures made { IsMadeFor flat.now self.new }
+        ensures finished { self.new.finished ≡ true }
+        ensures progress { progress_of self.new ≡ progress_of self.old }
+        ensures places { (place : Place) → Tells flat.now self.old place → Tells flat.now self.new (at_end flat.now (progress_of self.old) place) }
+        ensures width { self.new.width ≡ self.old.width }
+    {
+        let _steps = flat.steps();
+        for n in 0..flat.wires() {
+            let output = if_output(flat, WireId { number: n as u32 });
+            seat(&mut self.qubits, &mut self.free, output);
+        }
+        self.finished = true;
+    }
+
     /// The qubit of a wire, if it is on one: while the moves are made, where the wire is live, and after `finish` also
     /// where it is an Output. It takes no memory.
     pub fn qubit(&self, w: WireId) -> Option<u32>
@@ -105,6 +126,17 @@ impl Placer {
             Some(qubit) => *qubit,
             None => None,
         }
+    }
+}
+
+// A wire, if it ends as an Output.
+fn if_output(flat: &Flat, w: WireId) -> Option<WireId>
+    requires { w.number < length flat.now.wires }
+    ensures { result ≡ keep_if (λ v. is_output (end_of flat.now v)) (Some w) }
+{
+    match flat.end(w) {
+        End::Output => Some(w),
+        End::Dropped | End::Measured | End::Zeroed => None,
     }
 }
 
