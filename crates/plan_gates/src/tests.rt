@@ -170,8 +170,27 @@ fn teleportation(alloc: Global) -> Result<Flat, LimitFault>
     Ok(draft.finish(ins, outs))
 }
 
+// The gates of a list of moves, in order: none where it is not valid or has another width.
+fn gates(
+    alloc: Global,
+    flat: &Flat,
+    moves: &[Move],
+    width: usize,
+) -> Result<Vec<Gate>, AllocError> {
+    let mut rows = Rows::new(alloc, flat)?;
+    if width > 100_000 || !rows.valid(flat, moves) || rows.width(flat, moves) != width {
+        return Ok(Vec::new(alloc));
+    }
+    gates_of_plan(alloc, flat, moves, width)
+}
+
 // The gates of a valid list of moves, in order.
-fn gates(alloc: Global, flat: &Flat, moves: &[Move], width: usize) -> Result<Vec<Gate>, AllocError>
+fn gates_of_plan(
+    alloc: Global,
+    flat: &Flat,
+    moves: &[Move],
+    width: usize,
+) -> Result<Vec<Gate>, AllocError>
     requires plan { IsPlan flat.now moves.now }
     requires fits { spec_width flat.now moves.now ≤ width }
     requires few { width ≤ 100000 }
@@ -213,25 +232,38 @@ fn teleportation_by_moves(rt: HostRuntime) -> Result<(), Fail> {
         Move::Down(step(7)),
         Move::Free(wire(0)),
     ];
-        let wanted = [
-        Gate::One { kind: OneKind::H, q: 1 },
+    let wanted = [
+        Gate::One {
+            kind: OneKind::H,
+            q: 1,
+        },
         Gate::Cx { c: 1, t: 2 },
         Gate::Cx { c: 0, t: 1 },
-        Gate::One { kind: OneKind::H, q: 0 },
+        Gate::One {
+            kind: OneKind::H,
+            q: 0,
+        },
         Gate::Measure { q: 0, bit: 0 },
         Gate::Measure { q: 1, bit: 1 },
         Gate::Cx { c: 1, t: 2 },
-        Gate::If { bit: 1, value: 1, gate: flip(1) },
+        Gate::If {
+            bit: 1,
+            value: 1,
+            gate: flip(1),
+        },
         Gate::Ccx { a: 0, b: 2, t: 1 },
-        Gate::One { kind: OneKind::Z, q: 1 },
+        Gate::One {
+            kind: OneKind::Z,
+            q: 1,
+        },
         Gate::Ccx { a: 0, b: 2, t: 1 },
-        Gate::If { bit: 0, value: 1, gate: flip(0) },
+        Gate::If {
+            bit: 0,
+            value: 1,
+            gate: flip(0),
+        },
     ];
-    let mut rows = Rows::new(rt.alloc(), &flat)?;
-    assert!(rt; rows.valid(&flat, &moves));
-    let width = rows.width(&flat, &moves);
-    assert_eq!(rt; width, 3);
-    let gates = gates(rt.alloc(), &flat, &moves, width)?;
+    let gates = gates(rt.alloc(), &flat, &moves, 3)?;
     assert_eq!(rt; gates.as_slice(), wanted.as_slice());
     Ok(())
 }
@@ -241,21 +273,41 @@ fn controlled_hadamard_by_moves(rt: HostRuntime) -> Result<(), Fail> {
     let flat = controlled_hadamard(rt.alloc())?;
     let moves = [Move::Do(step(0))];
     let wanted = [
-        Gate::One { kind: OneKind::X, q: 0 },
-        Gate::One { kind: OneKind::S, q: 1 },
-        Gate::One { kind: OneKind::H, q: 1 },
-        Gate::One { kind: OneKind::T, q: 1 },
+        Gate::One {
+            kind: OneKind::X,
+            q: 0,
+        },
+        Gate::One {
+            kind: OneKind::S,
+            q: 1,
+        },
+        Gate::One {
+            kind: OneKind::H,
+            q: 1,
+        },
+        Gate::One {
+            kind: OneKind::T,
+            q: 1,
+        },
         Gate::Cx { c: 0, t: 1 },
-        Gate::One { kind: OneKind::Tdg, q: 1 },
-        Gate::One { kind: OneKind::H, q: 1 },
-        Gate::One { kind: OneKind::Sdg, q: 1 },
-        Gate::One { kind: OneKind::X, q: 0 },
+        Gate::One {
+            kind: OneKind::Tdg,
+            q: 1,
+        },
+        Gate::One {
+            kind: OneKind::H,
+            q: 1,
+        },
+        Gate::One {
+            kind: OneKind::Sdg,
+            q: 1,
+        },
+        Gate::One {
+            kind: OneKind::X,
+            q: 0,
+        },
     ];
-    let mut rows = Rows::new(rt.alloc(), &flat)?;
-    assert!(rt; rows.valid(&flat, &moves));
-    let width = rows.width(&flat, &moves);
-    assert_eq!(rt; width, 2);
-    let gates = gates(rt.alloc(), &flat, &moves, width)?;
+    let gates = gates(rt.alloc(), &flat, &moves, 2)?;
     assert_eq!(rt; gates.as_slice(), wanted.as_slice());
     Ok(())
 }

@@ -1,7 +1,7 @@
 -- The moves go on within the width.
 use Rattle.qubit_alloc.specs.State.{progress_of}
 use Rattle.plan_gates.proofs.Loops.{inputs_fit, first_move, next_move, move_made}
-use Rattle.plan_gates.proofs.tests.gates.Goals as goal
+use Rattle.plan_gates.proofs.tests.gates_of_plan.Goals as goal
 
 pub new-requires-clause-inputs : goal.new-requires-clause-inputs
 new-requires-clause-inputs c = inputs_fit c.args.flat.now c.args.moves.now c.args.width c.requires.fits

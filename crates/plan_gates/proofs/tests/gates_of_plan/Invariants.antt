@@ -2,7 +2,7 @@
 use Rattle.std.proofs.Common.{◌≡◌, false, drop}
 use Rattle.qubit_alloc.specs.State.{IsMadeFor, progress_of}
 use Rattle.plan_gates.proofs.Loops.{GoesOn}
-use Rattle.plan_gates.proofs.tests.gates.Given as goal
+use Rattle.plan_gates.proofs.tests.gates_of_plan.Given as goal
 
 abbrev pub invariant-loop-mv : goal.invariant-loop-mv
 invariant-loop-mv l = record {
