@@ -1,18 +1,17 @@
 -- The two examples are flat forms.
-use Rattle.std.proofs.Common.{◌≡◌, ◌≢◌, ℕ, zero, suc, ◌<◌, ◌≤◌, ◌⊎◌, inl, inr, Bool, true, false, Option, Some, None, List, [], ◌∷◌, ◌++◌, ◌+◌, Contains, length, take, replicate, get_or, slice_get, le_refl, refl, sym, ◌∙◌, ap, subst, arith, lit<, lit≤}
+use Rattle.std.proofs.Common.{◌≡◌, ℕ, zero, suc, ◌<◌, ◌⊎◌, inl, inr, Bool, true, false, Option, Some, None, List, [], ◌∷◌, ◌++◌, ◌+◌, length, take, replicate, get_or, slice_get, le_refl, refl, sym, ◌∙◌, ap, subst, arith, lit<, lit≤}
 use Rattle.std.proofs.lemmas.Bool.{both_ways, eqb-false}
 use Rattle.std.proofs.lemmas.List.{take_more, take_all, take-replicate, length-replicate, get_or-replicate, get_or_default}
 use Rattle.flat_core.specs.declared.step.Step.{Step}
-use Rattle.flat_core.specs.declared.step.Step.TheVariants.{X, H, P, M}
 use Rattle.flat_core.specs.declared.step.End.{End}
-use Rattle.flat_core.specs.declared.step.End.TheVariants.{Output, Dropped, Measured, Zeroed}
+use Rattle.flat_core.specs.declared.step.End.TheVariants.{Output, Dropped, Measured}
 use Rattle.flat_core.specs.declared.step.WireId.{WireId}
 use Rattle.flat_core.specs.declared.step.StepId.{StepId}
-use Rattle.flat_core.specs.Form.{FlatForm, DraftForm}
+use Rattle.flat_core.specs.Form.{DraftForm}
 use Rattle.flat_core.specs.Label.{wire_id, step_id, no_step, step_in, step_at, end_of, is_input, changes, same_wire}
 use Rattle.flat_core.specs.Ends.{measures}
 use Rattle.flat_core.specs.Sound.{NamesExactly, IsFlat, is_x}
-use Rattle.flat_core.specs.Drafts.{first_steps, with_step, IsNextStep, IsDraft, FitsEnds, finished}
+use Rattle.flat_core.specs.Drafts.{first_steps, with_step, IsNextStep, IsDraft, finished}
 use Rattle.flat_core.proofs.Finishes.{drafts_become_flat}
 use Rattle.flat_core.proofs.Labels.{same_wire_is}
 use Rattle.plan_gates.specs.Example.{with_steps, teleportation_draft, teleportation, controlled_hadamard_draft, controlled_hadamard}

@@ -4,7 +4,7 @@ use Rattle.flat_core.specs.declared.step.Step.{Step}
 use Rattle.flat_core.specs.declared.step.Step.TheVariants.{X, H, P, M}
 use Rattle.flat_core.specs.declared.step.End.TheVariants.{Output, Dropped, Measured}
 use Rattle.flat_core.specs.declared.step.Lit.{Lit}
-use Rattle.flat_core.specs.Form.{FlatForm, DraftForm, WireForm}
+use Rattle.flat_core.specs.Form.{FlatForm, DraftForm}
 use Rattle.flat_core.specs.Label.{wire_id, step_id}
 use Rattle.flat_core.specs.Drafts.{finished}
 use Rattle.move_plan.specs.declared.moves.Move.{Move}

@@ -1,5 +1,4 @@
 -- The moves go on within the width.
-use Rattle.qubit_alloc.specs.State.{progress_of}
 use Rattle.plan_gates.proofs.Loops.{inputs_fit, first_move, next_move, move_made}
 use Rattle.plan_gates.proofs.tests.gates_of_plan.Goals as goal
 

@@ -1,5 +1,5 @@
 -- The form that is made is the example.
-use Rattle.std.proofs.Common.{[], ◌∷◌, ◌∙◌, ap, ap₂, List}
+use Rattle.std.proofs.Common.{[], ◌∷◌, ◌∙◌, ap, ap₂}
 use Rattle.flat_core.specs.declared.step.WireId.{WireId}
 use Rattle.plan_gates.specs.Example.{with_steps}
 use Rattle.plan_gates.proofs.ExampleForms.{teleportation_made}
