@@ -23,7 +23,7 @@ use Rattle.gate_core.specs.Local.{Absent, AllDiffer, AllBelow}
 use Rattle.plan_gates.specs.Registers.{register}
 use Rattle.plan_gates.specs.PlanCircuit.{in_qubits, out_qubits, input_bits}
 use Rattle.plan_gates.proofs.Spots.{on_zeros, register_is_placed}
-use Rattle.plan_gates.proofs.Lists.{joined_on, AllDiffer-map, AllBelow-map, absent_of_none}
+use Rattle.plan_gates.proofs.ListQubits.{joined_on, AllDiffer-map, AllBelow-map, absent_of_none}
 
 -- an input is one of the wires
 pub input_there : (f : FlatForm) (w : WireId) → is_input f w ≡ true → w.number < length f.wires

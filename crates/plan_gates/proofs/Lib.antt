@@ -2,7 +2,7 @@ pub mod Registers
 pub mod Acts
 pub mod Spots
 pub mod Sums
-pub mod Lists
+pub mod ListQubits
 pub mod Ends
 pub mod Paths
 pub mod Numbers
@@ -13,3 +13,4 @@ pub mod PlanLaws
 pub mod Examples
 pub mod ExampleForms
 pub mod Loops
+pub mod Told

@@ -32,7 +32,7 @@ use Rattle.plan_gates.proofs.Acts.{moves_act}
 use Rattle.plan_gates.proofs.Registers.{length-register}
 use Rattle.plan_gates.proofs.Spots.{bits_are_placed}
 use Rattle.plan_gates.proofs.Sums.{amplitude_on_zeros, amplitude_elsewhere, seen_on}
-use Rattle.plan_gates.proofs.Lists.{joined_on, absent_of_none}
+use Rattle.plan_gates.proofs.ListQubits.{joined_on, absent_of_none}
 use Rattle.plan_gates.proofs.Ends.{first_register, outs_differ, outs_below}
 
 module _ (terms_give : TermsGivePaths) (others : OtherQubitsZero) (f : FlatForm) (moves : List Move) (wide : ℕ) (input : Row) (outcome : List Bool)

@@ -1,7 +1,8 @@
 -- The laws that join moves on wires to gates, as statements.
-use Rattle.std.specs.Prelude.{◌≡◌, ◌<◌, ◌≤◌, ℕ, Bool, false, true, List, [], ◌∷◌, ◌++◌, length, map}
+use Rattle.std.specs.Prelude.{◌≡◌, ◌<◌, ◌≤◌, ℕ, Bool, false, true, List, [], ◌∷◌, ◌++◌, length, map, All, IsSome, Some}
 use Rattle.amp_core.specs.Amplitude.{none, Same}
 use Rattle.sum_laws.specs.Terms.{apply, amplitude, positions, pick}
+use Rattle.flat_core.specs.declared.step.WireId.{WireId}
 use Rattle.flat_core.specs.Form.{FlatForm}
 use Rattle.flat_core.specs.Label.{wire_id}
 use Rattle.flat_core.specs.Sound.{IsFlat, joined as wires_joined}
@@ -18,8 +19,9 @@ use Rattle.gate_core.specs.Local.{Absent, AllDiffer, AllBelow}
 use Rattle.gate_core.specs.Circuit.{IsSound}
 use Rattle.gate_emit.specs.Plans.{gates_of, effect_of, run_moves, MoveFits, Sound}
 use Rattle.qubit_alloc.specs.declared.placed.Placed.{Placed}
-use Rattle.qubit_alloc.specs.Place.{Place, first_place, place_all}
+use Rattle.qubit_alloc.specs.Place.{Place, first_place, place_all, place_plan}
 use Rattle.qubit_alloc.specs.PlacedMoves.{placed_of}
+use Rattle.qubit_alloc.specs.State.{PlacerState, progress_of, qubit_told, Tells}
 use Rattle.qubit_alloc.specs.Spread.{do_placed, do_all_placed}
 use Rattle.plan_gates.specs.Registers.{registers}
 use Rattle.plan_gates.specs.PlacedMoves.{CanBeEmitted, move_of_placed}
@@ -44,6 +46,20 @@ OneMoreMoveAddsItsGates =
     (f : FlatForm) (before : List Move) (m : Move)
     → gates_of_plan f (before ++ m ∷ [])
     ≡ gates_of_plan f before ++ gates_of (move_of_placed (placed_of f (progress f at_start before) (place_all f at_start (first_place f) before) m))
+
+-- the qubits that a placer tells of each wire of some lists are these
+pub record TellsLists (v : PlacerState) (lists : List (List WireId)) (qubits : List (List ℕ)) : Type 0 where
+  pub on_qubits : All (All (λ w. IsSome (qubit_told v w))) lists
+  pub only : (told : List (List ℕ)) → map (map Some) told ≡ map (map (qubit_told v)) lists → told ≡ qubits
+
+-- a placer tells the qubits of the parameters before the moves, and those of the results after them
+pub record PlacersTellLists : Type 0 where
+  pub of_parameters :
+      (f : FlatForm) (v : PlacerState) → IsFlat f → v.finished ≡ false → progress_of v ≡ at_start → Tells f v (first_place f)
+      → TellsLists v f.ins (in_qubits f)
+  pub of_results :
+      (f : FlatForm) (moves : List Move) (v : PlacerState) → IsFlat f → v.finished ≡ true → Tells f v (place_plan f moves)
+      → TellsLists v f.outs (out_qubits f moves)
 
 -- where the parameters' wires are the first ones in order, input bits begin on them in their order
 pub record BeginsWith (f : FlatForm) (bits : List Bool) : Type 0 where

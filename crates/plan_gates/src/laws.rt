@@ -1,6 +1,6 @@
 //! Laws of placed moves and of the circuit of a plan, each a contract over the definitions alone.
 
-ghost use Rattle.plan_gates.specs.Laws.{GatesGivePaths, InputsBeginInOrder, OneMoreMoveAddsItsGates, PlacedMovesActOnBits, PlacedMovesCanBeEmitted, PlansFit};
+ghost use Rattle.plan_gates.specs.Laws.{GatesGivePaths, InputsBeginInOrder, OneMoreMoveAddsItsGates, PlacedMovesActOnBits, PlacedMovesCanBeEmitted, PlacersTellLists, PlansFit};
 
 /// A placed move does to the bits of all qubits, term by term, what it does to the values of the qubits, and so does a
 /// list of them.
@@ -16,6 +16,12 @@ pub fn placed_moves_can_be_emitted()
 /// The gates of a list of moves, one move more, are its gates followed by those of the new move.
 pub fn one_more_move_adds_its_gates()
     ensures { OneMoreMoveAddsItsGates }
+{}
+
+/// What `qubit_lists` gives for the wires of the parameters before the moves, and for those of the results after them, are
+/// the qubits of the circuit's inputs and outputs.
+pub fn placers_tell_lists()
+    ensures { PlacersTellLists }
 {}
 
 /// Where the wires of the parameters are the first ones in their order, a row that begins with some input bits has these
