@@ -10,7 +10,9 @@ use Rattle.flat_core.specs.Label.{end_of}
 use Rattle.flat_core.specs.Sound.{joined as wires_joined}
 use Rattle.move_plan.specs.Effect.{is_output}
 use Rattle.move_plan.specs.Live.{live, live_at_end}
-use Rattle.qubit_alloc.specs.Place.{Place, first_place, place_plan}
+use Rattle.move_plan.specs.declared.moves.Move.{Move}
+use Rattle.move_plan.specs.Progress.{Progress, at_start, progress}
+use Rattle.qubit_alloc.specs.Place.{Place, first_place, place_all, at_end, place_plan}
 use Rattle.qubit_alloc.specs.State.{PlacerState, progress_of, qubit_told, on_in, Tells}
 use Rattle.qubit_alloc.proofs.Starting.{live_start}
 use Rattle.plan_gates.specs.PlanCircuit.{qubits_on}
@@ -83,3 +85,9 @@ placers_tell_lists = record {
       told_of f v (place_plan f moves) w tells o.0
       (ap (λ b. cond b (live_at_end f (progress_of v)) (live f (progress_of v)) w) finished ∙ or_right (live f (progress_of v) w) (is_output (end_of f w)) (ap is_output o.1)));
 }
+
+-- the places at the end, once the Output wires that nothing touched are placed
+pub places_at_end : (f : FlatForm) (moves : List Move) (p : Progress) (before v : PlacerState) → p ≡ progress f at_start moves → ((place : Place) → Tells f before place → Tells f v (at_end f p place))
+    → Tells f before (place_all f at_start (first_place f) moves) → Tells f v (place_plan f moves)
+places_at_end f moves p before v is end tells =
+    subst (λ q. Tells f v (at_end f q (place_all f at_start (first_place f) moves))) is (end (place_all f at_start (first_place f) moves) tells)
