@@ -10,7 +10,11 @@ use std::alloc::{AllocError, Global};
 
 /// The qubits of lists of wires, as those of the parameters before the moves or those of the results after them. Each
 /// wire has to be on a qubit. It fails only where memory runs out.
-pub fn qubit_lists(alloc: Global, placer: &Placer, lists: &WireLists) -> Result<QubitLists, AllocError>
+pub fn qubit_lists(
+    alloc: Global,
+    placer: &Placer,
+    lists: &WireLists,
+) -> Result<QubitLists, AllocError>
     requires { All (All (λ w. IsSome (qubit_told placer.now w))) lists.now }
     ensures { IfOk result (λ told. map (map Some) told ≡ map (map (qubit_told placer.now)) lists.now) }
 {

@@ -7,7 +7,9 @@ ghost use Rattle.move_plan.specs.Live.{width as spec_width};
 ghost use Rattle.plan_gates.specs.Example.{with_steps, controlled_hadamard_draft, controlled_hadamard, teleportation_draft, teleportation_steps, teleportation};
 
 use crate::next_gates::emit_next;
+use crate::plan_ends::plan_lists;
 use flat_core::{Draft, End, Flat, Lit, Step, StepId, WireId, WireList, WireLists};
+use gate_core::QubitLists;
 use gate_core::gate::{Gate, OneKind, PlainGate};
 use move_plan::{Move, Rows};
 use qubit_alloc::Placer;
@@ -184,6 +186,35 @@ fn gates(
     gates_of_plan(alloc, flat, moves, width)
 }
 
+// Whether a list of moves is valid, has this width, and begins and ends with the first wire of the first list on these
+// qubits.
+fn stands_on(
+    alloc: Global,
+    flat: &Flat,
+    moves: &[Move],
+    width: usize,
+    first: u32,
+    last: u32,
+) -> Result<bool, AllocError> {
+    let mut rows = Rows::new(alloc, flat)?;
+    if width > 100_000 || !rows.valid(flat, moves) || rows.width(flat, moves) != width {
+        return Ok(false);
+    }
+    let lists = plan_lists(alloc, flat, moves, width)?;
+    Ok(has_first(&lists.ins, first) && has_first(&lists.outs, last))
+}
+
+// Whether the first of the lists begins with a qubit.
+fn has_first(lists: &QubitLists, qubit: u32) -> bool {
+    match lists.get(0) {
+        Some(list) => match list.get(0) {
+            Some(first) => *first == qubit,
+            None => false,
+        },
+        None => false,
+    }
+}
+
 // The gates of a valid list of moves, in order.
 fn gates_of_plan(
     alloc: Global,
@@ -263,6 +294,7 @@ fn teleportation_by_moves(rt: HostRuntime) -> Result<(), Fail> {
             gate: flip(0),
         },
     ];
+    assert!(rt; stands_on(rt.alloc(), &flat, &moves, 3, 0, 2)?);
     let gates = gates(rt.alloc(), &flat, &moves, 3)?;
     assert_eq!(rt; gates.as_slice(), wanted.as_slice());
     Ok(())

@@ -1,10 +1,10 @@
 -- Live wires, and at the end all Output wires, stand on different qubits below the width.
-use Rattle.std.proofs.Common.{◌≡◌, ℕ, ◌≤◌, true, List, [], ◌∷◌, ◌++◌, max, sym, ◌∙◌, ap, subst, arith, append-nil}
+use Rattle.std.proofs.Common.{◌≤◌, List, [], ◌∷◌, ◌++◌, sym, subst, arith, append-nil}
 use Rattle.std.proofs.lemmas.Bool.{or_right}
 use Rattle.flat_core.specs.Form.{FlatForm}
 use Rattle.flat_core.specs.Label.{end_of}
 use Rattle.move_plan.specs.declared.moves.Move.{Move}
-use Rattle.move_plan.specs.Progress.{Progress, at_start, moved, AllStand, progress, IsPlan}
+use Rattle.move_plan.specs.Progress.{Progress, at_start, moved, progress, IsPlan}
 use Rattle.move_plan.specs.Effect.{is_output}
 use Rattle.move_plan.specs.Live.{live, live_at_end, count_wires, width_from, width}
 use Rattle.move_plan.proofs.Counts.{width_from-ge}

@@ -1,13 +1,13 @@
 -- A whole list of moves on qubits gives what the paths give.
-use Rattle.std.proofs.Common.{◌≡◌, ◌≢◌, ℕ, zero, suc, ◌+◌, ◌<◌, ◌≤◌, ◌⊎◌, inl, inr, Bool, true, false, cond, not, nat_lt, ◌==◌, ◌&&◌, ◌||◌, Option, Some, None, List, [], ◌∷◌, ◌++◌, length, map, All, refl, sym, ◌∙◌, ap, ap₂, subst, arith, add-one, append-nil, append_assoc, take_all, count_by, le_refl, eq-or-lt_of_le, le_of_suc-le-suc}
-use Rattle.std.proofs.lemmas.Bool.{cases_Bool, cases_lt, both_ways, and_parts, and_left, and_from, eq-eqb, eqb-true, lt-ltb, le-ltb, or_left, true_from_ne_false}
+use Rattle.std.proofs.Common.{◌≡◌, ℕ, zero, suc, ◌+◌, ◌<◌, ◌≤◌, inl, inr, Bool, true, false, cond, nat_lt, ◌==◌, ◌&&◌, Some, List, [], ◌∷◌, ◌++◌, length, map, All, refl, sym, ◌∙◌, ap, ap₂, subst, arith, append_assoc, le_refl}
+use Rattle.std.proofs.lemmas.Bool.{cases_lt, both_ways, eqb-true, lt-ltb, le-ltb, or_left, true_from_ne_false}
 use Rattle.std.proofs.lemmas.List.Elements.{All-nil, All-cons, All-head, All-tail, All-map, All-same}
 use Rattle.amp_core.specs.declared.Amp.{Amp}
 use Rattle.sum_laws.specs.Terms.{amplitude}
 use Rattle.flat_core.specs.declared.step.End.{End}
 use Rattle.flat_core.specs.declared.step.End.TheVariants.{Output, Dropped, Measured, Zeroed}
 use Rattle.flat_core.specs.declared.step.WireId.{WireId}
-use Rattle.flat_core.specs.Form.{FlatForm, WireForm}
+use Rattle.flat_core.specs.Form.{FlatForm}
 use Rattle.flat_core.specs.Label.{wire_id, end_of, is_input}
 use Rattle.flat_core.specs.Sound.{IsFlat}
 use Rattle.flat_mean.specs.Row.{Row}
@@ -16,19 +16,19 @@ use Rattle.flat_mean.specs.Terms.{Term, first_term, each, weight, values_of, see
 use Rattle.move_plan.specs.declared.moves.Move.{Move}
 use Rattle.move_plan.specs.Progress.{Progress, at_start, moved, AllStand, progress, IsPlan}
 use Rattle.move_plan.specs.Effect.{is_output, do_move, do_moves}
-use Rattle.move_plan.specs.Live.{live, live_at_end, count_wires, width}
+use Rattle.move_plan.specs.Live.{live, width}
 use Rattle.move_plan.specs.Laws.{IsInput, ZeroedAreZero}
 use Rattle.move_plan.proofs.Idle.{tracked_start, tracked_all, idle_are_zero}
 use Rattle.move_plan.proofs.AtEnd.{others_not_live, moves_give_amplitudes}
-use Rattle.qubit_alloc.specs.Place.{Place, first_place, place_move, place_wire, place_all, on_below, place_outputs, at_end, place_plan, IsPlaced}
-use Rattle.qubit_alloc.specs.PlacedMoves.{placed_of, placed_from}
-use Rattle.qubit_alloc.specs.Spread.{spread, spread_term, spread_all, to_qubit, do_placed, do_all_placed, first_row}
+use Rattle.qubit_alloc.specs.Place.{Place, first_place, place_move, place_wire, place_all, on_below, place_outputs, place_plan, IsPlaced}
+use Rattle.qubit_alloc.specs.PlacedMoves.{placed_from}
+use Rattle.qubit_alloc.specs.Spread.{spread, spread_term, spread_all, to_qubit, do_all_placed, first_row}
 use Rattle.qubit_alloc.specs.Laws.{InputsStandFirst, PlacedMovesAgree, PlacedPlansAgree, CircuitGivesPaths, OtherQubitsZero}
 use Rattle.qubit_alloc.proofs.Pigeon.{count_max}
 use Rattle.qubit_alloc.proofs.Placing.{placed_move}
 use Rattle.qubit_alloc.proofs.Starting.{live_start, first_less, first_is, placed_start, find_input, all_before}
 use Rattle.qubit_alloc.proofs.ApartLaws.{outputs_apart}
-use Rattle.qubit_alloc.proofs.Spreading.{Apart, any_none, spread-at, spread_same}
+use Rattle.qubit_alloc.proofs.Spreading.{Apart, any_none, spread-at}
 use Rattle.qubit_alloc.proofs.Composed.{apart_of, Idle, one_live, place_kept, spread_each, all_map, moves_on}
 
 -- wires that are not live are 0 before each move and after the last one

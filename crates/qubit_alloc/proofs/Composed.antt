@@ -1,7 +1,7 @@
 -- Moves on the qubits of their wires do what the moves do on the wires.
-use Rattle.std.proofs.Common.{◌≡◌, ℕ, ◌<◌, ◌≤◌, ◌⊎◌, inl, inr, Bool, true, false, cond, not, nat_lt, ◌==◌, ◌&&◌, ◌||◌, Option, Some, None, List, [], ◌∷◌, ◌++◌, length, All, refl, sym, ◌∙◌, ap, ap₂, subst, arith}
+use Rattle.std.proofs.Common.{◌≡◌, ℕ, ◌<◌, inl, inr, Bool, true, false, cond, not, nat_lt, ◌==◌, ◌&&◌, ◌||◌, Option, Some, None, List, [], ◌∷◌, ◌++◌, length, All, refl, sym, ◌∙◌, ap, ap₂}
 use Rattle.std.proofs.Math.Path.{fun_ext}
-use Rattle.std.proofs.lemmas.Bool.{cases_Bool, both_ways, eq-eqb, eqb-true, true_from_ne_false, false_from_ne_true, or_left}
+use Rattle.std.proofs.lemmas.Bool.{both_ways, eq-eqb, eqb-true, true_from_ne_false, or_left}
 use Rattle.std.proofs.lemmas.List.Elements.{All-nil, All-cons, All-head, All-tail}
 use Rattle.flat_core.specs.declared.step.End.{End}
 use Rattle.flat_core.specs.declared.step.End.TheVariants.{Output, Dropped, Measured, Zeroed}
@@ -9,10 +9,9 @@ use Rattle.flat_core.specs.declared.step.WireId.{WireId}
 use Rattle.flat_core.specs.declared.step.StepId.{StepId}
 use Rattle.flat_core.specs.Form.{FlatForm}
 use Rattle.flat_core.specs.Label.{wire_id, same_wire, step_at, end_of, is_input, main_wire}
-use Rattle.flat_core.specs.Ends.{is_freed}
 use Rattle.flat_core.specs.Sound.{IsFlat}
 use Rattle.flat_core.proofs.Labels.{same_wire_is}
-use Rattle.flat_mean.specs.Row.{Row, flipped}
+use Rattle.flat_mean.specs.Row.{flipped}
 use Rattle.flat_mean.specs.Terms.{Term, do_step, each}
 use Rattle.move_plan.specs.declared.moves.Move.{Move}
 use Rattle.move_plan.specs.declared.moves.Move.TheVariants.{Up, Down, Do, Free}
@@ -20,9 +19,9 @@ use Rattle.move_plan.specs.Progress.{Progress, Stands, FreeStands, moved}
 use Rattle.move_plan.specs.Effect.{is_measured, number_of, flip_at, freed_row, do_move}
 use Rattle.move_plan.specs.Live.{live}
 use Rattle.move_plan.proofs.Counts.{freed_there}
-use Rattle.qubit_alloc.specs.Place.{Place, main_of, place_wire, place_if_any, place_move, put_on, least_free, IsPlaced}
-use Rattle.qubit_alloc.specs.PlacedMoves.{qubit_in, placed_of}
-use Rattle.qubit_alloc.specs.Spread.{spread, spread_term, spread_all, on_qubits, step_placed, flip_qubit, do_placed}
+use Rattle.qubit_alloc.specs.Place.{Place, main_of, place_if_any, place_move, put_on, least_free, IsPlaced}
+use Rattle.qubit_alloc.specs.PlacedMoves.{placed_of}
+use Rattle.qubit_alloc.specs.Spread.{spread, spread_term, spread_all, on_qubits, flip_qubit, do_placed}
 use Rattle.qubit_alloc.proofs.Lives.{live_from, live_back, down_live, up_stay, do_stay}
 use Rattle.qubit_alloc.proofs.Spreading.{Apart, Holds, any_ext, spread-at, spread_same, spread-append, step_on, same_term}
 use Rattle.qubit_alloc.proofs.Named.{held_up, held_do, held_down, step_up, step_do, step_down}
@@ -98,7 +97,7 @@ module _ (f : FlatForm) (outcome : ℕ → Bool) (ok : IsFlat f) (p : Progress) 
       by (Some w) e = ap (λ b. cond b place (put_on w (least_free f (live f p) place) place)) (down_live f p s w st e)
 
   was : (m : Move) (v : WireId) → (main_of f m ≡ Some v → live f p v ≡ true) → live f (moved f p m) v ≡ true → live f p v ≡ true
-  was m v main h = elim (live_back f p m v h) [ | inl o ↦ o | inr e ↦ main e ]
+  was m v main h = elim (live_back f p m v h) [ inl o ↦ o | inr e ↦ main e ]
 
   -- the terms that a move leaves, where it makes no wire live
   fewer : (m : Move) → ((v : WireId) → main_of f m ≡ Some v → live f p v ≡ true) → (ts : List Term) → All (Idle (live f (moved f p m))) ts → spread_all f (live f p) place ts ≡ spread_all f (live f (moved f p m)) place ts

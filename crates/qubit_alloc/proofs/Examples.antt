@@ -5,7 +5,6 @@ use Rattle.flat_core.specs.declared.step.Step.TheVariants.{X, H, P, M}
 use Rattle.flat_core.specs.declared.step.End.{End}
 use Rattle.flat_core.specs.declared.step.End.TheVariants.{Output, Dropped, Measured}
 use Rattle.flat_core.specs.declared.step.Lit.{Lit}
-use Rattle.flat_core.specs.declared.step.WireId.{WireId}
 use Rattle.flat_core.specs.Form.{FlatForm, WireForm}
 use Rattle.flat_core.specs.Label.{wire_id, step_id}
 use Rattle.move_plan.specs.declared.moves.Move.{Move}

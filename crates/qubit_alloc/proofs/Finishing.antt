@@ -1,6 +1,6 @@
 -- What a placer's rows tell as the Output wires that nothing touched are placed.
-use Rattle.std.proofs.Common.{◌≡◌, ℕ, zero, suc, ◌+◌, ◌<◌, ◌≤◌, ◌⊎◌, inl, inr, Bool, true, false, cond, not, nat_lt, ◌==◌, ◌&&◌, ◌||◌, Option, Some, None, IfSome, List, [], ◌∷◌, length, get_or, refl, sym, ◌∙◌, ap, ap₂, subst, arith, add-one}
-use Rattle.std.proofs.lemmas.Bool.{cases_Bool, cases_order, both_ways, eq-eqb, eqb-true, lt-ltb, le-ltb, or_left, or_right, or_cases, and_parts}
+use Rattle.std.proofs.Common.{◌≡◌, ℕ, suc, ◌+◌, ◌<◌, ◌≤◌, inl, inr, Bool, true, false, cond, nat_lt, ◌==◌, ◌&&◌, ◌||◌, Option, Some, None, IfSome, List, ◌∷◌, length, refl, sym, ◌∙◌, ap, ap₂, subst, arith}
+use Rattle.std.proofs.lemmas.Bool.{cases_Bool, cases_order, both_ways, eq-eqb, lt-ltb, le-ltb, or_left, or_right, or_cases, and_parts}
 use Rattle.flat_core.specs.declared.step.WireId.{WireId}
 use Rattle.flat_core.specs.Form.{FlatForm}
 use Rattle.flat_core.specs.Label.{wire_id, same_wire, end_of}
@@ -38,7 +38,7 @@ module _ (f : FlatForm) (on more : WireId → Bool) (place : Place) (wide : ℕ)
     )
       where
         same : (v : WireId) → more v ≡ on v
-        same v = elim (cases_Bool (same_wire v w)) [ | inl i ↦ let is = same_wire_is v w i in ap more is ∙ on' ∙ sym (ap on is ∙ e) | inr ne ↦ others v ne ]
+        same v = elim (cases_Bool (same_wire v w)) [ inl i ↦ let is = same_wire_is v w i in ap more is ∙ on' ∙ sym (ap on is ∙ e) | inr ne ↦ others v ne ]
 
     had_none : on w ≡ false → Takes w rows free rows' free' → Seated (put_on w (least_free f on place) place)
     had_none off t =
@@ -47,7 +47,7 @@ module _ (f : FlatForm) (on more : WireId → Bool) (place : Place) (wide : ℕ)
         let in_free : 0 < times_in free t.qubit = omega (arith, one) in
         let is : t.qubit ≡ least_free f on place = taken_least f on wide place (times_in free) seated (room off).0 (room off).1 t.qubit in_free (λ j lt. times_least free t.qubit j t.least lt) in
         let pl : IsPlaced f more wide (place_wire f on place w) = placed_more f wide on more place w
-        (λ v h. elim (cases_Bool (same_wire v w)) [ | inl i ↦ inr (same_wire_is v w i) | inr ne ↦ inl (sym (others v ne) ∙ h) ])
+        (λ v h. elim (cases_Bool (same_wire v w)) [ inl i ↦ inr (same_wire_is v w i) | inr ne ↦ inl (sym (others v ne) ∙ h) ])
         room seated.placed in
         let pl' : IsPlaced f more wide (put_on w t.qubit place) = subst (IsPlaced f more wide) (ap (λ b. cond b place (put_on w (least_free f on place) place)) off ∙ ap (λ q. put_on w q place) (sym is)) pl in
         let now : IsSeated f more wide (put_on w t.qubit place) (times_in free') = seated_more f on wide place (times_in free) seated more w t.qubit (times_in free') wl off on' others pl' in_free counted in

@@ -1,5 +1,5 @@
 -- A heap with its order turned round gives the least of its numbers.
-use Rattle.std.proofs.Common.{◌≡◌, ℕ, ◌<◌, ◌≤◌, false, List, [], ◌∷◌, length, map, All, IsOk, OnOk, Result, Ok, Err}
+use Rattle.std.proofs.Common.{◌≡◌, ℕ, ◌≤◌, false, List, map, All, IsOk, OnOk, Result, Ok, Err}
 use Rattle.std.proofs.lemmas.List.Elements.{All-map, All-from_recursion, All-weaker}
 use Rattle.std.proofs.HeapSift.{at_most}
 use Rattle.std.specs.BinaryHeap.{lt_by_cmp, IsUpperBound}

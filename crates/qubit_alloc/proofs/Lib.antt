@@ -13,3 +13,4 @@ pub mod Moving
 pub mod Turning
 pub mod Finishing
 pub mod Examples
+pub mod ExampleForm

@@ -1,6 +1,6 @@
 -- Which wires a move makes live.
-use Rattle.std.proofs.Common.{◌≡◌, ℕ, suc, pred, ◌<◌, ◌⊎◌, inl, inr, Bool, true, false, cond, not, nat_lt, ◌&&◌, ◌||◌, Option, Some, None, ◌∷◌, [], Contains, refl, sym, ◌∙◌, ap, ap₂, subst, arith}
-use Rattle.std.proofs.lemmas.Bool.{cases_Bool, both_ways, and_parts, and_from, or_cases, or_left, or_right, not-true, not_from_false, not_from_true, ltb-true, lt-ltb}
+use Rattle.std.proofs.Common.{◌≡◌, ℕ, suc, pred, ◌<◌, ◌⊎◌, inl, inr, Bool, true, false, cond, not, nat_lt, ◌&&◌, ◌||◌, Some, ◌∷◌, [], Contains, refl, sym, ◌∙◌, ap, ap₂, subst, arith}
+use Rattle.std.proofs.lemmas.Bool.{cases_Bool, both_ways, and_parts, and_from, or_cases, or_left, or_right, not-true, not_from_false, ltb-true, lt-ltb}
 use Rattle.flat_core.specs.declared.step.Step.{Step}
 use Rattle.flat_core.specs.declared.step.Step.TheVariants.{X, H, P, M}
 use Rattle.flat_core.specs.declared.step.WireId.{WireId}
@@ -11,7 +11,7 @@ use Rattle.flat_core.specs.Ends.{measures, undone_step}
 use Rattle.flat_core.proofs.Labels.{main_of_changed, main_of_measured, same_wire-refl}
 use Rattle.move_plan.specs.declared.moves.Move.{Move}
 use Rattle.move_plan.specs.declared.moves.Move.TheVariants.{Up, Down, Do, Free}
-use Rattle.move_plan.specs.Progress.{Progress, StepStands, Stands, moved}
+use Rattle.move_plan.specs.Progress.{Progress, Stands, moved}
 use Rattle.move_plan.specs.Live.{live}
 use Rattle.qubit_alloc.specs.Place.{main_of}
 
@@ -139,4 +139,4 @@ module _ (f : FlatForm) (p : Progress) where
   ]
   live_back (Free u) v h =
       let g = live_to f (moved f p (Free u)) v h in
-      inl (live_from f p v (record { kept = elim (cases_Bool (p.gone v)) [ | inl t ↦ absurd (both_ways _ g.kept (or_right _ (p.gone v) t)) | inr t ↦ t ]; why = g.why }))
+      inl (live_from f p v (record { kept = elim (cases_Bool (p.gone v)) [ inl t ↦ absurd (both_ways _ g.kept (or_right _ (p.gone v) t)) | inr t ↦ t ]; why = g.why }))

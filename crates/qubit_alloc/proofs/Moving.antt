@@ -1,15 +1,13 @@
 -- What a placer's rows tell as a move is made.
-use Rattle.std.proofs.Common.{◌≡◌, ℕ, suc, pred, ◌+◌, ◌<◌, ◌≤◌, ◌⊎◌, inl, inr, Bool, true, false, cond, not, nat_lt, ◌==◌, ◌&&◌, ◌||◌, Option, Some, None, IfSome, List, [], ◌∷◌, length, get_or, slice_set, All, refl, sym, ◌∙◌, ap, ap₂, subst, arith, get_or-set_same, get_or-set_other}
+use Rattle.std.proofs.Common.{◌≡◌, ℕ, suc, pred, ◌+◌, ◌<◌, ◌≤◌, ◌⊎◌, inl, inr, Bool, true, false, cond, not, nat_lt, ◌==◌, ◌&&◌, ◌||◌, Option, Some, None, IfSome, List, ◌∷◌, length, get_or, slice_set, refl, sym, ◌∙◌, ap, ap₂, subst, arith, get_or-set_same, get_or-set_other}
 use Rattle.std.proofs.lemmas.Bool.{cases_Bool, both_ways, eq-eqb, eqb-true, eqb-false, ne_eqb, false_from_ne_true, or_left, or_right}
-use Rattle.std.specs.List.Sorted.{IsPermutation}
-use Rattle.flat_core.specs.declared.step.Step.{Step}
 use Rattle.flat_core.specs.declared.step.WireId.{WireId}
 use Rattle.flat_core.specs.declared.step.StepId.{StepId}
 use Rattle.flat_core.specs.Form.{FlatForm}
 use Rattle.flat_core.specs.Label.{wire_id, same_wire, changes, main_wire, step_at, is_input}
 use Rattle.flat_core.specs.Ends.{measures}
 use Rattle.flat_core.specs.Sound.{IsFlat}
-use Rattle.flat_core.proofs.Labels.{same_wire_is, same_wire-refl, main_of_changed, main_of_measured}
+use Rattle.flat_core.proofs.Labels.{same_wire_is, main_of_changed, main_of_measured}
 use Rattle.move_plan.specs.declared.moves.Move.{Move}
 use Rattle.move_plan.specs.declared.moves.Move.TheVariants.{Up, Down, Do, Free}
 use Rattle.move_plan.specs.Progress.{Progress, Stands, moved}
@@ -20,7 +18,7 @@ use Rattle.qubit_alloc.specs.Place.{Place, main_of, least_free, put_on, place_wi
 use Rattle.qubit_alloc.specs.State.{times_in, IsSeated, TellsOf, Takes, Seats, SeatsIfAny, Gives, GivesIfAny, keep_if, unless}
 use Rattle.qubit_alloc.proofs.Pigeon.{count_more, count_max}
 use Rattle.qubit_alloc.proofs.Lives.{live_new, live_stay}
-use Rattle.qubit_alloc.proofs.Placing.{placed_more, placed_less}
+use Rattle.qubit_alloc.proofs.Placing.{placed_more}
 use Rattle.qubit_alloc.proofs.Seating.{times_cons, times_permuted, times_least, seated_same, seated_more, seated_less, some_free, taken_least, room_for}
 
 -- a row written
@@ -119,7 +117,7 @@ module _ (f : FlatForm) (ok : IsFlat f) (p : Progress) (m : Move) (st : Stands f
 
       stays : after w ≡ false ⊎ before w ≡ true → main_of f m ≡ Some w → before w ≡ true
       stays (inr on) g = on
-      stays (inl off) g = elim (cases_Bool (before w)) [ | inl on ↦ on | inr idle ↦ absurd (both_ways (after w) off (live_new f p m w st g idle)) ]
+      stays (inl off) g = elim (cases_Bool (before w)) [ inl on ↦ on | inr idle ↦ absurd (both_ways (after w) off (live_new f p m w st g idle)) ]
 
       -- no wire comes to be live
       place_same : after w ≡ false ⊎ before w ≡ true → place_move f p place m ≡ place
@@ -194,7 +192,7 @@ module _ (f : FlatForm) (ok : IsFlat f) (p : Progress) (m : Move) (st : Stands f
             let same : place_move f p place m ≡ put_on w t.qubit place = place_new w e on off ∙ ap (λ q. put_on w q place) (sym is) in
             let main_on : during w ≡ true = or_right (before w) (after w) on in
             let pl : IsPlaced f during wide (place_wire f (live f p) place w) = placed_more f wide (live f p) during place w
-            (λ v h. elim (cases_Bool (same_wire v w)) [ | inl i ↦ inr (same_wire_is v w i) | inr ne ↦ inl (sym (during_other w e v ne) ∙ h) ])
+            (λ v h. elim (cases_Bool (same_wire v w)) [ inl i ↦ inr (same_wire_is v w i) | inr ne ↦ inl (sym (during_other w e v ne) ∙ h) ])
             (λ _. (omega (arith, more, all), omega (arith, more, fits))) seated.placed in
             let pl' : IsPlaced f during wide (put_on w t.qubit place) = subst (IsPlaced f during wide) (ap (λ b. cond b place (put_on w (least_free f (live f p) place) place)) off ∙ ap (λ q. put_on w q place) (sym is)) pl in
             let now : IsSeated f during wide (put_on w t.qubit place) (times_in free') = seated_more f (live f p) wide place (times_in free) seated during w t.qubit (times_in free') wl off main_on (during_other w e) pl' in_free counted in
@@ -244,8 +242,8 @@ module _ (f : FlatForm) (ok : IsFlat f) (p : Progress) (m : Move) (st : Stands f
                 at : (b : Bool) → after w ≡ b → SeatsIfAny (cond b (Some w) None) rows free rows' free' → Done
                 at true on g = seat w e on (before w) refl g
                 at false off g = kept (place_same w e (inl off)) (during_on w e (inl off)) g
+                -- and once the wire that is live no more has given its own back
 
-      -- and once the wire that is live no more has given its own back
     module _ (wide : ℕ) (rows : List (Option ℕ)) (free : List ℕ) (long : length rows ≡ length f.wires) (at : Place) (tells : TellsOf f during at (rows_told rows)) (seated : IsSeated f during wide at (times_in free)) where
       left_of : (o : Option WireId) (w : WireId) → o ≡ unless (keep_if (live f (moved f p m)) (touched f m)) (touched f m) → o ≡ Some w → (touched f m ≡ Some w) × (after w ≡ false)
       left_of o w h e = by (touched f m) refl (sym e ∙ h)
@@ -308,8 +306,7 @@ module _ (f : FlatForm) (ok : IsFlat f) (p : Progress) (m : Move) (st : Stands f
             ] in
             let it : Some q ≡ Some (at w) = sym row ∙ tells w wl ∙ ap (λ x. cond x (Some (at w)) None) on in
             let is : q ≡ at w = cc in
-            let counted : (j : ℕ) → times_in free' j ≡ cond (at w == j) 1 0 + times_in free j = λ j. times_permuted (q ∷ free) free' j g.1 ∙ times_cons q free j ∙ ap (λ n. cond (n == j) 1 0 + times_in free j) is in
-            (
+            let counted : (j : ℕ) → times_in free' j ≡ cond (at w == j) 1 0 + times_in free j = λ j. times_permuted (q ∷ free) free' j g.1 ∙ times_cons q free j ∙ ap (λ n. cond (n == j) 1 0 + times_in free j) is in (
               (λ v vl. ap (λ (xs : List (Option ℕ)). rows_told xs v) g.0 ∙ row_set rows w v None None (subst (λ n. w.number < n) (sym long) wl) ∙ cleared w e off v vl (same_wire v w) refl),
               seated_less f during wide at (times_in free) seated (live f (moved f p m)) w (times_in free') wl on off (after_other w e) counted,
             )

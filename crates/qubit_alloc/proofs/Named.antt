@@ -1,5 +1,5 @@
 -- The wires that a move names are on qubits in it.
-use Rattle.std.proofs.Common.{◌≡◌, ℕ, ◌<◌, ◌⊎◌, inl, inr, Bool, true, false, cond, ◌||◌, Option, Some, None, IfSome, [], ◌∷◌, length, Contains, option_map, refl, sym, ◌∙◌, ap, ap₂, subst, arith}
+use Rattle.std.proofs.Common.{◌≡◌, ℕ, ◌<◌, ◌⊎◌, inl, inr, Bool, true, false, cond, ◌||◌, Option, Some, None, IfSome, length, Contains, option_map, refl, ap, arith}
 use Rattle.std.proofs.lemmas.Bool.{cases_Bool, or_left, or_right}
 use Rattle.std.proofs.lemmas.List.Elements.{Contains-append_left, Contains-append_right}
 use Rattle.flat_core.specs.declared.step.Step.{Step}
@@ -11,7 +11,7 @@ use Rattle.flat_core.specs.Form.{FlatForm}
 use Rattle.flat_core.specs.Label.{used, control_wires, wire_of, main_wire, first_wire, second_wire, EachControl, EachNamed, step_at, is_input, label_before}
 use Rattle.flat_core.specs.Sound.{IsFlat}
 use Rattle.move_plan.specs.declared.moves.Move.{Move}
-use Rattle.move_plan.specs.declared.moves.Move.TheVariants.{Up, Down, Do, Free}
+use Rattle.move_plan.specs.declared.moves.Move.TheVariants.{Up, Down, Do}
 use Rattle.move_plan.specs.Progress.{Progress, StandsAt, Stands, moved}
 use Rattle.move_plan.specs.Live.{live}
 use Rattle.qubit_alloc.specs.declared.placed.Placed.{Placed}
@@ -57,14 +57,14 @@ module _ (f : FlatForm) (ok : IsFlat f) (p : Progress) where
   controls_live s lt st = control_each (λ w. (is_input f w ≡ true) ⊎ (0 < label_before f s w)) (λ w. live f p w ≡ true) (step_at f s) (λ w c known.
       let at = st w c in
       let l : p.label w ≡ label_before f s w = at.at in
-      live_from f p w (record { kept = at.kept; why = elim known [ | inl i ↦ inl i | inr up ↦ inr (inl (omega (arith, l, up))) ] })) (ok.known s lt)
+      live_from f p w (record { kept = at.kept; why = elim known [ inl i ↦ inl i | inr up ↦ inr (inl (omega (arith, l, up))) ] })) (ok.known s lt)
 
   in_range : (on : WireId → Bool) (s : StepId) → s.number < length f.steps → EachNamed (λ w. on w ≡ true) (step_at f s) → Holds f on (step_at f s)
   in_range on s lt h = record { all = named_both (λ w. w.number < length f.wires) (λ w. on w ≡ true) (step_at f s) (ok.in_range s lt) h }
 
   -- a main wire is live after Up and Do
   main_after : (m : Move) (w : WireId) → ((v : WireId) → live f p v ≡ true → live f (moved f p m) v ≡ true) → (live f p w ≡ false → live f (moved f p m) w ≡ true) → live f (moved f p m) w ≡ true
-  main_after m w stay new = elim (cases_Bool (live f p w)) [ | inl on ↦ stay w on | inr off ↦ new off ]
+  main_after m w stay new = elim (cases_Bool (live f p w)) [ inl on ↦ stay w on | inr off ↦ new off ]
 
   pub held_up : (s : StepId) → Stands f p (Up s) → Holds f (live f (moved f p (Up s))) (step_at f s)
   held_up s st =

@@ -1,18 +1,18 @@
 -- Placing keeps live wires on different qubits below the width.
-use Rattle.std.proofs.Common.{◌≡◌, ◌≢◌, ℕ, zero, suc, ◌+◌, ◌<◌, ◌≤◌, ◌⊎◌, inl, inr, Bool, true, false, cond, not, nat_lt, ◌==◌, ◌&&◌, ◌||◌, max, Option, Some, None, IfSome, List, [], ◌∷◌, ◌++◌, length, take, refl, sym, ◌∙◌, ap, ap₂, subst, arith, add-one}
-use Rattle.std.proofs.lemmas.Bool.{cases_Bool, cases_order, both_ways, not-true, not-false, or_cases, or_left, or_right, and_parts, eq-eqb, eqb-true, lt-ltb, ltb-true}
+use Rattle.std.proofs.Common.{◌≡◌, ℕ, zero, suc, ◌+◌, ◌<◌, ◌≤◌, ◌⊎◌, inl, inr, Bool, true, false, cond, not, nat_lt, ◌==◌, ◌&&◌, Option, Some, None, IfSome, List, [], ◌∷◌, ◌++◌, length, refl, sym, ◌∙◌, ap, ap₂, subst, arith}
+use Rattle.std.proofs.lemmas.Bool.{cases_order, both_ways, not-true, not-false, or_cases, or_left, or_right, and_parts, eq-eqb, lt-ltb, ltb-true}
 use Rattle.flat_core.specs.declared.step.WireId.{WireId}
 use Rattle.flat_core.specs.Form.{FlatForm}
-use Rattle.flat_core.specs.Label.{wire_id, same_wire, end_of, is_input, step_at, main_wire}
+use Rattle.flat_core.specs.Label.{wire_id, same_wire, end_of}
 use Rattle.flat_core.specs.Sound.{IsFlat}
 use Rattle.flat_core.proofs.Labels.{same_wire_is}
 use Rattle.move_plan.specs.declared.moves.Move.{Move}
 use Rattle.move_plan.specs.declared.moves.Move.TheVariants.{Up, Down, Do, Free}
-use Rattle.move_plan.specs.Progress.{Progress, Stands, at_start, moved, AllStand, progress}
+use Rattle.move_plan.specs.Progress.{Progress, Stands, moved, AllStand, progress}
 use Rattle.move_plan.specs.Effect.{is_output}
-use Rattle.move_plan.specs.Live.{live, live_at_end, count_wires, width_from, width}
+use Rattle.move_plan.specs.Live.{live, live_at_end, count_wires, width_from}
 use Rattle.move_plan.proofs.Counts.{width_from-ge}
-use Rattle.qubit_alloc.specs.Place.{Place, main_of, any_below, is_taken, least_free, put_on, place_wire, place_if_any, place_move, place_all, on_below, place_outputs, at_end, IsPlaced}
+use Rattle.qubit_alloc.specs.Place.{Place, main_of, is_taken, least_free, put_on, place_wire, place_if_any, place_move, place_all, on_below, place_outputs, at_end, IsPlaced}
 use Rattle.qubit_alloc.proofs.Pigeon.{pigeons, find_below, first_found, any_at, count_more, count_max}
 use Rattle.qubit_alloc.proofs.Lives.{live_back, live_new, live_stay}
 
@@ -39,7 +39,7 @@ module _ (f : FlatForm) where
     free = least_is_free on place room
 
     old : (v : WireId) → same_wire v w ≡ false → more v ≡ true → on v ≡ true
-    old v e h = elim (back v h) [ | inl o ↦ o | inr o ↦ absurd (both_ways (same_wire v w) e (eq-eqb v.number w.number (ap (λ (x : WireId). x.number) o))) ]
+    old v e h = elim (back v h) [ inl o ↦ o | inr o ↦ absurd (both_ways (same_wire v w) e (eq-eqb v.number w.number (ap (λ (x : WireId). x.number) o))) ]
 
     other : (v : WireId) → v.number < length f.wires → on v ≡ true → place v ≡ least_free f on place → ⊥
     other v vl o e = both_ways (on v && (place v == least_free f on place)) (any_at (length f.wires) (λ n. on (wire_id n) && (place (wire_id n) == least_free f on place)) v.number vl free.0) (ap₂ ◌&&◌ o (eq-eqb (place v) (least_free f on place) e))
@@ -65,7 +65,7 @@ module _ (f : FlatForm) where
   placed_more wide on more place w back room pl = by (on w) refl
     where
       was : on w ≡ true → (v : WireId) → more v ≡ true → on v ≡ true
-      was e v h = elim (back v h) [ | inl o ↦ o | inr o ↦ ap on o ∙ e ]
+      was e v h = elim (back v h) [ inl o ↦ o | inr o ↦ ap on o ∙ e ]
 
       by : (b : Bool) → on w ≡ b → IsPlaced f more wide (cond b place (put_on w (least_free f on place) place))
       by true e = record { below = λ v vl h. pl.below v vl (was e v h); apart = λ u v ul vl hu hv. pl.apart u v ul vl (was e u hu) (was e v hv) }
@@ -87,11 +87,11 @@ module _ (f : FlatForm) where
   placed_move ok wide p place m st fits pl = by (main_of f m) refl
     where
       by : (o : Option WireId) → main_of f m ≡ o → IsPlaced f (live f (moved f p m)) wide (place_if_any f (live f p) place o)
-      by None e = placed_less wide (live f p) (live f (moved f p m)) place (λ v vl h. elim (live_back f p m v h) [ | inl o ↦ o | inr o ↦ let no : None ≡ Some v = sym e ∙ o in absurd (cc) ]) pl
+      by None e = placed_less wide (live f p) (live f (moved f p m)) place (λ v vl h. elim (live_back f p m v h) [ inl o ↦ o | inr o ↦ let no : None ≡ Some v = sym e ∙ o in absurd (cc) ]) pl
       by (Some w) e =
           let wl = main_there ok p m w st e in
           placed_more wide (live f p) (live f (moved f p m)) place w
-          (λ v h. elim (live_back f p m v h) [ | inl o ↦ inl o | inr o ↦ let is : Some w ≡ Some v = sym e ∙ o in let same : v ≡ w = cc in inr same ])
+          (λ v h. elim (live_back f p m v h) [ inl o ↦ inl o | inr o ↦ let is : Some w ≡ Some v = sym e ∙ o in let same : v ≡ w = cc in inr same ])
           (λ off.
           let more : count_wires f (live f p) + 1 ≤ count_wires f (live f (moved f p m)) = count_more (length f.wires) (λ n. live f p (wire_id n)) (λ n. live f (moved f p m) (wire_id n)) w.number wl (λ n o. live_stay f p m w (wire_id n) st e off o) off (live_new f p m w st e off) in
           let all : count_wires f (live f (moved f p m)) ≤ length f.wires = count_max (length f.wires) (λ n. live f (moved f p m) (wire_id n)) in
@@ -138,7 +138,7 @@ module _ (f : FlatForm) where
       by : IsPlaced f (on_below f p n) wide (place_outputs f p place n) → (b : Bool) → is_output (end_of f (wire_id n)) ≡ b
           → IsPlaced f (on_below f p (suc n)) wide (cond b (place_wire f (on_below f p n) (place_outputs f p place n) (wire_id n)) (place_outputs f p place n))
       by ih true e = placed_more wide (on_below f p n) (on_below f p (suc n)) (place_outputs f p place n) (wire_id n)
-          (λ v h. elim (back v h) [ | inl o ↦ inl o | inr o ↦ inr o.0 ])
+          (λ v h. elim (back v h) [ inl o ↦ inl o | inr o ↦ inr o.0 ])
           (λ off.
           let more : count_wires f (on_below f p n) + 1 ≤ count_wires f (live_at_end f p) = count_more (length f.wires) (λ k. on_below f p n (wire_id k)) (λ k. live_at_end f p (wire_id k)) n (omega arith) (λ k o. sub (wire_id k) o) off (or_right (live f p (wire_id n)) (is_output (end_of f (wire_id n))) e) in
           let all : count_wires f (live_at_end f p) ≤ length f.wires = count_max (length f.wires) (λ k. live_at_end f p (wire_id k)) in

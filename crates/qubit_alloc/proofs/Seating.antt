@@ -1,10 +1,10 @@
 -- Which qubits are free, as wires take and give back theirs.
-use Rattle.std.proofs.Common.{◌≡◌, ℕ, zero, suc, ◌+◌, ◌<◌, ◌≤◌, ◌⊎◌, inl, inr, Bool, true, false, cond, not, nat_lt, ◌==◌, ◌&&◌, ◌||◌, Option, Some, None, List, [], ◌∷◌, length, All, refl, sym, ◌∙◌, ap, ap₂, subst, arith, add-one, eq-or-lt_of_le, le_of_suc-le-suc, zero-le}
-use Rattle.std.proofs.lemmas.Bool.{cases_Bool, cases_lt, cases_eq, both_ways, not-true, eq-eqb, eqb-true, ne_eqb, lt-ltb, le-ltb, ltb-true, false_from_ne_true, or_left}
+use Rattle.std.proofs.Common.{◌≡◌, ℕ, zero, suc, ◌+◌, ◌<◌, ◌≤◌, ◌⊎◌, inl, inr, Bool, true, false, cond, not, nat_lt, ◌==◌, ◌&&◌, ◌||◌, List, [], ◌∷◌, length, All, refl, sym, ◌∙◌, ap, ap₂, subst, arith, eq-or-lt_of_le, le_of_suc-le-suc, zero-le}
+use Rattle.std.proofs.lemmas.Bool.{cases_Bool, both_ways, eq-eqb, eqb-true, ne_eqb, lt-ltb, ltb-true}
 use Rattle.std.proofs.Math.Path.{fun_ext}
 use Rattle.std.specs.List.Sorted.{IsPermutation}
 use Rattle.std.proofs.lemmas.List.Sums.{sum_by-cons}
-use Rattle.std.proofs.lemmas.List.Sorted.{sum_by-IsPermutation, length_permutation}
+use Rattle.std.proofs.lemmas.List.Sorted.{sum_by-IsPermutation}
 use Rattle.std.proofs.lemmas.List.Elements.{All-head, All-tail}
 use Rattle.flat_core.specs.declared.step.WireId.{WireId}
 use Rattle.flat_core.specs.Form.{FlatForm}
@@ -12,11 +12,11 @@ use Rattle.flat_core.specs.Label.{wire_id, same_wire}
 use Rattle.flat_core.proofs.Labels.{same_wire_is, same_wire-refl}
 use Rattle.flat_mean.specs.Path.{sum_below}
 use Rattle.move_plan.specs.Live.{count_wires}
-use Rattle.qubit_alloc.specs.Place.{Place, any_below, first_from, is_taken, least_free, put_on, place_wire, IsPlaced}
+use Rattle.qubit_alloc.specs.Place.{Place, any_below, is_taken, least_free, put_on, IsPlaced}
 use Rattle.qubit_alloc.specs.State.{times_in, IsSeated}
-use Rattle.qubit_alloc.proofs.Pigeon.{first_found, find_below}
+use Rattle.qubit_alloc.proofs.Pigeon.{first_found}
 use Rattle.qubit_alloc.proofs.Spreading.{any_ext, any_none, any_some}
-use Rattle.qubit_alloc.proofs.Placing.{least_is_free, placed_more, placed_less}
+use Rattle.qubit_alloc.proofs.Placing.{least_is_free, placed_less}
 
 -- a test that holds of one number more
 any_set : (n k : ℕ) (a b : ℕ → Bool) → k < n → ((j : ℕ) → (j ≡ k → ⊥) → b j ≡ a j) → a k ≡ false → any_below n b ≡ (b k || any_below n a)

@@ -1,12 +1,11 @@
 -- Where the wires stand at the start.
-use Rattle.std.proofs.Common.{◌≡◌, ℕ, zero, suc, ◌+◌, ◌<◌, ◌≤◌, ◌⊎◌, inl, inr, Bool, true, false, cond, not, nat_lt, ◌==◌, ◌&&◌, ◌||◌, List, length, take, count_by, refl, sym, ◌∙◌, ap, ap₂, subst, arith, add-one, take_all, le_refl, eq-or-lt_of_le, le_of_suc-le-suc}
+use Rattle.std.proofs.Common.{◌≡◌, ℕ, zero, suc, ◌+◌, ◌<◌, ◌≤◌, ◌⊎◌, inl, inr, Bool, true, false, cond, not, nat_lt, ◌==◌, ◌&&◌, ◌||◌, length, count_by, refl, sym, ◌∙◌, ap, ap₂, subst, arith, add-one, take_all, le_refl, eq-or-lt_of_le, le_of_suc-le-suc}
 use Rattle.std.proofs.lemmas.Bool.{cases_order, cases_lt, eq-eqb, eqb-true, lt-ltb, le-ltb}
 use Rattle.std.proofs.lemmas.List.Sums.{sum_by_more}
 use Rattle.flat_core.specs.declared.step.WireId.{WireId}
 use Rattle.flat_core.specs.Form.{FlatForm, WireForm}
 use Rattle.flat_core.specs.Label.{wire_id, is_input, no_wire}
 use Rattle.flat_mean.specs.Path.{sum_below, inputs_before, count_inputs}
-use Rattle.flat_mean.proofs.Below.{sum_below_ext}
 use Rattle.move_plan.specs.Progress.{at_start}
 use Rattle.move_plan.specs.Live.{live, count_wires}
 use Rattle.qubit_alloc.specs.Place.{is_taken, first_place, IsPlaced}

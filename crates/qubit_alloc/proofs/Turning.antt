@@ -1,25 +1,22 @@
 -- A whole move of a placer.
-use Rattle.std.proofs.Common.{◌≡◌, ℕ, ◌+◌, ◌<◌, ◌≤◌, ◌⊎◌, inl, inr, Bool, true, false, cond, not, nat_lt, leb, ◌==◌, ◌&&◌, ◌||◌, Option, Some, None, IfSome, List, [], ◌∷◌, length, get_or, slice_set, refl, sym, ◌∙◌, ap, ap₂, subst, arith, get_or-set_same, get_or-set_other}
-use Rattle.std.proofs.lemmas.Bool.{cases_Bool, cases_lt, both_ways, or_cases, or_left, eq-eqb, eqb-true, eqb-false, ne_eqb, lt-ltb, le-ltb, le-leb, lt-leb, cases_order}
-use Rattle.std.specs.List.Sorted.{IsPermutation}
+use Rattle.std.proofs.Common.{◌≡◌, ℕ, ◌+◌, ◌<◌, ◌≤◌, ◌⊎◌, inl, inr, Bool, true, false, cond, not, nat_lt, leb, ◌==◌, ◌&&◌, ◌||◌, Option, Some, None, IfSome, List, length, get_or, slice_set, refl, sym, ◌∙◌, ap, ap₂, subst, arith, get_or-set_same, get_or-set_other}
+use Rattle.std.proofs.lemmas.Bool.{cases_lt, both_ways, or_cases, eq-eqb, eqb-true, eqb-false, ne_eqb, lt-ltb, le-ltb, le-leb, lt-leb, cases_order}
 use Rattle.flat_core.specs.declared.step.Step.{Step}
 use Rattle.flat_core.specs.declared.step.Step.TheVariants.{X, H, P, M}
 use Rattle.flat_core.specs.declared.step.End.{End}
 use Rattle.flat_core.specs.declared.step.End.TheVariants.{Output, Dropped, Measured, Zeroed}
 use Rattle.flat_core.specs.declared.step.WireId.{WireId}
-use Rattle.flat_core.specs.declared.step.StepId.{StepId}
 use Rattle.flat_core.specs.Form.{FlatForm}
-use Rattle.flat_core.specs.Label.{wire_id, same_wire, main_wire, first_wire, second_wire, EachNamed, step_at, end_of, is_input}
+use Rattle.flat_core.specs.Label.{same_wire, main_wire, first_wire, second_wire, EachNamed, step_at, end_of, is_input}
 use Rattle.flat_core.specs.Ends.{measures, undone_step}
 use Rattle.flat_core.specs.Sound.{IsFlat}
-use Rattle.flat_core.proofs.Labels.{same_wire_is}
 use Rattle.flat_mean.specs.Path.{inputs_before, count_inputs}
 use Rattle.move_plan.specs.declared.moves.Move.{Move}
 use Rattle.move_plan.specs.declared.moves.Move.TheVariants.{Up, Down, Do, Free}
 use Rattle.move_plan.specs.Progress.{Progress, Stands, at_start, moved}
 use Rattle.move_plan.specs.Effect.{is_measured, number_of}
 use Rattle.move_plan.specs.Live.{live, live_at_end, count_wires}
-use Rattle.move_plan.specs.Track.{touched, MoveThere}
+use Rattle.move_plan.specs.Track.{touched}
 use Rattle.move_plan.proofs.Counts.{freed_there}
 use Rattle.move_plan.proofs.Measures.{bit_of, number_is}
 use Rattle.qubit_alloc.specs.Place.{Place, step_of, first_place, place_move}
@@ -28,7 +25,7 @@ use Rattle.qubit_alloc.specs.declared.track.Track.{Track}
 use Rattle.qubit_alloc.specs.Free.{FreeList}
 use Rattle.qubit_alloc.specs.State.{HasEvenRows, told, state_of, PlacerState, progress_of, qubit_told, on_in, times_in, IsSeated, TellsOf, Tells, IsMadeFor, SeatsIfAny, GivesIfAny, keep_if, unless, noted_step, noted, qubit_of, placed_row}
 use Rattle.qubit_alloc.proofs.Starting.{count_start, live_start, placed_start, taken_start}
-use Rattle.qubit_alloc.proofs.Seating.{times_permuted, times_cons, seated_same}
+use Rattle.qubit_alloc.proofs.Seating.{seated_same}
 use Rattle.qubit_alloc.proofs.Moving.{rows_told, seated_during, seated_after}
 
 abbrev bit : Bool → ℕ

@@ -1,5 +1,5 @@
 -- The laws of placing, as statements.
-use Rattle.std.specs.Prelude.{◌≡◌, ◌≢◌, ℕ, ◌<◌, ◌≤◌, Bool, true, false, ◌&&◌, nat_lt, List, [], ◌∷◌, ◌++◌, length, map, All}
+use Rattle.std.specs.Prelude.{◌≡◌, ◌≢◌, ℕ, ◌<◌, ◌≤◌, Bool, false, ◌&&◌, nat_lt, List, [], ◌∷◌, ◌++◌, length, map, All}
 use Rattle.sum_laws.specs.Terms.{amplitude}
 use Rattle.flat_core.specs.declared.step.End.TheVariants.{Output}
 use Rattle.flat_core.specs.declared.step.WireId.{WireId}

@@ -4,3 +4,4 @@ pub mod Spread
 pub mod Laws
 pub mod Free
 pub mod State
+pub mod Example

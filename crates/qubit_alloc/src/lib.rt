@@ -2,12 +2,14 @@
 //! Wires on qubits: which qubit each wire stands on, move by move.
 
 mod free;
-mod seats;
-mod told;
-mod track;
 pub mod laws;
 pub mod placed;
 pub mod placer;
+mod seats;
+#[cfg(test)]
+mod tests;
+mod told;
+mod track;
 
 pub use placed::Placed;
 pub use placer::Placer;

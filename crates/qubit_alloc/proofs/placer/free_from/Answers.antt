@@ -1,6 +1,5 @@
-use Rattle.std.proofs.Common.{◌≡◌, ℕ, ◌+◌, ◌≤◌, ◌∷◌, cond, ◌&&◌, nat_lt, leb, ◌==◌, length, sym, ◌∙◌, ap, arith}
+use Rattle.std.proofs.Common.{◌+◌, ◌∷◌, cond, ◌==◌, ◌∙◌, ap, arith}
 use Rattle.std.proofs.lemmas.List.Sorted.{length_permutation}
-use Rattle.qubit_alloc.specs.State.{times_in}
 use Rattle.qubit_alloc.proofs.Seating.{times_permuted, times_cons}
 use Rattle.qubit_alloc.proofs.Turning.{range_more}
 use Rattle.qubit_alloc.proofs.placer.free_from.Goals as goal

@@ -3,7 +3,6 @@ use Rattle.std.specs.BinaryHeap.{heap_capacity}
 use Rattle.std.specs.List.Sorted.{IsPermutation}
 use Rattle.std.proofs.lemmas.List.{length-map}
 use Rattle.std.proofs.lemmas.List.Sorted.{IsPermutation-map}
-use Rattle.std.specs.declared.cmp.Reverse.{Reverse}
 use Rattle.qubit_alloc.specs.Free.{FreeList}
 use Rattle.qubit_alloc.proofs.Heaps.{ok_holds}
 use Rattle.qubit_alloc.proofs.free.FreeQubits.add.Goals as goal

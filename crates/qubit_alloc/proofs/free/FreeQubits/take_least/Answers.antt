@@ -1,7 +1,6 @@
-use Rattle.std.proofs.Common.{◌≡◌, ℕ, ◌≤◌, ◌∷◌, List, map, All, ap, subst, heap_items}
+use Rattle.std.proofs.Common.{ℕ, ◌≤◌, ◌∷◌, List, map, All, ap, subst, heap_items}
 use Rattle.std.specs.List.Sorted.{IsPermutation}
 use Rattle.std.proofs.lemmas.List.Sorted.{IsPermutation-map}
-use Rattle.std.proofs.lemmas.List.Elements.{All-from_recursion}
 use Rattle.qubit_alloc.specs.Free.{FreeList}
 use Rattle.qubit_alloc.proofs.Heaps.{least_first}
 use Rattle.qubit_alloc.proofs.free.FreeQubits.take_least.Goals as goal

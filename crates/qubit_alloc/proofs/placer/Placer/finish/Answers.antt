@@ -1,11 +1,9 @@
-use Rattle.std.proofs.Common.{◌≡◌, ℕ, suc, ◌+◌, ◌≤◌, ◌<◌, Bool, true, cond, Option, Some, None, IfSome, List, length, get_or, sym, ◌∙◌, ap, ap₂, subst, arith, add-one}
+use Rattle.std.proofs.Common.{◌≡◌, ℕ, ◌<◌, Option, None, IfSome, List, length, get_or, sym, ◌∙◌, ap, subst, arith, add-one}
 use Rattle.flat_core.specs.declared.step.WireId.{WireId}
-use Rattle.flat_core.specs.Label.{wire_id, end_of}
 use Rattle.move_plan.specs.Progress.{Progress}
-use Rattle.move_plan.specs.Effect.{is_output, number_of}
-use Rattle.move_plan.specs.Live.{live, live_at_end}
-use Rattle.qubit_alloc.specs.Place.{Place, on_below, place_outputs, at_end}
-use Rattle.qubit_alloc.specs.State.{PlacerState, progress_of, state_of, qubit_told, told, times_in, TellsOf, IsSeated, SeatsIfAny}
+use Rattle.move_plan.specs.Live.{live}
+use Rattle.qubit_alloc.specs.Place.{on_below, place_outputs, at_end}
+use Rattle.qubit_alloc.specs.State.{PlacerState, progress_of, state_of, told, times_in, TellsOf, IsSeated, SeatsIfAny}
 use Rattle.qubit_alloc.proofs.Moving.{rows_told}
 use Rattle.qubit_alloc.proofs.Turning.{tells_open, seated_open}
 use Rattle.qubit_alloc.proofs.Finishing.{output_at, some_output, seated_output, below_first, tells_same, on_same, ended_tells, ended_seated}
@@ -27,12 +25,12 @@ loop-n-init c =
       numbers = ap (λ (x : PlacerState). x.numbers) c.self.view_is;
       width = wide;
       tells = λ place h.
-      subst (λ (q : Progress). TellsOf f (on_below f q 0) place (rows_told i.qubits.items)) same
-      (tells_same f (live f (told i.track)) (on_below f (told i.track) 0) place (rows_told i.qubits.items) (λ x xl. below_first f (told i.track) x) (tells_open f v w c.self.view_is c.requires.going place h));
+          subst (λ (q : Progress). TellsOf f (on_below f q 0) place (rows_told i.qubits.items)) same
+          (tells_same f (live f (told i.track)) (on_below f (told i.track) 0) place (rows_told i.qubits.items) (λ x xl. below_first f (told i.track) x) (tells_open f v w c.self.view_is c.requires.going place h));
       seated = λ place h.
-      subst (λ (q : Progress). IsSeated f (on_below f q 0) w.width place (times_in i.free.items)) same
-      (subst (λ n. IsSeated f (on_below f (told i.track) 0) n place (times_in i.free.items)) wide
-      (on_same f (live f (told i.track)) (on_below f (told i.track) 0) i.width place (times_in i.free.items) (λ x xl. below_first f (told i.track) x) (seated_open f v w c.self.view_is c.requires.going c.requires.made place h)));
+          subst (λ (q : Progress). IsSeated f (on_below f q 0) w.width place (times_in i.free.items)) same
+          (subst (λ n. IsSeated f (on_below f (told i.track) 0) n place (times_in i.free.items)) wide
+          (on_same f (live f (told i.track)) (on_below f (told i.track) 0) i.width place (times_in i.free.items) (λ x xl. below_first f (told i.track) x) (seated_open f v w c.self.view_is c.requires.going c.requires.made place h)));
     }
 
 pub seat-requires-clause-some : goal.seat-requires-clause-some
@@ -71,11 +69,11 @@ loop-n-preserved c =
       numbers = inv.numbers;
       width = inv.width;
       tells = λ place h.
-      subst (λ k. TellsOf f (on_below f p k) (place_outputs f p place k) (rows_told c.seat.new.qubits.items)) (sym (add-one n))
-      (seated_output f p c.args.self.now.width c.requires.fits n within (place_outputs f p place n) c.loop-n.self-inside.qubits.items c.loop-n.self-inside.free.items long (inv.tells place h) (inv.seated place h) c.seat.new.qubits.items c.seat.new.free.items seats).0;
+          subst (λ k. TellsOf f (on_below f p k) (place_outputs f p place k) (rows_told c.seat.new.qubits.items)) (sym (add-one n))
+          (seated_output f p c.args.self.now.width c.requires.fits n within (place_outputs f p place n) c.loop-n.self-inside.qubits.items c.loop-n.self-inside.free.items long (inv.tells place h) (inv.seated place h) c.seat.new.qubits.items c.seat.new.free.items seats).0;
       seated = λ place h.
-      subst (λ k. IsSeated f (on_below f p k) c.args.self.now.width (place_outputs f p place k) (times_in c.seat.new.free.items)) (sym (add-one n))
-      (seated_output f p c.args.self.now.width c.requires.fits n within (place_outputs f p place n) c.loop-n.self-inside.qubits.items c.loop-n.self-inside.free.items long (inv.tells place h) (inv.seated place h) c.seat.new.qubits.items c.seat.new.free.items seats).1;
+          subst (λ k. IsSeated f (on_below f p k) c.args.self.now.width (place_outputs f p place k) (times_in c.seat.new.free.items)) (sym (add-one n))
+          (seated_output f p c.args.self.now.width c.requires.fits n within (place_outputs f p place n) c.loop-n.self-inside.qubits.items c.loop-n.self-inside.free.items long (inv.tells place h) (inv.seated place h) c.seat.new.qubits.items c.seat.new.free.items seats).1;
     }
 
 pub returns-clause-made : goal.returns-clause-made

@@ -1,5 +1,5 @@
 -- The Output wires so far are placed.
-use Rattle.std.proofs.Common.{◌≡◌, ℕ, ◌≤◌, List, Option, length}
+use Rattle.std.proofs.Common.{◌≡◌, length}
 use Rattle.qubit_alloc.specs.Place.{Place, on_below, place_outputs}
 use Rattle.qubit_alloc.specs.State.{told, progress_of, TellsOf, Tells, IsSeated, HasEvenRows, times_in}
 use Rattle.qubit_alloc.proofs.Moving.{rows_told}

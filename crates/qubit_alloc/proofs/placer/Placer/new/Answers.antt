@@ -1,5 +1,4 @@
-use Rattle.std.proofs.Common.{◌≡◌, ℕ, ◌+◌, ◌≤◌, cond, ◌&&◌, nat_lt, leb, true, false, get_or, sym, ◌∙◌, ap, subst}
-use Rattle.flat_core.specs.declared.step.WireId.{WireId}
+use Rattle.std.proofs.Common.{◌≡◌, ℕ, cond, ◌&&◌, nat_lt, leb, true, false, sym, ◌∙◌, ap}
 use Rattle.flat_mean.specs.Path.{count_inputs}
 use Rattle.move_plan.specs.Progress.{Progress, at_start}
 use Rattle.qubit_alloc.specs.Place.{first_place}

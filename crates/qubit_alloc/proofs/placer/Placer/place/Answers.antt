@@ -1,15 +1,11 @@
-use Rattle.std.proofs.Common.{◌≡◌, ℕ, ◌+◌, ◌≤◌, ◌<◌, Bool, cond, Option, Some, None, IfSome, List, length, get_or, sym, ◌∙◌, ap, ap₂, subst, arith}
+use Rattle.std.proofs.Common.{ℕ, Bool, cond, Option, List, length, sym, ◌∙◌, ap, ap₂, subst, arith}
 use Rattle.flat_core.specs.declared.step.WireId.{WireId}
 use Rattle.flat_core.specs.declared.step.Step.{Step}
-use Rattle.flat_core.specs.Form.{FlatForm}
-use Rattle.move_plan.specs.declared.moves.Move.{Move}
-use Rattle.move_plan.specs.Progress.{Progress, Stands, moved}
+use Rattle.move_plan.specs.Progress.{Progress, moved}
 use Rattle.move_plan.specs.Live.{live, live_at_end}
-use Rattle.move_plan.specs.Track.{touched}
-use Rattle.qubit_alloc.specs.declared.placed.Placed.{Placed}
-use Rattle.qubit_alloc.specs.Place.{Place, step_of, place_move}
+use Rattle.qubit_alloc.specs.Place.{place_move}
 use Rattle.qubit_alloc.specs.PlacedMoves.{placed_of}
-use Rattle.qubit_alloc.specs.State.{PlacerState, progress_of, state_of, told, times_in, TellsOf, IsSeated, keep_if, unless, noted, placed_row}
+use Rattle.qubit_alloc.specs.State.{PlacerState, progress_of, told, times_in, TellsOf, IsSeated, noted, placed_row}
 use Rattle.qubit_alloc.proofs.Moving.{rows_told, some_for, seated_during, room_left, touched_in_range, left_in_range}
 use Rattle.qubit_alloc.proofs.Turning.{opened, here_is, left_is, turned, numbered_after, placed_is, closed}
 use Rattle.qubit_alloc.proofs.placer.Placer.place.Goals as goal
