@@ -1,0 +1,16 @@
+pub mod Registers
+pub mod Acts
+pub mod Spots
+pub mod Sums
+pub mod ListQubits
+pub mod Ends
+pub mod Paths
+pub mod Numbers
+pub mod Fits
+pub mod Inputs
+pub mod Emitted
+pub mod PlanLaws
+pub mod Examples
+pub mod ExampleForms
+pub mod Loops
+pub mod Told
