@@ -10,4 +10,8 @@ mod paths;
 #[cfg(test)]
 mod plans;
 #[cfg(test)]
+mod reads;
+#[cfg(test)]
 mod rows;
+#[cfg(test)]
+mod words;

@@ -1,255 +1,126 @@
-//! Lists of moves.
+//! Lists of moves that are valid, and lists that are not.
 
-use crate::forms;
-use flat_core::{Flat, StepId, WireId};
+use crate::{forms, words};
+use flat_core::Flat;
 use flat_table::TableFault;
-use move_plan::{Move, Rows};
+use move_plan::Rows;
 use std::alloc::Global;
 use std::test::Fail;
 
-/// Does a step that is undone again.
-pub fn up(number: u32) -> Move {
-    Move::Up(StepId { number })
-}
-
-/// Undoes a step.
-pub fn down(number: u32) -> Move {
-    Move::Down(StepId { number })
-}
-
-/// Does a step once.
-pub fn once(number: u32) -> Move {
-    Move::Do(StepId { number })
-}
-
-/// Frees a wire.
-pub fn release(number: u32) -> Move {
-    Move::Free(WireId { number })
-}
-
-// Whether a list of moves is valid, and its width if it is.
-fn width_of(alloc: Global, flat: &Flat, moves: &[Move]) -> Result<Option<usize>, TableFault> {
+// The width of a list of moves, if it is valid.
+fn width_of(alloc: Global, flat: &Flat, moves: &str) -> Result<Option<usize>, TableFault> {
+    let moves = words::moves(alloc, moves)?;
     let mut rows = Rows::new(alloc, flat)?;
-    if rows.valid(flat, moves) {
-        Ok(Some(rows.width(flat, moves)))
+    if rows.valid(flat, moves.as_slice()) {
+        Ok(Some(rows.width(flat, moves.as_slice())))
     } else {
         Ok(None)
     }
 }
 
+// The name of the first valid one of some lists of moves.
+fn valid_of<'a>(
+    alloc: Global,
+    flat: &Flat,
+    lists: &[(&'a str, &'a str)],
+) -> Result<Option<&'a str>, TableFault> {
+    for (name, moves) in lists {
+        if width_of(alloc, flat, moves)?.is_some() {
+            return Ok(Some(*name));
+        }
+    }
+    Ok(None)
+}
+
+// Each temporary is undone after each use and done again: one wire less than in the ready order.
 #[test]
 fn recomputed(rt: HostRuntime) -> Result<(), Fail> {
     let flat = forms::two_ands(rt.alloc())?;
-    let moves = [
-        up(0),
-        once(2),
-        down(0),
-        up(1),
-        once(3),
-        down(1),
-        up(0),
-        once(4),
-        down(0),
-    ];
-    assert_eq!(rt; width_of(rt.alloc(), &flat, &moves)?, Some(6));
+    let moves = "up0 do2 down0 up1 do3 down1 up0 do4 down0";
+    assert_eq!(rt; width_of(rt.alloc(), &flat, moves)?, Some(6));
     Ok(())
 }
 
 #[test]
 fn every_kind(rt: HostRuntime) -> Result<(), Fail> {
     let flat = forms::every_kind(rt.alloc())?;
-    let moves = [
-        up(0),
-        up(1),
-        once(2),
-        once(3),
-        once(4),
-        once(5),
-        once(6),
-        once(7),
-        once(8),
-        down(1),
-        down(0),
-        release(2),
-        release(4),
-    ];
-    assert_eq!(rt; width_of(rt.alloc(), &flat, &moves)?, Some(5));
+    let moves = "up0 up1 do2 do3 do4 do5 do6 do7 do8 down1 down0 free2 free4";
+    assert_eq!(rt; width_of(rt.alloc(), &flat, moves)?, Some(5));
     Ok(())
-}
-
-// The rule that a list is named by, if any of them is valid.
-fn accepted<'a>(
-    alloc: Global,
-    flat: &Flat,
-    lists: &[(&'a str, &[Move])],
-) -> Result<Option<&'a str>, TableFault> {
-    for (rule, moves) in lists {
-        if width_of(alloc, flat, moves)?.is_some() {
-            return Ok(Some(*rule));
-        }
-    }
-    Ok(None)
 }
 
 #[test]
 fn refused_of_xor(rt: HostRuntime) -> Result<(), Fail> {
     let flat = forms::xor_of_ands(rt.alloc())?;
-    let lists: [(&str, &[Move]); 10] = [
+    let lists = [
+        ("done twice", "up0 up1 do2 do2 down1 down0"),
+        ("undone before done", "down0 up0 up1 do2 down1"),
+        ("a Do of a step that is undone", "do0 up1 do2 down1 down0"),
+        ("an Up of a step that lasts", "up0 up1 up2 down1 down0"),
+        ("a step forgotten", "up0 up1 down1 down0"),
+        ("the end forgotten", "up0 up1 do2 down1"),
+        ("nothing done", ""),
+        ("a control at another label", "up0 up1 do2 down0 down1"),
+        ("no such step", "up0 up1 do2 down1 down0 up3"),
         (
-            "done twice",
-            &[up(0), up(1), once(2), once(2), down(1), down(0)],
+            "no such step by far",
+            "up0 up1 do2 down1 down0 do4294967295",
         ),
-        (
-            "undone before done",
-            &[down(0), up(0), up(1), once(2), down(1)],
-        ),
-        (
-            "undone by a Do",
-            &[once(0), up(1), once(2), down(1), down(0)],
-        ),
-        ("lasting by an Up", &[up(0), up(1), up(2), down(1), down(0)]),
-        ("a step forgotten", &[up(0), up(1), down(1), down(0)]),
-        ("the end forgotten", &[up(0), up(1), once(2), down(1)]),
-        ("nothing done", &[]),
-        (
-            "a control at another label",
-            &[up(0), up(1), once(2), down(0), down(1)],
-        ),
-        (
-            "no such step",
-            &[up(0), up(1), once(2), down(1), down(0), up(3)],
-        ),
-        (
-            "an output freed",
-            &[up(0), up(1), once(2), down(1), down(0), release(3)],
-        ),
+        ("no such wire", "up0 up1 do2 down1 down0 free6"),
+        ("an output freed", "up0 up1 do2 down1 down0 free3"),
     ];
-    assert_eq!(rt; accepted(rt.alloc(), &flat, &lists)?, None);
+    assert_eq!(rt; valid_of(rt.alloc(), &flat, &lists)?, None);
     Ok(())
 }
 
+// The moves of the ready order, but for what the name says.
 #[test]
 fn refused_of_teleportation(rt: HostRuntime) -> Result<(), Fail> {
     let flat = forms::teleportation(rt.alloc())?;
-    // the moves of the ready order, but for what the name says
-    let lists: [(&str, &[Move]); 3] = [
+    let lists = [
         (
             "a phase done twice",
-            &[
-                once(0),
-                once(1),
-                once(2),
-                once(3),
-                once(4),
-                once(5),
-                once(6),
-                release(1),
-                up(7),
-                once(8),
-                once(8),
-                down(7),
-                release(0),
-            ],
+            "do0 do1 do2 do3 do4 do5 do6 free1 up7 do8 do8 down7 free0",
         ),
         (
             "freed before its measure",
-            &[
-                once(0),
-                once(1),
-                once(2),
-                once(3),
-                once(4),
-                once(6),
-                release(1),
-                once(5),
-                up(7),
-                once(8),
-                down(7),
-                release(0),
-            ],
+            "do0 do1 do2 do3 do4 do6 free1 do5 up7 do8 down7 free0",
+        ),
+        (
+            "freed without its measure",
+            "do0 do1 do2 do3 do4 do6 free1 up7 do8 down7 free0",
         ),
         (
             "never freed",
-            &[
-                once(0),
-                once(1),
-                once(2),
-                once(3),
-                once(4),
-                once(5),
-                once(6),
-                release(1),
-                up(7),
-                once(8),
-                down(7),
-            ],
+            "do0 do1 do2 do3 do4 do5 do6 free1 up7 do8 down7",
+        ),
+        (
+            "used after it was freed",
+            "do0 do1 do2 do3 do4 do5 free1 do6 up7 do8 down7 free0",
         ),
     ];
-    assert_eq!(rt; accepted(rt.alloc(), &flat, &lists)?, None);
+    assert_eq!(rt; valid_of(rt.alloc(), &flat, &lists)?, None);
     Ok(())
 }
 
+// The moves in step order, but for what the name says.
 #[test]
 fn refused_of_every_kind(rt: HostRuntime) -> Result<(), Fail> {
     let flat = forms::every_kind(rt.alloc())?;
-    // the moves in step order, but for what the name says
-    let lists: [(&str, &[Move]); 3] = [
+    let lists = [
         (
             "freed below its top",
-            &[
-                up(0),
-                up(1),
-                once(2),
-                once(3),
-                once(4),
-                once(5),
-                once(6),
-                once(7),
-                release(4),
-                once(8),
-                down(1),
-                down(0),
-                release(2),
-            ],
+            "up0 up1 do2 do3 do4 do5 do6 do7 free4 do8 down1 down0 free2",
         ),
         (
             "freed twice",
-            &[
-                up(0),
-                up(1),
-                once(2),
-                once(3),
-                once(4),
-                once(5),
-                once(6),
-                once(7),
-                once(8),
-                down(1),
-                down(0),
-                release(2),
-                release(4),
-                release(4),
-            ],
+            "up0 up1 do2 do3 do4 do5 do6 do7 do8 down1 down0 free2 free4 free4",
         ),
         (
-            "undone in the order of the steps",
-            &[
-                up(0),
-                up(1),
-                once(2),
-                once(3),
-                once(4),
-                once(5),
-                once(6),
-                once(7),
-                once(8),
-                down(0),
-                down(1),
-                release(2),
-                release(4),
-            ],
+            "undone in step order",
+            "up0 up1 do2 do3 do4 do5 do6 do7 do8 down0 down1 free2 free4",
         ),
     ];
-    assert_eq!(rt; accepted(rt.alloc(), &flat, &lists)?, None);
+    assert_eq!(rt; valid_of(rt.alloc(), &flat, &lists)?, None);
     Ok(())
 }

@@ -2,27 +2,25 @@
 
 ghost use Rattle.unqomp.specs.GraphOf.{IsGraphOf};
 
-use crate::forms;
-use crate::graphs::{
-    Edge, available, control, forward, free, has_edges, has_order, has_vertices, reverse, target,
-    vertex_at,
-};
-use crate::plans::{down, once, release, up};
+use crate::graphs::{has_edges, has_order};
+use crate::{forms, words};
 use flat_core::Flat;
 use flat_table::TableFault;
-use graph_core::{Graph, Vertex};
+use graph_core::{EdgeKind, Graph, Vertex};
 use move_plan::{Move, Rows, move_of};
 use std::alloc::Global;
 use std::test::Fail;
 use topo_order::{OrderFault, VertexOrder, order};
 use unqomp::graph_of;
 
-// What is wanted of a form: its edges, its ready order, that order's moves, and their width.
+// What is wanted of a form: its edges by kind, its ready order, that order's moves, and their width.
 #[derive(Drop)]
 struct Wanted<'a> {
-    edges: &'a [Edge],
-    order: &'a [Vertex],
-    moves: &'a [Move],
+    target: &'a str,
+    control: &'a str,
+    available: &'a str,
+    order: &'a str,
+    moves: &'a str,
     width: usize,
 }
 
@@ -51,11 +49,14 @@ fn missed(
     wanted: &Wanted<'_>,
 ) -> Result<Option<&'static str>, TableFault> {
     let graph = graph_of(alloc, flat)?;
-    if !has_vertices(&graph, wanted.order) {
-        return Ok(Some("vertices"));
+    if !has_edges(&graph, EdgeKind::Target, wanted.target) {
+        return Ok(Some("target edges"));
     }
-    if !has_edges(&graph, wanted.edges) {
-        return Ok(Some("edges"));
+    if !has_edges(&graph, EdgeKind::Control, wanted.control) {
+        return Ok(Some("control edges"));
+    }
+    if !has_edges(&graph, EdgeKind::Availability, wanted.available) {
+        return Ok(Some("availability edges"));
     }
     let Ok(ids) = order(alloc, &graph) else {
         return Ok(Some("no order"));
@@ -63,14 +64,15 @@ fn missed(
     if !has_order(&graph, &ids, wanted.order) {
         return Ok(Some("order"));
     }
-    if !has_moves(flat, &graph, &ids, wanted.moves) {
+    let moves = words::moves(alloc, wanted.moves)?;
+    if !has_moves(flat, &graph, &ids, moves.as_slice()) {
         return Ok(Some("moves"));
     }
     let mut rows = Rows::new(alloc, flat)?;
-    if !rows.valid(flat, wanted.moves) {
+    if !rows.valid(flat, moves.as_slice()) {
         return Ok(Some("valid"));
     }
-    if rows.width(flat, wanted.moves) != wanted.width {
+    if rows.width(flat, moves.as_slice()) != wanted.width {
         return Ok(Some("width"));
     }
     Ok(None)
@@ -79,18 +81,11 @@ fn missed(
 #[test]
 fn xor_of_ands(rt: HostRuntime) -> Result<(), Fail> {
     let wanted = Wanted {
-        edges: &[
-            target(forward(0), reverse(0)),
-            target(forward(1), reverse(1)),
-            control(forward(0), forward(1)),
-            control(forward(1), forward(2)),
-            control(forward(0), reverse(1)),
-            available(forward(1), reverse(0)),
-            available(forward(2), reverse(1)),
-            available(reverse(1), reverse(0)),
-        ],
-        order: &[forward(0), forward(1), forward(2), reverse(1), reverse(0)],
-        moves: &[up(0), up(1), once(2), down(1), down(0)],
+        target: "F0>R0 F1>R1",
+        control: "F0>F1 F1>F2 F0>R1",
+        available: "F1>R0 F2>R1 R1>R0",
+        order: "F0 F1 F2 R1 R0",
+        moves: "up0 up1 do2 down1 down0",
         width: 6,
     };
     let flat = forms::xor_of_ands(rt.alloc())?;
@@ -101,15 +96,11 @@ fn xor_of_ands(rt: HostRuntime) -> Result<(), Fail> {
 #[test]
 fn hadamard_after_uncopy(rt: HostRuntime) -> Result<(), Fail> {
     let wanted = Wanted {
-        edges: &[
-            target(forward(0), reverse(0)),
-            control(forward(0), forward(2)),
-            available(forward(0), forward(1)),
-            available(forward(2), reverse(0)),
-            available(reverse(0), forward(1)),
-        ],
-        order: &[forward(0), forward(2), reverse(0), forward(1)],
-        moves: &[up(0), once(2), down(0), once(1)],
+        target: "F0>R0",
+        control: "F0>F2",
+        available: "F0>F1 F2>R0 R0>F1",
+        order: "F0 F2 R0 F1",
+        moves: "up0 do2 down0 do1",
         width: 3,
     };
     let flat = forms::hadamard_after_uncopy(rt.alloc())?;
@@ -120,28 +111,11 @@ fn hadamard_after_uncopy(rt: HostRuntime) -> Result<(), Fail> {
 #[test]
 fn two_ands(rt: HostRuntime) -> Result<(), Fail> {
     let wanted = Wanted {
-        edges: &[
-            target(forward(0), reverse(0)),
-            target(forward(1), reverse(1)),
-            target(forward(2), forward(3)),
-            target(forward(3), forward(4)),
-            control(forward(0), forward(2)),
-            control(forward(1), forward(3)),
-            control(forward(0), forward(4)),
-            available(forward(2), reverse(0)),
-            available(forward(3), reverse(1)),
-            available(forward(4), reverse(0)),
-        ],
-        order: &[
-            forward(0),
-            forward(1),
-            forward(2),
-            forward(3),
-            reverse(1),
-            forward(4),
-            reverse(0),
-        ],
-        moves: &[up(0), up(1), once(2), once(3), down(1), once(4), down(0)],
+        target: "F0>R0 F1>R1 F2>F3 F3>F4",
+        control: "F0>F2 F1>F3 F0>F4",
+        available: "F2>R0 F3>R1 F4>R0",
+        order: "F0 F1 F2 F3 R1 F4 R0",
+        moves: "up0 up1 do2 do3 down1 do4 down0",
         width: 7,
     };
     let flat = forms::two_ands(rt.alloc())?;
@@ -152,64 +126,11 @@ fn two_ands(rt: HostRuntime) -> Result<(), Fail> {
 #[test]
 fn adder(rt: HostRuntime) -> Result<(), Fail> {
     let wanted = Wanted {
-        edges: &[
-            target(forward(0), reverse(0)),
-            target(forward(1), forward(2)),
-            target(forward(2), forward(3)),
-            target(forward(3), reverse(3)),
-            target(reverse(3), reverse(2)),
-            target(reverse(2), reverse(1)),
-            target(forward(4), forward(5)),
-            target(forward(6), forward(7)),
-            control(forward(0), forward(2)),
-            control(forward(0), forward(3)),
-            control(forward(3), forward(5)),
-            control(forward(0), forward(7)),
-            control(forward(0), reverse(2)),
-            control(forward(0), reverse(3)),
-            available(forward(0), forward(8)),
-            available(forward(1), forward(6)),
-            available(forward(2), forward(6)),
-            available(forward(2), reverse(0)),
-            available(forward(3), reverse(0)),
-            available(forward(5), reverse(3)),
-            available(forward(7), reverse(0)),
-            available(reverse(0), forward(8)),
-            available(reverse(1), forward(6)),
-            available(reverse(2), forward(6)),
-            available(reverse(2), reverse(0)),
-            available(reverse(3), reverse(0)),
-        ],
-        order: &[
-            forward(0),
-            forward(1),
-            forward(2),
-            forward(3),
-            forward(4),
-            forward(5),
-            reverse(3),
-            reverse(2),
-            reverse(1),
-            forward(6),
-            forward(7),
-            reverse(0),
-            forward(8),
-        ],
-        moves: &[
-            up(0),
-            up(1),
-            up(2),
-            up(3),
-            once(4),
-            once(5),
-            down(3),
-            down(2),
-            down(1),
-            once(6),
-            once(7),
-            down(0),
-            once(8),
-        ],
+        target: "F0>R0 F1>F2 F2>F3 F3>R3 R3>R2 R2>R1 F4>F5 F6>F7",
+        control: "F0>F2 F0>F3 F3>F5 F0>F7 F0>R2 F0>R3",
+        available: "F0>F8 F1>F6 F2>F6 F2>R0 F3>R0 F5>R3 F7>R0 R0>F8 R1>F6 R2>F6 R2>R0 R3>R0",
+        order: "F0 F1 F2 F3 F4 F5 R3 R2 R1 F6 F7 R0 F8",
+        moves: "up0 up1 up2 up3 do4 do5 down3 down2 down1 do6 do7 down0 do8",
         width: 8,
     };
     let flat = forms::adder(rt.alloc())?;
@@ -220,58 +141,11 @@ fn adder(rt: HostRuntime) -> Result<(), Fail> {
 #[test]
 fn teleportation(rt: HostRuntime) -> Result<(), Fail> {
     let wanted = Wanted {
-        edges: &[
-            target(forward(3), free(0)),
-            target(forward(0), forward(2)),
-            target(forward(2), free(1)),
-            target(forward(1), forward(6)),
-            target(forward(7), reverse(7)),
-            control(forward(0), forward(1)),
-            control(forward(3), forward(4)),
-            control(forward(2), forward(5)),
-            control(forward(2), forward(6)),
-            control(forward(3), forward(7)),
-            control(forward(6), forward(7)),
-            control(forward(7), forward(8)),
-            control(forward(3), reverse(7)),
-            control(forward(6), reverse(7)),
-            available(forward(1), forward(2)),
-            available(forward(2), forward(3)),
-            available(forward(4), free(0)),
-            available(forward(5), free(1)),
-            available(forward(6), free(1)),
-            available(forward(7), free(0)),
-            available(forward(8), reverse(7)),
-            available(reverse(7), free(0)),
-        ],
-        order: &[
-            forward(0),
-            forward(1),
-            forward(2),
-            forward(3),
-            forward(4),
-            forward(5),
-            forward(6),
-            free(1),
-            forward(7),
-            forward(8),
-            reverse(7),
-            free(0),
-        ],
-        moves: &[
-            once(0),
-            once(1),
-            once(2),
-            once(3),
-            once(4),
-            once(5),
-            once(6),
-            release(1),
-            up(7),
-            once(8),
-            down(7),
-            release(0),
-        ],
+        target: "F3>Z0 F0>F2 F2>Z1 F1>F6 F7>R7",
+        control: "F0>F1 F3>F4 F2>F5 F2>F6 F3>F7 F6>F7 F7>F8 F3>R7 F6>R7",
+        available: "F1>F2 F2>F3 F4>Z0 F5>Z1 F6>Z1 F7>Z0 F8>R7 R7>Z0",
+        order: "F0 F1 F2 F3 F4 F5 F6 Z1 F7 F8 R7 Z0",
+        moves: "do0 do1 do2 do3 do4 do5 do6 free1 up7 do8 down7 free0",
         width: 3,
     };
     let flat = forms::teleportation(rt.alloc())?;
@@ -300,7 +174,11 @@ fn cycle_of(alloc: Global, flat: &Flat) -> Result<Option<Vec<(Vertex, u32)>>, Ta
 fn cycle(rt: HostRuntime) -> Result<(), Fail> {
     let flat = forms::cycle(rt.alloc())?;
     let shown = cycle_of(rt.alloc(), &flat)?.unwrap_or(Vec::new(rt.alloc()));
-    let wanted = [(forward(1), 4), (forward(2), 5), (reverse(0), 3)];
-    assert_eq!(rt; shown.as_slice(), wanted.as_slice());
+    let wanted = [("F1", 4), ("F2", 5), ("R0", 3)];
+    assert_eq!(rt; shown.len(), wanted.len());
+    for ((v, line), (word, on)) in shown.iter().zip(wanted.iter()) {
+        assert_eq!(rt; Some(*v), words::vertex(word));
+        assert_eq!(rt; *line, *on);
+    }
     Ok(())
 }
