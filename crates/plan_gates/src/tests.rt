@@ -235,10 +235,20 @@ fn gates_of_plan(
     Ok(gates)
 }
 
-fn flip(q: u32) -> PlainGate {
-    PlainGate::One {
+fn one(kind: OneKind, q: u32) -> Gate {
+    Gate::One { kind, q }
+}
+
+// A flip where a classical bit is 1.
+fn flip_if(bit: u32, q: u32) -> Gate {
+    let gate = PlainGate::One {
         kind: OneKind::X,
         q,
+    };
+    Gate::If {
+        bit,
+        value: 1,
+        gate,
     }
 }
 
@@ -264,35 +274,18 @@ fn teleportation_by_moves(rt: HostRuntime) -> Result<(), Fail> {
         Move::Free(wire(0)),
     ];
     let wanted = [
-        Gate::One {
-            kind: OneKind::H,
-            q: 1,
-        },
+        one(OneKind::H, 1),
         Gate::Cx { c: 1, t: 2 },
         Gate::Cx { c: 0, t: 1 },
-        Gate::One {
-            kind: OneKind::H,
-            q: 0,
-        },
+        one(OneKind::H, 0),
         Gate::Measure { q: 0, bit: 0 },
         Gate::Measure { q: 1, bit: 1 },
         Gate::Cx { c: 1, t: 2 },
-        Gate::If {
-            bit: 1,
-            value: 1,
-            gate: flip(1),
-        },
+        flip_if(1, 1),
         Gate::Ccx { a: 0, b: 2, t: 1 },
-        Gate::One {
-            kind: OneKind::Z,
-            q: 1,
-        },
+        one(OneKind::Z, 1),
         Gate::Ccx { a: 0, b: 2, t: 1 },
-        Gate::If {
-            bit: 0,
-            value: 1,
-            gate: flip(0),
-        },
+        flip_if(0, 0),
     ];
     assert!(rt; stands_on(rt.alloc(), &flat, &moves, 3, 0, 2)?);
     let gates = gates(rt.alloc(), &flat, &moves, 3)?;
@@ -305,39 +298,15 @@ fn controlled_hadamard_by_moves(rt: HostRuntime) -> Result<(), Fail> {
     let flat = controlled_hadamard(rt.alloc())?;
     let moves = [Move::Do(step(0))];
     let wanted = [
-        Gate::One {
-            kind: OneKind::X,
-            q: 0,
-        },
-        Gate::One {
-            kind: OneKind::S,
-            q: 1,
-        },
-        Gate::One {
-            kind: OneKind::H,
-            q: 1,
-        },
-        Gate::One {
-            kind: OneKind::T,
-            q: 1,
-        },
+        one(OneKind::X, 0),
+        one(OneKind::S, 1),
+        one(OneKind::H, 1),
+        one(OneKind::T, 1),
         Gate::Cx { c: 0, t: 1 },
-        Gate::One {
-            kind: OneKind::Tdg,
-            q: 1,
-        },
-        Gate::One {
-            kind: OneKind::H,
-            q: 1,
-        },
-        Gate::One {
-            kind: OneKind::Sdg,
-            q: 1,
-        },
-        Gate::One {
-            kind: OneKind::X,
-            q: 0,
-        },
+        one(OneKind::Tdg, 1),
+        one(OneKind::H, 1),
+        one(OneKind::Sdg, 1),
+        one(OneKind::X, 0),
     ];
     let gates = gates(rt.alloc(), &flat, &moves, 2)?;
     assert_eq!(rt; gates.as_slice(), wanted.as_slice());

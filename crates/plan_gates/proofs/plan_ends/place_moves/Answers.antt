@@ -1,5 +1,5 @@
 -- The moves go on within the width, and lead to the end.
-use Rattle.std.proofs.Common.{subst, ap, ◌∙◌, refl}
+use Rattle.std.proofs.Common.{subst, ◌∙◌, refl}
 use Rattle.qubit_alloc.specs.Place.{first_place, place_move}
 use Rattle.qubit_alloc.specs.State.{Tells, progress_of}
 use Rattle.plan_gates.proofs.Loops.{first_move, next_move, move_made, first_leads, next_leads, last_leads}
