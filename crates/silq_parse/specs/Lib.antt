@@ -1,0 +1,7 @@
+pub mod Spelling
+pub mod Lexed
+pub mod Faults
+pub mod Stands
+pub mod Stops
+pub mod Grown
+pub mod Reads

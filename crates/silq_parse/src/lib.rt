@@ -1,0 +1,8 @@
+#![tactic(auto)]
+//! The parser of Silq: the program that a text is, or its first fault.
+
+pub mod fault;
+mod stop;
+
+pub use fault::ParseFault;
+pub use silq_tree::Program;
