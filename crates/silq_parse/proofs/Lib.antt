@@ -1,0 +1,4 @@
+pub mod Naming
+pub mod Spelt
+pub mod Few
+pub mod UnderWay

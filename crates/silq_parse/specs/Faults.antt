@@ -1,5 +1,5 @@
 -- The first fault of a text.
-use Rattle.std.specs.Prelude.{ℕ, List, [], ◌∷◌, Option, Some, None, if◌then◌else◌, nat_lt, length, map}
+use Rattle.std.specs.Prelude.{ℕ, List, [], ◌∷◌, Option, Some, None, if◌then◌else◌, nat_lt, length}
 use Rattle.std.specs.Str.{chars}
 use Rattle.silq_lex.specs.Tokens.{Tokens, tokens_of, Ending, End, Fault}
 use Rattle.silq_tree.specs.declared.node.Spot.{Spot}
@@ -7,7 +7,7 @@ use Rattle.silq_grammar.specs.declared.token.Token.{Token}
 use Rattle.silq_grammar.specs.Tokens.{spot_of}
 use Rattle.silq_grammar.specs.Outcome.{Outcome, program_outcome}
 use Rattle.silq_grammar.specs.Outcome as outcomes
-use Rattle.silq_parse.specs.Lexed.{spot_at, token_of, names_of}
+use Rattle.silq_parse.specs.Lexed.{spot_at, all_tokens}
 use Rattle.silq_parse.specs.declared.fault.ParseFault.{ParseFault}
 use Rattle.silq_parse.specs.declared.fault.ParseFault.TheVariants.{Long, Lex, Syntax, Deep}
 
@@ -35,7 +35,7 @@ fault_by (outcomes.Deep []) ending = Some (ended_early ending)
 fault_by (outcomes.Deep (t ∷ ts)) ending = Some (deep_at (spot_of t))
 
 abbrev pub fault_of_tokens : Tokens → Option ParseFault
-fault_of_tokens tokens = fault_by (program_outcome (map (token_of (names_of tokens.items)) tokens.items)) tokens.ending
+fault_of_tokens tokens = fault_by (program_outcome (all_tokens tokens.items)) tokens.ending
 
 -- the first fault of a text: its length, else the first in the order of the text, and at one token Syntax before Deep; None
 -- where it is a program within the limits

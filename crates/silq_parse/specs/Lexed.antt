@@ -1,5 +1,5 @@
 -- The tokens of a text, with names by their numbers.
-use Rattle.std.specs.Prelude.{ℕ, suc, ◌+◌, List, [], ◌∷◌, Option, Some, None, if◌then◌else◌, pos}
+use Rattle.std.specs.Prelude.{ℕ, suc, ◌+◌, List, [], ◌∷◌, Option, Some, None, if◌then◌else◌, pos, map}
 use Rattle.std.specs.Str.{bytes_eq, chars}
 use Rattle.silq_tree.specs.declared.node.NameId.{NameId}
 use Rattle.silq_tree.specs.declared.node.Spot.{Spot}
@@ -56,3 +56,7 @@ names_with names (t ∷ ts) = names_with (named t.kind names t.text) ts
 -- the names of tokens in the order in which they first stand
 abbrev pub names_of : List Located → List (List ℕ)
 names_of ts = names_with [] ts
+
+-- the tokens as the grammar sees them
+abbrev pub all_tokens : List Located → List Token
+all_tokens ts = map (token_of (names_of ts)) ts

@@ -1,5 +1,6 @@
 pub mod Spelling
 pub mod Lexed
+pub mod Endings
 pub mod Faults
 pub mod Stands
 pub mod Stops

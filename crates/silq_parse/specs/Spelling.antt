@@ -1,6 +1,7 @@
 -- How each terminal is spelled.
 use Rattle.std.specs.Prelude.{ℕ, List, [], ◌∷◌, Option, Some, None, if◌then◌else◌, codes}
 use Rattle.std.specs.Str.{bytes_eq}
+use denote.Bor.{Bor}
 use Rattle.silq_grammar.specs.declared.token.Terminal.{Terminal}
 use Rattle.silq_grammar.specs.declared.token.Terminal.TheVariants as t
 
@@ -31,6 +32,11 @@ spellings =
     by (195 ∷ 151 ∷ []) t.Times ∷
     by (194 ∷ 183 ∷ []) t.Star ∷
     []
+
+-- a table of the code
+abbrev pub written : List (Bor (List ℕ) × Terminal) → List Spelling
+written [] = []
+written (p ∷ ps) = by p.0.now p.1 ∷ written ps
 
 abbrev pub found : List Spelling → List ℕ → Option Terminal
 found [] text = None

@@ -1,5 +1,5 @@
 -- When a program stands for a text.
-use Rattle.std.specs.Prelude.{◌≡◌, ℕ, ◌<◌, List, Some, length, map, slice_get}
+use Rattle.std.specs.Prelude.{◌≡◌, ℕ, ◌<◌, List, Some, length, slice_get}
 use Rattle.std.specs.Str.{chars}
 use Rattle.silq_lex.specs.Tokens.{tokens_of}
 use Rattle.silq_tree.specs.declared.node.ExprId.{ExprId}
@@ -9,13 +9,13 @@ use Rattle.silq_tree.specs.Arena.{Forest, program_at, expr_parents, stmt_parents
 use Rattle.silq_grammar.specs.Grammar.{Program}
 use Rattle.silq_grammar.specs.Spelled.{program_text}
 use Rattle.silq_grammar.specs.Trees.{program_tree}
-use Rattle.silq_parse.specs.Lexed.{token_of, names_of}
+use Rattle.silq_parse.specs.Lexed.{all_tokens, names_of}
 
 -- the nodes, the names and the functions are those of the program that the text is
 pub record StandsFor (text : List ℕ) (nodes : Forest) (names : List (List ℕ)) (funs : List FunId) : Type 0 where
   pub derivation : Program
   -- the text spells the program
-  pub spelled : map (token_of names) (tokens_of (chars text)).items ≡ program_text derivation
+  pub spelled : all_tokens (tokens_of (chars text)).items ≡ program_text derivation
   -- the names in the order in which they first stand
   pub named : names ≡ names_of (tokens_of (chars text)).items
   -- the functions in the order of the file, with their trees

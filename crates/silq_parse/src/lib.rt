@@ -2,7 +2,9 @@
 //! The parser of Silq: the program that a text is, or its first fault.
 
 pub mod fault;
+mod lexed;
 mod stop;
+mod terminal;
 
 pub use fault::ParseFault;
 pub use silq_tree::Program;
