@@ -1,5 +1,8 @@
 //! Tokens of Silq as the grammar sees them.
 
+ghost use Rattle.std.specs.Prelude.{◌≡◌};
+ghost use Rattle.silq_grammar.specs.Tokens.{spot_of};
+
 use silq_tree::{NameId, Spot};
 
 /// A reserved word or a sign. Two spellings of one word are one terminal.
@@ -86,4 +89,15 @@ pub enum Token {
     Number(i64, Spot),
     /// A reserved word or a sign.
     Fixed(Terminal, Spot),
+}
+
+impl Token {
+    /// Its place.
+    pub fn at(&self) -> Spot
+        ensures { result ≡ spot_of self.now }
+    {
+        match self {
+            Token::Name(_, at) | Token::Number(_, at) | Token::Fixed(_, at) => *at,
+        }
+    }
 }
