@@ -1,2 +1,4 @@
 pub mod Reach
 pub mod Tested
+pub mod Pieces
+pub mod TakenExpr
