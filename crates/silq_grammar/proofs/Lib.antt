@@ -2,3 +2,4 @@ pub mod Reach
 pub mod Tested
 pub mod Pieces
 pub mod TakenExpr
+pub mod Taken
