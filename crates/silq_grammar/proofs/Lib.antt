@@ -3,3 +3,4 @@ pub mod Tested
 pub mod Pieces
 pub mod TakenExpr
 pub mod Taken
+pub mod Built
