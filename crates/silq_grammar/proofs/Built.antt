@@ -177,7 +177,7 @@ ended : {us vs ts : List Token} → ts ≡ us ++ vs → StandsAll Stands [] vs �
 ended e r = e ∙ rw (end_of r) (append-nil _)
 
 -- all of the tokens are those of the last part
-single : {x : Symbol} {ts : List Token} → StandsAll Stands (x ∷ []) ts → Stands x ts
+pub single : {x : Symbol} {ts : List Token} → StandsAll Stands (x ∷ []) ts → Stands x ts
 single {x = x} (first_then {us = us} u nothing) = rw append-nil u
 
 -- the same terminal

@@ -4,3 +4,5 @@ pub mod Pieces
 pub mod TakenExpr
 pub mod Taken
 pub mod Built
+pub mod Accepted
+pub mod Exact
