@@ -6,3 +6,4 @@ pub mod Taken
 pub mod Built
 pub mod Accepted
 pub mod Exact
+pub mod Rows
