@@ -1,17 +1,17 @@
 -- Each rule of the table builds a part of the grammar.
-use Rattle.std.proofs.Common.{◌≡◌, ℕ, ℤ, Bool, true, false, List, [], ◌∷◌, ◌++◌, Option, Some, None, cond, nat_eq, refl, sym, ◌∙◌, ap, append_assoc, append-nil, arith}
+use Rattle.std.proofs.Common.{◌≡◌, ℕ, ℤ, Bool, true, false, List, [], ◌∷◌, ◌++◌, Option, Some, None, cond, refl, sym, ◌∙◌, ap, append_assoc, append-nil, arith}
 use Rattle.grammar_core.specs.Stands.{StandsAll, nothing, first_then, RuleStands, Builds}
 use Rattle.grammar_core.specs.Check.{item}
 use Rattle.silq_tree.specs.declared.node.NameId.{NameId}
 use Rattle.silq_tree.specs.declared.node.Spot.{Spot}
 use Rattle.silq_tree.specs.declared.node.UpdateOp.TheVariants as updates
-use Rattle.silq_grammar.specs.Tokens.{Kind, AName, ANumber, A, Terminal, Token, Name, Number, Fixed, kind}
+use Rattle.silq_grammar.specs.Tokens.{Terminal, Token, Name, Number, Fixed, kind}
 use Rattle.silq_grammar.specs.Terminals.{number_of, same_terminal}
 use Rattle.silq_grammar.specs.declared.token.Terminal.TheVariants as t
 use Rattle.silq_grammar.specs.Grammar as g
 use Rattle.silq_grammar.specs.Grammar.{Comparison, equal, not_equal, below, at_most, above, at_least, Expr, one_and, or, And, one_cmp, and, Cmp, one_sum, compare, Sum, one_prod, plus, minus, Prod, one_unary, times, over, Unary, bang, negative, number, typed_number, true_, false_, pi, place, called, paren, Scalar, bit, uint, int, Place, whole, part, part_of_part, Call, plain, with_statics, Args, no_args, args, Exprs, last, and_more, NameList, last_name, and_names, Stmt, assign, spread, update, forget, forget_as, phase, choose, loop, return_nothing, return_value, call, Choice, only, either, chain, Block, braces, Stmts, none, more, Size, no_size, number_size, named_size, paren_size, Type_, quantum, classical, Result, last_type, and_types, Param, moved, held, last_param, and_params, Statics, last_static, and_statics, no_statics, statics, no_params, params, no_mark, lifted, qfree, mfree, no_result, results, Function, def, Program, no_function, function_then}
-use Rattle.silq_grammar.specs.Spelled.{expr_text, and_text, cmp_text, sum_text, prod_text, unary_text, scalar_text, place_text, call_text, args_text, exprs_text, names_text, stmt_text, choice_text, block_text, stmts_text, size_text, type_text, result_text, param_text, params_text, statics_text, static_part_text, param_part_text, mark_text, result_part_text, function_text, program_text}
-use Rattle.silq_grammar.specs.Machine.{table, begin, begin_unary, begin_scalar, begin_param, begin_value, can_be_empty, chains, an_expr, exprs, value, Symbol, Expect, AnyName, Closing, Ends, Functions, StaticPart, MoreStatics, ParamPart, Params, OneParam, MoreParams, MarkPart, ResultPart, MoreResults, AType, AScalar, Width, SizePart, ASize, ABlock, Statements, MoreNames, ForgetPart, PhasePart, ForgetValue, Bounds, ReturnValue, ElseRest, ElseBody, StartName, StartBracket, StartIndex, Assigns, AUnary, Prods, Sums, Compare, Ands, Ors, NumberType, InName, InBracket, InIndex, CallPart, Arguments, MoreExprs}
+use Rattle.silq_grammar.specs.Spelled.{expr_text, and_text, cmp_text, sum_text, prod_text, unary_text, scalar_text, place_text, call_text, args_text, exprs_text, names_text, stmt_text, choice_text, block_text, stmts_text, size_text, type_text, result_text, param_text, params_text, statics_text, static_part_text, param_part_text, mark_text, result_part_text, program_text}
+use Rattle.silq_grammar.specs.Machine.{table, begin, begin_unary, begin_scalar, begin_param, begin_value, can_be_empty, chains, an_expr, exprs, Symbol, Expect, AnyName, Closing, Ends, Functions, StaticPart, MoreStatics, ParamPart, Params, OneParam, MoreParams, MarkPart, ResultPart, MoreResults, AType, AScalar, Width, SizePart, ASize, ABlock, Statements, MoreNames, ForgetPart, PhasePart, ForgetValue, Bounds, ReturnValue, ElseRest, ElseBody, StartName, StartBracket, StartIndex, Assigns, AUnary, Prods, Sums, Compare, Ands, Ors, NumberType, InName, InBracket, InIndex, CallPart, Arguments, MoreExprs}
 
 -- the tokens are those of a statement, and likewise
 
@@ -271,7 +271,7 @@ begun k (Fixed t.False s) ts = λ r. before (Fixed t.False s ∷ []) ts (false_ 
 begun k (Fixed t.Pi s) ts = λ r. before (Fixed t.Pi s ∷ []) ts (pi s, refl) r refl
 begun k (Fixed t.LeftParen l) ts = λ r. with_exprs r (λ es vs q e. with_close q (λ at ws z e'.
     before (Fixed t.LeftParen l ∷ (exprs_text es ++ (Fixed t.RightParen at ∷ []))) ws (paren l es at, refl) z
-        (ap (λ w. Fixed t.LeftParen l ∷ w) (rw (e, e') (sym (append_assoc (exprs_text es) (Fixed t.RightParen at ∷ []) ws))))))
+    (ap (λ w. Fixed t.LeftParen l ∷ w) (rw (e, e') (sym (append_assoc (exprs_text es) (Fixed t.RightParen at ∷ []) ws))))))
 begun k (Fixed t.Bang s) ts = λ r. with_unary r (λ u vs q e. with_ends q (λ z.
     before (Fixed t.Bang s ∷ unary_text u) vs (bang s u, refl) z (ap (λ w. Fixed t.Bang s ∷ w) e)))
 begun k (Fixed t.Minus s) ts = λ r. with_unary r (λ u vs q e. with_ends q (λ z.
@@ -428,9 +428,11 @@ rule Statements (Fixed t.LeftParen l) ts = λ r.
     with_expr r5 (λ x v6 r6 e6.
     with_sign r6 (λ end v7 r7 e7.
     let ns = f m b in
-    let rest = statement_then (spread l n a c ns.0 d s x end) r7 in
-    (rest.0, rw (rest.1, e0, e1, e2, e3, e4, e5, e6, e7, ns.1)
-        (two (Fixed t.LeftParen l ∷ Name n a ∷ Fixed t.Comma c ∷ Name m b ∷ us) (Fixed t.RightParen d) (Fixed t.Becomes s) (expr_text x) (Fixed t.Semicolon end) v7))))))))))
+    let rest = statement_then (spread l n a c ns.0 d s x end) r7 in (
+      rest.0,
+      rw (rest.1, e0, e1, e2, e3, e4, e5, e6, e7, ns.1)
+          (two (Fixed t.LeftParen l ∷ Name n a ∷ Fixed t.Comma c ∷ Name m b ∷ us) (Fixed t.RightParen d) (Fixed t.Becomes s) (expr_text x) (Fixed t.Semicolon end) v7),
+    )))))))))
 rule Statements (Fixed t.Forget s) ts = λ r. with_part r (λ us vs f q e. with_sign q (λ end ws z e'.
     let x = f s end in
     let rest = statement_then x.0 z in
@@ -451,9 +453,11 @@ rule Statements (Fixed t.For s) ts = λ r.
     with_sign r0 (λ i v1 r1 e1.
     with_part r1 (λ us v2 q r2 e2.
     with_block r2 (λ b v3 r3 e3.
-    let rest = statement_then (loop s n a i q.0 q.1 q.2 q.3 q.4 b) r3 in
-    (rest.0, rw (rest.1, e0, e1, e2, e3, q.5)
-        (looped (Fixed t.For s ∷ Name n a ∷ Fixed t.In i ∷ Fixed t.LeftBracket q.0 ∷ expr_text q.1) (Fixed t.Dots q.2) (expr_text q.3) (Fixed t.RightParen q.4) (block_text b) v3))))))
+    let rest = statement_then (loop s n a i q.0 q.1 q.2 q.3 q.4 b) r3 in (
+      rest.0,
+      rw (rest.1, e0, e1, e2, e3, q.5)
+          (looped (Fixed t.For s ∷ Name n a ∷ Fixed t.In i ∷ Fixed t.LeftBracket q.0 ∷ expr_text q.1) (Fixed t.Dots q.2) (expr_text q.3) (Fixed t.RightParen q.4) (block_text b) v3),
+    )))))
 rule Statements (Fixed t.Return s) ts = λ r. with_part r (λ us vs f q e. with_sign q (λ end ws z e'.
     let x = f s end in
     let rest = statement_then x.0 z in
@@ -465,8 +469,11 @@ rule ForgetPart (Fixed t.LeftParen l) ts = λ r s end.
     with_close r1 (λ at v2 r2 e2.
     let x = f s l n a at end in
     (x.0, rw (x.1, e0, e1, e2, end_of r2) (sym (append_assoc (Fixed t.Forget s ∷ Fixed t.LeftParen l ∷ Name n a ∷ us) (Fixed t.RightParen at ∷ []) (Fixed t.Semicolon end ∷ [])))))))
-rule PhasePart (Fixed t.LeftParen l) ts = λ r s end. with_expr r (λ x vs q e. with_close q (λ at ws z e'. (phase s l x at end, rw (e, e', end_of z)
-    (sym (append_assoc (Fixed t.Phase s ∷ Fixed t.LeftParen l ∷ expr_text x) (Fixed t.RightParen at ∷ []) (Fixed t.Semicolon end ∷ []))))))
+rule PhasePart (Fixed t.LeftParen l) ts = λ r s end. with_expr r (λ x vs q e. with_close q (λ at ws z e'. (
+  phase s l x at end,
+  rw (e, e', end_of z)
+      (sym (append_assoc (Fixed t.Phase s ∷ Fixed t.LeftParen l ∷ expr_text x) (Fixed t.RightParen at ∷ []) (Fixed t.Semicolon end ∷ []))),
+)))
 rule ForgetValue (Fixed t.Is i) ts = λ r s l n a at end. with_expr r (λ x vs q e. (forget_as s l n a i x at end, let h : ts ≡ expr_text x = ended e q in rw h refl))
 rule Bounds (Fixed t.LeftBracket l) ts = λ r.
     with_expr r (λ x v0 r0 e0.
@@ -496,10 +503,11 @@ rule StartBracket (Fixed t.Comma c) ts = λ r n s l e.
     with_exprs r (λ es v0 r0 e0.
     with_close r0 (λ d v1 r1 e1.
     with_part r1 (λ us v2 q r2 e2.
-    with_sign r2 (λ end v3 r3 e3.
-    (call (with_statics n s l (and_more e c es) d q.0 q.1 q.2) end,
-    rw (e0, e1, e2, e3, end_of r3) (ap (λ w. w ++ (Fixed t.Semicolon end ∷ [])) (call_signs n s l e c es d q refl)
-        ∙ spread_out (Name n s ∷ Fixed t.LeftBracket l ∷ expr_text e) (Fixed t.Comma c) (exprs_text es) (Fixed t.RightBracket d) us (Fixed t.Semicolon end ∷ [])))))))
+    with_sign r2 (λ end v3 r3 e3. (
+      call (with_statics n s l (and_more e c es) d q.0 q.1 q.2) end,
+      rw (e0, e1, e2, e3, end_of r3) (ap (λ w. w ++ (Fixed t.Semicolon end ∷ [])) (call_signs n s l e c es d q refl)
+          ∙ spread_out (Name n s ∷ Fixed t.LeftBracket l ∷ expr_text e) (Fixed t.Comma c) (exprs_text es) (Fixed t.RightBracket d) us (Fixed t.Semicolon end ∷ [])),
+    )))))
 rule StartIndex (Fixed t.LeftBracket m) ts = λ r n s l e d.
     with_expr r (λ x v0 r0 e0.
     with_close r0 (λ at v1 r1 e1.
@@ -508,9 +516,11 @@ rule StartIndex (Fixed t.LeftBracket m) ts = λ r n s l e d.
 rule StartIndex (Fixed t.LeftParen m) ts = λ r n s l e d.
     with_args r (λ a v0 r0 e0.
     with_close r0 (λ at v1 r1 e1.
-    with_sign r1 (λ end v2 r2 e2.
-    (call (with_statics n s l (last e) d m a at) end, rw (e0, e1, e2, end_of r2)
-        (two (Name n s ∷ Fixed t.LeftBracket l ∷ expr_text e) (Fixed t.RightBracket d) (Fixed t.LeftParen m) (args_text a) (Fixed t.RightParen at) (Fixed t.Semicolon end ∷ []))))))
+    with_sign r1 (λ end v2 r2 e2. (
+      call (with_statics n s l (last e) d m a at) end,
+      rw (e0, e1, e2, end_of r2)
+          (two (Name n s ∷ Fixed t.LeftBracket l ∷ expr_text e) (Fixed t.RightBracket d) (Fixed t.LeftParen m) (args_text a) (Fixed t.RightParen at) (Fixed t.Semicolon end ∷ [])),
+    ))))
 rule StartIndex w ts = as_start_index (begin_value (kind w)) w ts (begun_value w ts)
 rule Assigns w ts = as_assigns (begin_value (kind w)) w ts (begun_value w ts)
 rule AUnary w ts = as_unary (begin_unary [] (kind w)) w ts (begun [] w ts)

@@ -10,7 +10,7 @@ use Rattle.silq_grammar.specs.Tokens.{Kind, AName, ANumber, A, Token, Name, Numb
 use Rattle.silq_grammar.specs.Grammar.{Program}
 use Rattle.silq_grammar.specs.Spelled.{program_text}
 use Rattle.silq_grammar.specs.Machine.{Symbol, Functions, table, nest}
-use Rattle.silq_grammar.specs.Outcome.{Outcome, Fine, Syntax, Deep, outcome, outcome_at, program_outcome}
+use Rattle.silq_grammar.specs.Outcome.{Fine, Syntax, Deep, outcome, outcome_at, program_outcome}
 use Rattle.silq_grammar.specs.Place.{IsProgram, BeginsProgram, Breaks, IsFirstFault, TableFollowsGrammar}
 use Rattle.silq_grammar.proofs.Reach.{reach, kinds}
 use Rattle.silq_grammar.proofs.Tested.{the_table, all}

@@ -1,14 +1,14 @@
 -- Reading tokens by the table: what each symbol's tokens give, and the reading itself.
-use Rattle.std.proofs.Common.{ℕ, ℤ, ◌+◌, Bool, true, false, List, [], ◌∷◌, ◌++◌, Option, Some, None, cond}
+use Rattle.std.proofs.Common.{ℤ, Bool, true, false, List, [], ◌∷◌, ◌++◌, Option, Some, None, cond}
 use Rattle.silq_tree.specs.declared.node.NameId.{NameId}
 use Rattle.silq_tree.specs.declared.node.Spot.{Spot}
 use Rattle.silq_tree.specs.declared.node.UpdateOp.TheVariants as updates
-use Rattle.silq_grammar.specs.Tokens.{Kind, AName, ANumber, A, Terminal, Token, Name, Number, Fixed, kind}
+use Rattle.silq_grammar.specs.Tokens.{Terminal, Token, Name, Number, Fixed, kind}
 use Rattle.silq_grammar.specs.Terminals.{same_terminal}
 use Rattle.silq_grammar.specs.declared.token.Terminal.TheVariants as t
 use Rattle.silq_grammar.specs.Grammar as g
 use Rattle.silq_grammar.specs.Grammar.{Comparison, equal, not_equal, below, at_most, above, at_least, Expr, one_and, or, And, one_cmp, and, Cmp, one_sum, compare, Sum, one_prod, plus, minus, Prod, one_unary, times, over, Unary, bang, negative, number, typed_number, true_, false_, pi, place, called, paren, Scalar, bit, uint, int, Place, whole, part, part_of_part, Call, plain, with_statics, Args, no_args, args, Exprs, last, and_more, NameList, last_name, and_names, Stmt, assign, spread, update, forget, forget_as, phase, choose, loop, return_nothing, return_value, call, Choice, only, either, chain, Block, braces, Stmts, none, more, Size, no_size, number_size, named_size, paren_size, Type_, quantum, classical, Result, last_type, and_types, Param, moved, held, last_param, and_params, Statics, last_static, and_statics, no_statics, statics, no_params, params, no_mark, lifted, qfree, mfree, no_result, results, Function, def, Program, no_function, function_then}
-use Rattle.silq_grammar.specs.Machine.{begin, begin_unary, begin_scalar, begin_param, begin_value, can_be_empty, an_expr, chains, exprs, value, Symbol, Expect, AnyName, Closing, Ends, Functions, StaticPart, MoreStatics, ParamPart, Params, OneParam, MoreParams, MarkPart, ResultPart, MoreResults, AType, AScalar, Width, SizePart, ASize, ABlock, Statements, MoreNames, ForgetPart, PhasePart, ForgetValue, Bounds, ReturnValue, ElseRest, ElseBody, StartName, StartBracket, StartIndex, Assigns, AUnary, Prods, Sums, Compare, Ands, Ors, NumberType, InName, InBracket, InIndex, CallPart, Arguments, MoreExprs}
+use Rattle.silq_grammar.specs.Machine.{begin, begin_unary, begin_scalar, begin_param, begin_value, can_be_empty, an_expr, chains, exprs, Symbol, Expect, AnyName, Closing, Ends, Functions, StaticPart, MoreStatics, ParamPart, Params, OneParam, MoreParams, MarkPart, ResultPart, MoreResults, AType, AScalar, Width, SizePart, ASize, ABlock, Statements, MoreNames, ForgetPart, PhasePart, ForgetValue, Bounds, ReturnValue, ElseRest, ElseBody, StartName, StartBracket, StartIndex, Assigns, AUnary, Prods, Sums, Compare, Ands, Ors, NumberType, InName, InBracket, InIndex, CallPart, Arguments, MoreExprs}
 
 -- what the tokens of a symbol give: a part of the grammar, or what they make of the part before them
 abbrev pub Piece : Symbol → Type 0

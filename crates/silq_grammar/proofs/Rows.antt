@@ -1,12 +1,13 @@
 -- Tokens, what is wrong with them, and their trees, by computing.
-use Rattle.std.proofs.Common.{◌≡◌, ℕ, suc, zero, false, List, [], ◌∷◌, ◌++◌, replicate, Option, Some, None, refl}
+use Rattle.std.proofs.Common.{◌≡◌, ℕ, suc, zero, pos, false, true, List, [], ◌∷◌, ◌++◌, replicate, Option, Some, None, refl}
 use Rattle.silq_tree.specs.declared.node.UnaryOp.TheVariants as unaries
+use Rattle.silq_tree.specs.declared.node.UpdateOp.TheVariants as updates
 use Rattle.silq_tree.specs.declared.node.BinaryOp.TheVariants as ops
 use Rattle.silq_tree.specs.declared.node.NameId.{NameId}
 use Rattle.silq_tree.specs.declared.node.Spot.{Spot}
 use Rattle.silq_tree.specs.declared.node.Mark.TheVariants as marks
 use Rattle.silq_tree.specs.Syntax as tree
-use Rattle.silq_grammar.specs.Tokens.{Terminal, Token, Name, Fixed}
+use Rattle.silq_grammar.specs.Tokens.{Terminal, Token, Name, Number, Fixed}
 use Rattle.silq_grammar.specs.declared.token.Terminal.TheVariants as t
 use Rattle.silq_grammar.specs.Grammar.{Program, no_function}
 use Rattle.silq_grammar.specs.Spelled.{program_text}
@@ -37,8 +38,8 @@ fair_tree = record {
   mark = marks.Plain;
   results = tree.scalar false tree.bit (at 15) ∷ [];
   body = tree.block
-    (tree.next (tree.assign (tree.whole (id 1)) (tree.called (id 2) tree.none (tree.more (tree.place (tree.whole (id 1)) (at 26)) tree.none) (at 24)) (at 19))
-    (tree.next (tree.return_value (tree.place (tree.whole (id 1)) (at 37)) (at 30)) tree.done)) (at 40);
+      (tree.next (tree.assign (tree.whole (id 1)) (tree.called (id 2) tree.none (tree.more (tree.place (tree.whole (id 1)) (at 26)) tree.none) (at 24)) (at 19))
+      (tree.next (tree.return_value (tree.place (tree.whole (id 1)) (at 37)) (at 30)) tree.done)) (at 40);
   at = at 1;
 } ∷ []
 
@@ -98,8 +99,8 @@ grouped = f t.Return ∷ n 1 ∷ f t.Minus ∷ n 2 ∷ f t.Minus ∷ f t.Bang �
 
 row_grouped : HasTree (with_body grouped) (body_tree (tree.next (tree.return_value
     (tree.binary ops.Or (tree.binary ops.And
-        (tree.binary ops.Sub (tree.binary ops.Sub (v 1) (v 2) nowhere) (tree.binary ops.Mul (tree.unary unaries.Not (v 3) nowhere) (v 4) nowhere) nowhere)
-        (v 5) nowhere) (v 6) nowhere) nowhere) tree.done))
+    (tree.binary ops.Sub (tree.binary ops.Sub (v 1) (v 2) nowhere) (tree.binary ops.Mul (tree.unary unaries.Not (v 3) nowhere) (v 4) nowhere) nowhere)
+    (v 5) nowhere) (v 6) nowhere) nowhere) tree.done))
 row_grouped = (program_of (with_body grouped), refl, refl)
 
 -- if 1 { } else if 2 { } else { }: the last `else` is that of the second `if`
@@ -161,3 +162,47 @@ row_else_ifs = refl
 row_many_else_ifs : program_outcome (with_body (f t.If ∷ n 1 ∷ f t.LeftBrace ∷ f t.RightBrace ∷ else_ifs 63)) ≡ Deep (f t.LeftBrace ∷ f t.RightBrace ∷ f t.RightBrace ∷ [])
 unfolding outcome
 row_many_else_ifs = refl
+
+-- def 0[1:!N](const 2:!uint[1]^3, 4:B) lifted:B×B { (5,6) := 7[1](2,4); 5[0] += 2; forget(6); forget(5 = 2[1][3]); phase(pi/4);
+-- for 8 in [0..1) { 7(); } return; }
+
+abbrev num : ℕ → Token
+num k = Number (pos k) nowhere
+
+abbrev value : ℕ → tree.Expression
+value k = tree.number (pos k) nowhere
+
+abbrev heading : List Token
+heading = f t.Def ∷ n 0 ∷ f t.LeftBracket ∷ n 1 ∷ f t.Colon ∷ f t.Bang ∷ f t.Natural ∷ f t.RightBracket
+    ∷ f t.LeftParen ∷ f t.Const ∷ n 2 ∷ f t.Colon ∷ f t.Bang ∷ f t.UInt ∷ f t.LeftBracket ∷ n 1 ∷ f t.RightBracket ∷ f t.Caret ∷ num 3
+    ∷ f t.Comma ∷ n 4 ∷ f t.Colon ∷ f t.Bit ∷ f t.RightParen ∷ f t.Lifted ∷ f t.Colon ∷ f t.Bit ∷ f t.Times ∷ f t.Bit ∷ []
+
+abbrev statements : List Token
+statements = f t.LeftParen ∷ n 5 ∷ f t.Comma ∷ n 6 ∷ f t.RightParen ∷ f t.Becomes ∷ n 7 ∷ f t.LeftBracket ∷ n 1 ∷ f t.RightBracket
+    ∷ f t.LeftParen ∷ n 2 ∷ f t.Comma ∷ n 4 ∷ f t.RightParen ∷ f t.Semicolon
+    ∷ n 5 ∷ f t.LeftBracket ∷ num 0 ∷ f t.RightBracket ∷ f t.AddTo ∷ n 2 ∷ f t.Semicolon
+    ∷ f t.Forget ∷ f t.LeftParen ∷ n 6 ∷ f t.RightParen ∷ f t.Semicolon
+    ∷ f t.Forget ∷ f t.LeftParen ∷ n 5 ∷ f t.Is ∷ n 2 ∷ f t.LeftBracket ∷ n 1 ∷ f t.RightBracket ∷ f t.LeftBracket ∷ num 3 ∷ f t.RightBracket ∷ f t.RightParen ∷ f t.Semicolon
+    ∷ f t.Phase ∷ f t.LeftParen ∷ f t.Pi ∷ f t.Slash ∷ num 4 ∷ f t.RightParen ∷ f t.Semicolon
+    ∷ f t.For ∷ n 8 ∷ f t.In ∷ f t.LeftBracket ∷ num 0 ∷ f t.Dots ∷ n 1 ∷ f t.RightParen
+    ∷ f t.LeftBrace ∷ n 7 ∷ f t.LeftParen ∷ f t.RightParen ∷ f t.Semicolon ∷ f t.RightBrace
+    ∷ f t.Return ∷ f t.Semicolon ∷ []
+
+row_forms : HasTree (heading ++ (f t.LeftBrace ∷ (statements ++ (f t.RightBrace ∷ [])))) (record {
+  name = id 0;
+  statics = id 1 ∷ [];
+  params = record { held = true; name = id 2; ty = tree.array true (tree.uint (v 1)) (value 3) nowhere; at = nowhere }
+    ∷ record { held = false; name = id 4; ty = tree.scalar false tree.bit nowhere; at = nowhere } ∷ [];
+  mark = marks.Lifted;
+  results = tree.scalar false tree.bit nowhere ∷ tree.scalar false tree.bit nowhere ∷ [];
+  body = tree.block
+    (tree.next (tree.spread (id 5 ∷ id 6 ∷ []) (tree.called (id 7) (tree.more (v 1) tree.none) (tree.more (v 2) (tree.more (v 4) tree.none)) nowhere) nowhere)
+    (tree.next (tree.update (tree.part (id 5) (value 0)) updates.Add (v 2) nowhere)
+    (tree.next (tree.forget (id 6) nowhere)
+    (tree.next (tree.forget_value (id 5) (tree.place (tree.part_of_part (id 2) (v 1) (value 3)) nowhere) nowhere)
+    (tree.next (tree.phase (tree.binary ops.Div (tree.pi nowhere) (value 4) nowhere) nowhere)
+    (tree.next (tree.loop (id 8) (value 0) (v 1) (tree.block (tree.next (tree.call (tree.called (id 7) tree.none tree.none nowhere) nowhere) tree.done) nowhere) nowhere)
+    (tree.next (tree.return_nothing nowhere) tree.done))))))) nowhere;
+  at = nowhere;
+} ∷ [])
+row_forms = (program_of (heading ++ (f t.LeftBrace ∷ (statements ++ (f t.RightBrace ∷ [])))), refl, refl)

@@ -1,17 +1,16 @@
 -- What a program spells is read as that program.
-use Rattle.std.proofs.Common.{◌≡◌, ℕ, Bool, true, false, List, [], ◌∷◌, ◌++◌, Option, Some, None, refl, sym, ◌∙◌, ap, append_assoc}
+use Rattle.std.proofs.Common.{◌≡◌, List, [], ◌∷◌, ◌++◌, Option, Some, None, refl, ◌∙◌, ap, append_assoc}
 use Rattle.silq_tree.specs.declared.node.NameId.{NameId}
 use Rattle.silq_tree.specs.declared.node.Spot.{Spot}
 use Rattle.silq_tree.specs.declared.node.UpdateOp.{UpdateOp}
 use Rattle.silq_tree.specs.declared.node.UpdateOp.TheVariants as updates
-use Rattle.silq_grammar.specs.Tokens.{Kind, AName, ANumber, A, Terminal, Token, Name, Number, Fixed, kind}
+use Rattle.silq_grammar.specs.Tokens.{Terminal, Token, Name, Number, Fixed}
 use Rattle.silq_grammar.specs.declared.token.Terminal.TheVariants as t
 use Rattle.silq_grammar.specs.Grammar as g
 use Rattle.silq_grammar.specs.Grammar.{Comparison, equal, not_equal, below, at_most, above, at_least, Expr, one_and, or, And, one_cmp, and, Cmp, one_sum, compare, Sum, one_prod, plus, minus, Prod, one_unary, times, over, Unary, bang, negative, number, typed_number, true_, false_, pi, place, called, paren, Scalar, bit, uint, int, Place, whole, part, part_of_part, Call, plain, with_statics, Args, no_args, args, Exprs, last, and_more, NameList, last_name, and_names, Stmt, assign, spread, update, forget, forget_as, phase, choose, loop, return_nothing, return_value, call, Choice, only, either, chain, Block, braces, Stmts, none, more, Size, no_size, number_size, named_size, paren_size, Type_, quantum, classical, Result, last_type, and_types, Param, moved, held, last_param, and_params, Statics, last_static, and_statics, no_statics, statics, no_params, params, no_mark, lifted, qfree, mfree, no_result, results, Function, def, Program, no_function, function_then}
 use Rattle.silq_grammar.specs.Spelled.{update_sign, expr_text, scalar_text, place_text, call_text, args_text, exprs_text, names_text, stmt_text, choice_text, block_text, stmts_text, size_text, type_text, result_text, param_text, params_text, statics_text, static_part_text, param_part_text, mark_text, result_part_text, function_text, program_text}
-use Rattle.silq_grammar.specs.Machine.{begin, can_be_empty, an_expr, exprs, Symbol, Expect, AnyName, Closing, Ends, Functions, StaticPart, MoreStatics, ParamPart, Params, OneParam, MoreParams, MarkPart, ResultPart, MoreResults, AType, AScalar, Width, SizePart, ASize, ABlock, Statements, MoreNames, ForgetPart, PhasePart, ForgetValue, Bounds, ReturnValue, ElseRest, ElseBody, StartName, StartBracket, StartIndex, Assigns, AUnary, Prods, Sums, Compare, Ands, Ors, NumberType, InName, InBracket, InIndex, CallPart, Arguments, MoreExprs}
-use Rattle.silq_grammar.proofs.Reach.{begins, goes_on}
-use Rattle.silq_grammar.proofs.Pieces.{Piece, Pieces, read, on_expr, on_exprs}
+use Rattle.silq_grammar.specs.Machine.{an_expr, Symbol, Expect, AnyName, Closing, Ends, Functions, StaticPart, MoreStatics, ParamPart, Params, OneParam, MoreParams, MarkPart, ResultPart, MoreResults, AType, AScalar, SizePart, ABlock, Statements, MoreNames, ReturnValue, ElseRest, ElseBody, StartName, StartBracket, StartIndex, Assigns, Ors, CallPart}
+use Rattle.silq_grammar.proofs.Pieces.{Pieces, read, on_expr}
 use Rattle.silq_grammar.proofs.TakenExpr.{Off, NotBegun, skip, regroup, or_left, or_right, not_ends, Starts, start_expr, take_scalar, take_args, take_expr, take_exprs}
 
 take_names : (ns : NameList) (k : List Symbol) (ts : List Token) (f : NameList → Pieces k → Program) → NotBegun MoreNames ts
@@ -31,7 +30,7 @@ valued (Some op) = update op
 
 value_at_name : (o : Option UpdateOp) (s : Spot) (k : List Symbol) (ts : List Token) (f : (NameId → Spot → Stmt) → Pieces k → Program)
     → read (StartName ∷ k) (Fixed (value_sign o) s ∷ ts) (λ ps. f ps.0 ps.1)
-      ≡ read (an_expr (Expect t.Semicolon ∷ k)) ts (on_expr (Expect t.Semicolon ∷ k) (λ e r. f (λ n a. valued o (whole n a) s e r.0) r.1))
+    ≡ read (an_expr (Expect t.Semicolon ∷ k)) ts (on_expr (Expect t.Semicolon ∷ k) (λ e r. f (λ n a. valued o (whole n a) s e r.0) r.1))
 value_at_name None s k ts f = refl
 value_at_name (Some updates.Add) s k ts f = refl
 value_at_name (Some updates.Sub) s k ts f = refl
@@ -39,7 +38,7 @@ value_at_name (Some updates.Xor) s k ts f = refl
 
 value_at_index : (o : Option UpdateOp) (s : Spot) (k : List Symbol) (ts : List Token) (f : (NameId → Spot → Spot → Expr → Spot → Stmt) → Pieces k → Program)
     → read (StartIndex ∷ k) (Fixed (value_sign o) s ∷ ts) (λ ps. f ps.0 ps.1)
-      ≡ read (an_expr (Expect t.Semicolon ∷ k)) ts (on_expr (Expect t.Semicolon ∷ k) (λ e w. f (λ n a l i r. valued o (part n a l i r) s e w.0) w.1))
+    ≡ read (an_expr (Expect t.Semicolon ∷ k)) ts (on_expr (Expect t.Semicolon ∷ k) (λ e w. f (λ n a l i r. valued o (part n a l i r) s e w.0) w.1))
 value_at_index None s k ts f = refl
 value_at_index (Some updates.Add) s k ts f = refl
 value_at_index (Some updates.Sub) s k ts f = refl
@@ -47,7 +46,7 @@ value_at_index (Some updates.Xor) s k ts f = refl
 
 value_at_assigns : (o : Option UpdateOp) (s : Spot) (k : List Symbol) (ts : List Token) (f : (Place → Stmt) → Pieces k → Program)
     → read (Assigns ∷ k) (Fixed (value_sign o) s ∷ ts) (λ ps. f ps.0 ps.1)
-      ≡ read (an_expr (Expect t.Semicolon ∷ k)) ts (on_expr (Expect t.Semicolon ∷ k) (λ e w. f (λ p. valued o p s e w.0) w.1))
+    ≡ read (an_expr (Expect t.Semicolon ∷ k)) ts (on_expr (Expect t.Semicolon ∷ k) (λ e w. f (λ p. valued o p s e w.0) w.1))
 value_at_assigns None s k ts f = refl
 value_at_assigns (Some updates.Add) s k ts f = refl
 value_at_assigns (Some updates.Sub) s k ts f = refl
@@ -56,7 +55,7 @@ value_at_assigns (Some updates.Xor) s k ts f = refl
 -- a place and the sign behind it begin a statement
 take_target : (o : Option UpdateOp) (p : Place) (s : Spot) (k : List Symbol) (ts : List Token) (f : Stmts → Pieces k → Program)
     → read (Statements ∷ k) (place_text p ++ (Fixed (value_sign o) s ∷ ts)) (λ ps. f ps.0 ps.1)
-      ≡ read (an_expr (Expect t.Semicolon ∷ Statements ∷ k)) ts (on_expr (Expect t.Semicolon ∷ Statements ∷ k) (λ e r. f (more (valued o p s e r.0) r.1.0) r.1.1))
+    ≡ read (an_expr (Expect t.Semicolon ∷ Statements ∷ k)) ts (on_expr (Expect t.Semicolon ∷ Statements ∷ k) (λ e r. f (more (valued o p s e r.0) r.1.0) r.1.1))
 take_target o (whole n a) s k ts f = value_at_name o s (Statements ∷ k) ts (λ g r. f (more (g n a) r.0) r.1)
 take_target o (part n a l e r) s k ts f =
     regroup _ _ (expr_text e) (Fixed t.RightBracket r ∷ []) (Fixed (value_sign o) s ∷ ts)
@@ -66,7 +65,7 @@ take_target o (part_of_part n a l e r m d q) s k ts f =
     let behind = Fixed t.RightBracket q ∷ Fixed (value_sign o) s ∷ ts in
     regroup _ _ (expr_text e) (Fixed t.RightBracket r ∷ Fixed t.LeftBracket m ∷ (expr_text d ++ (Fixed t.RightBracket q ∷ []))) (Fixed (value_sign o) s ∷ ts)
     ∙ take_expr e (StartBracket ∷ Statements ∷ k) (Fixed t.RightBracket r ∷ Fixed t.LeftBracket m ∷ ((expr_text d ++ (Fixed t.RightBracket q ∷ [])) ++ (Fixed (value_sign o) s ∷ ts)))
-          (λ x w. f (more (w.0 n a l x) w.1.0) w.1.1) refl
+    (λ x w. f (more (w.0 n a l x) w.1.0) w.1.1) refl
     ∙ regroup _ _ (expr_text d) (Fixed t.RightBracket q ∷ []) (Fixed (value_sign o) s ∷ ts)
     ∙ take_expr d (Closing t.RightBracket ∷ Assigns ∷ Statements ∷ k) behind (λ x w. f (more (w.1.0 (part_of_part n a l e r m x w.0)) w.1.1.0) w.1.1.1) refl
     ∙ value_at_assigns o s (Statements ∷ k) ts (λ g w. f (more (g (part_of_part n a l e r m d q)) w.0) w.1)
@@ -88,7 +87,7 @@ take_call_statement (with_statics n s l (last e) r m a q) end k ts f =
     let behind = Fixed t.Semicolon end ∷ ts in
     regroup _ _ (expr_text e) (Fixed t.RightBracket r ∷ Fixed t.LeftParen m ∷ (args_text a ++ (Fixed t.RightParen q ∷ []))) behind
     ∙ take_expr e (StartBracket ∷ Statements ∷ k) (Fixed t.RightBracket r ∷ Fixed t.LeftParen m ∷ ((args_text a ++ (Fixed t.RightParen q ∷ [])) ++ behind))
-          (λ x w. f (more (w.0 n s l x) w.1.0) w.1.1) refl
+    (λ x w. f (more (w.0 n s l x) w.1.0) w.1.1) refl
     ∙ regroup _ _ (args_text a) (Fixed t.RightParen q ∷ []) behind
     ∙ take_args a (Expect t.Semicolon ∷ Statements ∷ k) q behind (λ x z w. f (more (call (with_statics n s l (last e) r m x z) w.0) w.1.0) w.1.1)
 take_call_statement (with_statics n s l (and_more e c es) r m a q) end k ts f =
@@ -98,7 +97,7 @@ take_call_statement (with_statics n s l (and_more e c es) r m a q) end k ts f =
     ∙ regroup _ _ (expr_text e) (Fixed t.Comma c ∷ exprs_text es) (tail ++ behind)
     ∙ take_expr e (StartBracket ∷ Statements ∷ k) (Fixed t.Comma c ∷ (exprs_text es ++ (tail ++ behind))) (λ x w. f (more (w.0 n s l x) w.1.0) w.1.1) refl
     ∙ take_exprs es (Closing t.RightBracket ∷ CallPart ∷ Expect t.Semicolon ∷ Statements ∷ k) (tail ++ behind)
-          (λ x w. f (more (call (with_statics n s l (and_more e c x) w.0 w.1.0.0 w.1.0.1 w.1.0.2) w.1.1.0) w.1.1.1.0) w.1.1.1.1) refl
+    (λ x w. f (more (call (with_statics n s l (and_more e c x) w.0 w.1.0.0 w.1.0.1 w.1.0.2) w.1.1.0) w.1.1.1.0) w.1.1.1.1) refl
     ∙ regroup _ _ (args_text a) (Fixed t.RightParen q ∷ []) behind
     ∙ take_args a (Expect t.Semicolon ∷ Statements ∷ k) q behind (λ x z w. f (more (call (with_statics n s l (and_more e c es) r m x z) w.0) w.1.0) w.1.1)
 
@@ -183,25 +182,25 @@ mutual
       let behind = Expect t.Semicolon ∷ Statements ∷ k in
       regroup _ _ (names_text ns) (Fixed t.RightParen r ∷ Fixed t.Becomes s ∷ (expr_text e ++ (Fixed t.Semicolon end ∷ []))) ts
       ∙ take_names ns (Closing t.RightParen ∷ Expect t.Becomes ∷ an_expr behind)
-            (Fixed t.RightParen r ∷ Fixed t.Becomes s ∷ ((expr_text e ++ (Fixed t.Semicolon end ∷ [])) ++ ts))
-            (λ x q. on_expr behind (λ y w. f (more (spread l n a c x q.0 q.1.0 y w.0) w.1.0) w.1.1) q.1.1) refl
+      (Fixed t.RightParen r ∷ Fixed t.Becomes s ∷ ((expr_text e ++ (Fixed t.Semicolon end ∷ [])) ++ ts))
+      (λ x q. on_expr behind (λ y w. f (more (spread l n a c x q.0 q.1.0 y w.0) w.1.0) w.1.1) q.1.1) refl
       ∙ take_value e end (Statements ∷ k) ts (λ x q w. f (more (spread l n a c ns r s x q) w.0) w.1)
   take_stmt (forget s l n a r end) k ts f o = refl
   take_stmt (forget_as s l n a i e r end) k ts f o =
       regroup _ _ (expr_text e) (Fixed t.RightParen r ∷ Fixed t.Semicolon end ∷ []) ts
       ∙ take_expr e (Closing t.RightParen ∷ Expect t.Semicolon ∷ Statements ∷ k) (Fixed t.RightParen r ∷ Fixed t.Semicolon end ∷ ts)
-            (λ x q. f (more (forget_as s l n a i x q.0 q.1.0) q.1.1.0) q.1.1.1) refl
+      (λ x q. f (more (forget_as s l n a i x q.0 q.1.0) q.1.1.0) q.1.1.1) refl
   take_stmt (phase s l e r end) k ts f o =
       regroup _ _ (expr_text e) (Fixed t.RightParen r ∷ Fixed t.Semicolon end ∷ []) ts
       ∙ take_expr e (Closing t.RightParen ∷ Expect t.Semicolon ∷ Statements ∷ k) (Fixed t.RightParen r ∷ Fixed t.Semicolon end ∷ ts)
-            (λ x q. f (more (phase s l x q.0 q.1.0) q.1.1.0) q.1.1.1) refl
+      (λ x q. f (more (phase s l x q.0 q.1.0) q.1.1.0) q.1.1.1) refl
   take_stmt (choose c) k ts f o =
       ap (λ w. read (Statements ∷ k) (w ++ ts) (λ ps. f ps.0 ps.1)) (choice_begins c) ∙ take_choice c (Statements ∷ k) ts (λ x r. f (more (choose x) r.0) r.1) o
   take_stmt (loop s n a i l e d j r b) k ts f o =
       let behind = Closing t.RightParen ∷ ABlock ∷ Statements ∷ k in
       regroup _ _ (expr_text e) (Fixed t.Dots d ∷ (expr_text j ++ (Fixed t.RightParen r ∷ block_text b))) ts
       ∙ take_expr e (Expect t.Dots ∷ an_expr behind) (Fixed t.Dots d ∷ ((expr_text j ++ (Fixed t.RightParen r ∷ block_text b)) ++ ts))
-            (λ x q. on_expr behind (λ y w. f (more (loop s n a i l x q.0 y w.0 w.1.0) w.1.1.0) w.1.1.1) q.1) refl
+      (λ x q. on_expr behind (λ y w. f (more (loop s n a i l x q.0 y w.0 w.1.0) w.1.1.0) w.1.1.1) q.1) refl
       ∙ regroup _ _ (expr_text j) (Fixed t.RightParen r ∷ block_text b) ts
       ∙ take_expr j behind (Fixed t.RightParen r ∷ (block_text b ++ ts)) (λ y w. f (more (loop s n a i l e d y w.0 w.1.0) w.1.1.0) w.1.1.1) refl
       ∙ take_block b (Statements ∷ k) ts (λ x w. f (more (loop s n a i l e d j r x) w.0) w.1)
@@ -209,7 +208,7 @@ mutual
   take_stmt (return_value s e end) k ts f o =
       let behind = Expect t.Semicolon ∷ Statements ∷ k in
       same_return behind ((expr_text e ++ (Fixed t.Semicolon end ∷ [])) ++ ts) (λ g q. f (more (g s q.0) q.1.0) q.1.1)
-          (rw append_assoc (start_expr e (Fixed t.Semicolon end ∷ ts)))
+      (rw append_assoc (start_expr e (Fixed t.Semicolon end ∷ ts)))
       ∙ take_value e end (Statements ∷ k) ts (λ x q r. f (more (return_value s x q) r.0) r.1)
   take_stmt (call c end) k ts f o = regroup _ _ (call_text c) (Fixed t.Semicolon end ∷ []) ts ∙ take_call_statement c end k ts f
 
@@ -325,8 +324,8 @@ take_param_part (params l ps r) k ts f =
 
 take_statics : (ns : Statics) (k : List Symbol) (ts : List Token) (f : Statics → Pieces k → Program) → NotBegun MoreStatics ts
     → read (AnyName ∷ Expect t.Colon ∷ Expect t.Bang ∷ Expect t.Natural ∷ MoreStatics ∷ k) (statics_text ns ++ ts)
-          (λ ((n, s), (c, (b, (d, (h, r))))). f (h n s c b d) r)
-      ≡ read k ts (f ns)
+    (λ ((n, s), (c, (b, (d, (h, r))))). f (h n s c b d) r)
+    ≡ read k ts (f ns)
 take_statics (last_static n s c b d) k ts f o = skip MoreStatics last_static (λ go. refl) k ts (λ r. f (r.0 n s c b d) r.1) o
 take_statics (and_statics n s c b d m ns) k ts f o = take_statics ns k ts (λ x r. f (and_statics n s c b d m x) r) o
 
@@ -367,17 +366,17 @@ take_function (def s n a ss ps m r b) k ts f =
     let later = mark_text m ++ last_part in
     let most = param_part_text ps ++ later in
     let grouped : (static_part_text ss ++ most) ++ ts ≡ static_part_text ss ++ (param_part_text ps ++ (mark_text m ++ (result_part_text r ++ (block_text b ++ ts)))) =
-        append_assoc (static_part_text ss) most ts
-        ∙ ap (λ w. static_part_text ss ++ w) (append_assoc (param_part_text ps) later ts
-        ∙ ap (λ w. param_part_text ps ++ w) (append_assoc (mark_text m) last_part ts
-        ∙ ap (λ w. mark_text m ++ w) (append_assoc (result_part_text r) (block_text b) ts))) in
+    append_assoc (static_part_text ss) most ts
+    ∙ ap (λ w. static_part_text ss ++ w) (append_assoc (param_part_text ps) later ts
+    ∙ ap (λ w. param_part_text ps ++ w) (append_assoc (mark_text m) last_part ts
+    ∙ ap (λ w. mark_text m ++ w) (append_assoc (result_part_text r) (block_text b) ts))) in
     ap (λ w. read (Functions ∷ k) (Fixed t.Def s ∷ Name n a ∷ w) (λ q. f q.0 q.1)) grouped
     ∙ take_static_part ss (ParamPart ∷ MarkPart ∷ ResultPart ∷ ABlock ∷ Functions ∷ k) (param_part_text ps ++ (mark_text m ++ (result_part_text r ++ (block_text b ++ ts))))
-          (λ x q. f (function_then (def s n a x q.0 q.1.0 q.1.1.0 q.1.1.1.0) q.1.1.1.1.0) q.1.1.1.1.1) (not_statics ps _)
+    (λ x q. f (function_then (def s n a x q.0 q.1.0 q.1.1.0 q.1.1.1.0) q.1.1.1.1.0) q.1.1.1.1.1) (not_statics ps _)
     ∙ take_param_part ps (MarkPart ∷ ResultPart ∷ ABlock ∷ Functions ∷ k) (mark_text m ++ (result_part_text r ++ (block_text b ++ ts)))
-          (λ x q. f (function_then (def s n a ss x q.0 q.1.0 q.1.1.0) q.1.1.1.0) q.1.1.1.1)
+    (λ x q. f (function_then (def s n a ss x q.0 q.1.0 q.1.1.0) q.1.1.1.0) q.1.1.1.1)
     ∙ take_mark m (ResultPart ∷ ABlock ∷ Functions ∷ k) (result_part_text r ++ (block_text b ++ ts))
-          (λ x q. f (function_then (def s n a ss ps x q.0 q.1.0) q.1.1.0) q.1.1.1) (not_mark r b ts)
+    (λ x q. f (function_then (def s n a ss ps x q.0 q.1.0) q.1.1.0) q.1.1.1) (not_mark r b ts)
     ∙ take_result_part r b (ABlock ∷ Functions ∷ k) ts (λ x q. f (function_then (def s n a ss ps m x q.0) q.1.0) q.1.1)
     ∙ take_block b (Functions ∷ k) ts (λ x q. f (function_then (def s n a ss ps m r x) q.0) q.1)
 

@@ -1,14 +1,13 @@
 -- What an expression spells is read as that expression.
-use Rattle.std.proofs.Common.{◌≡◌, ℕ, ◌+◌, Bool, true, false, ◌||◌, List, [], ◌∷◌, ◌++◌, Option, Some, None, refl, sym, ◌∙◌, ap, append_assoc}
+use Rattle.std.proofs.Common.{◌≡◌, ℕ, ◌+◌, Bool, true, false, ◌||◌, List, [], ◌∷◌, ◌++◌, Option, Some, None, refl, ◌∙◌, ap, append_assoc}
 use Rattle.silq_tree.specs.declared.node.Spot.{Spot}
-use Rattle.silq_grammar.specs.Tokens.{Kind, AName, ANumber, A, Terminal, Token, Name, Number, Fixed, kind}
+use Rattle.silq_grammar.specs.Tokens.{Kind, AName, ANumber, A, Token, Name, Number, Fixed, kind}
 use Rattle.silq_grammar.specs.declared.token.Terminal.TheVariants as t
-use Rattle.silq_grammar.specs.Grammar as g
-use Rattle.silq_grammar.specs.Grammar.{Comparison, equal, not_equal, below, at_most, above, at_least, Expr, one_and, or, And, one_cmp, and, Cmp, one_sum, compare, Sum, one_prod, plus, minus, Prod, one_unary, times, over, Unary, bang, negative, number, typed_number, true_, false_, pi, place, called, paren, Scalar, bit, uint, int, Place, whole, part, part_of_part, Call, plain, with_statics, Args, no_args, args, Exprs, last, and_more, NameList, last_name, and_names, Stmt, assign, spread, update, forget, forget_as, phase, choose, loop, return_nothing, return_value, call, Choice, only, either, chain, Block, braces, Stmts, none, more, Size, no_size, number_size, named_size, paren_size, Type_, quantum, classical, Result, last_type, and_types, Param, moved, held, last_param, and_params, Statics, last_static, and_statics, no_statics, statics, no_params, params, no_mark, lifted, qfree, mfree, no_result, results, Function, def, Program, no_function, function_then}
+use Rattle.silq_grammar.specs.Grammar.{Comparison, equal, not_equal, below, at_most, above, at_least, Expr, one_and, or, And, one_cmp, and, Cmp, one_sum, compare, Sum, one_prod, plus, minus, Prod, one_unary, times, over, Unary, bang, negative, number, typed_number, true_, false_, pi, place, called, paren, Scalar, bit, uint, int, Place, whole, part, part_of_part, Call, plain, with_statics, Args, no_args, args, Exprs, last, and_more, Program}
 use Rattle.silq_grammar.specs.Spelled.{comparison_sign, expr_text, and_text, cmp_text, sum_text, prod_text, unary_text, scalar_text, place_text, call_text, args_text, exprs_text}
-use Rattle.silq_grammar.specs.Machine.{begin, can_be_empty, an_expr, exprs, Symbol, Expect, AnyName, Closing, Ends, Functions, StaticPart, MoreStatics, ParamPart, Params, OneParam, MoreParams, MarkPart, ResultPart, MoreResults, AType, AScalar, Width, SizePart, ASize, ABlock, Statements, MoreNames, ForgetPart, PhasePart, ForgetValue, Bounds, ReturnValue, ElseRest, ElseBody, StartName, StartBracket, StartIndex, Assigns, AUnary, Prods, Sums, Compare, Ands, Ors, NumberType, InName, InBracket, InIndex, CallPart, Arguments, MoreExprs}
+use Rattle.silq_grammar.specs.Machine.{begin, can_be_empty, an_expr, exprs, Symbol, Closing, Ends, AScalar, AUnary, Prods, Sums, Compare, Ands, Ors, NumberType, InName, InBracket, InIndex, CallPart, Arguments, MoreExprs}
 use Rattle.silq_grammar.proofs.Reach.{is_some, begins, goes_on}
-use Rattle.silq_grammar.proofs.Pieces.{Piece, Pieces, Built, build, empty, at_begin, at_empty, finish, read, on_expr, on_exprs, on_sum, prod_of, sum_of, cmp_of, and_of}
+use Rattle.silq_grammar.proofs.Pieces.{Piece, Pieces, Built, build, empty, at_begin, at_empty, finish, read, on_expr, on_exprs, on_sum, prod_of, cmp_of, and_of}
 
 -- the next token is none with which the symbol goes on
 abbrev pub Off : Symbol → List Token → Type 0
@@ -221,7 +220,7 @@ off_comparison at_least = refl
 
 compared : (op : Comparison) (s : Spot) (k : List Symbol) (ts : List Token) (f : (Sum → Cmp) → Pieces k → Program)
     → read (Compare ∷ k) (Fixed (comparison_sign op) s ∷ ts) (λ ps. f ps.0 ps.1)
-      ≡ read (AUnary ∷ Prods 0 ∷ Sums 0 ∷ Ends ∷ k) ts (on_sum (Ends ∷ k) (λ b r. f (λ a. compare op a s b) r.1))
+    ≡ read (AUnary ∷ Prods 0 ∷ Sums 0 ∷ Ends ∷ k) ts (on_sum (Ends ∷ k) (λ b r. f (λ a. compare op a s b) r.1))
 compared equal s k ts f = refl
 compared not_equal s k ts f = refl
 compared below s k ts f = refl
@@ -315,7 +314,7 @@ mutual
       ∙ regroup _ _ (expr_text e) (Fixed t.Comma c ∷ exprs_text es) (tail ++ ts)
       ∙ take_expr e (InBracket ∷ k) (Fixed t.Comma c ∷ (exprs_text es ++ (tail ++ ts))) (λ x w. f (w.0 n s l x) w.1) refl
       ∙ take_exprs es (Closing t.RightBracket ∷ CallPart ∷ k) (tail ++ ts)
-            (λ x w. f (called (with_statics n s l (and_more e c x) w.0 w.1.0.0 w.1.0.1 w.1.0.2)) w.1.1) refl
+      (λ x w. f (called (with_statics n s l (and_more e c x) w.0 w.1.0.0 w.1.0.1 w.1.0.2)) w.1.1) refl
       ∙ regroup _ _ (args_text a) (Fixed t.RightParen q ∷ []) ts ∙ take_args a k q ts (λ x z w. f (called (with_statics n s l (and_more e c es) r m x z)) w)
 
   -- arguments and the parenthesis behind them
@@ -367,7 +366,7 @@ mutual
       regroup _ _ (sum_text a) (sign ∷ sum_text b) ts
       ∙ take_sums a (Compare ∷ k) (sign ∷ (sum_text b ++ ts)) (λ x r. f (r.0 x) r.1) (or_left _ _ (off_comparison op))
       ∙ skip (Sums (sum_count a)) (λ x. x) (λ go. refl) (Compare ∷ k) (sign ∷ (sum_text b ++ ts)) (λ r. f (r.1.0 (r.0 a)) r.1.1)
-            (no_sums (sum_count a) (sign ∷ (sum_text b ++ ts)) (off_comparison op))
+      (no_sums (sum_count a) (sign ∷ (sum_text b ++ ts)) (off_comparison op))
       ∙ compared op s k (sum_text b ++ ts) (λ h r. f (h a) r)
       ∙ take_sums b (Ends ∷ k) ts (λ x r. f (compare op a s x) r.1) (off_prod ts (off_sum ts o))
       ∙ skip (Sums (sum_count b)) (λ x. x) (λ go. refl) (Ends ∷ k) ts (λ r. f (compare op a s (r.0 b)) r.1.1) (no_sums (sum_count b) ts (off_sum ts o))

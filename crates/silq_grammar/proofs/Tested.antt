@@ -1,9 +1,9 @@
 -- The table passes the test that the next token decides.
-use Rattle.std.proofs.Common.{◌≡◌, Bool, true, List, [], ◌∷◌, refl}
+use Rattle.std.proofs.Common.{◌≡◌, true, refl}
 use Rattle.grammar_core.specs.Check.{symbol_test, AreAll}
 use Rattle.grammar_core.specs.Decided.{IsDecided}
 use Rattle.grammar_core.proofs.Checked.{decided}
-use Rattle.silq_grammar.specs.Tokens.{Kind, AName, ANumber, A, Terminal}
+use Rattle.silq_grammar.specs.Tokens.{AName, ANumber, A}
 use Rattle.silq_grammar.specs.declared.token.Terminal.TheVariants as t
 use Rattle.silq_grammar.specs.Machine.{table, Symbol, Expect, AnyName, Closing, Ends, Functions, StaticPart, MoreStatics, ParamPart, Params, OneParam, MoreParams, MarkPart, ResultPart, MoreResults, AType, AScalar, Width, SizePart, ASize, ABlock, Statements, MoreNames, ForgetPart, PhasePart, ForgetValue, Bounds, ReturnValue, ElseRest, ElseBody, StartName, StartBracket, StartIndex, Assigns, AUnary, Prods, Sums, Compare, Ands, Ors, NumberType, InName, InBracket, InIndex, CallPart, Arguments, MoreExprs}
 use Rattle.silq_grammar.proofs.Reach.{reach, kinds}
