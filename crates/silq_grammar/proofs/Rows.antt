@@ -192,17 +192,17 @@ row_forms : HasTree (heading ++ (f t.LeftBrace ∷ (statements ++ (f t.RightBrac
   name = id 0;
   statics = id 1 ∷ [];
   params = record { held = true; name = id 2; ty = tree.array true (tree.uint (v 1)) (value 3) nowhere; at = nowhere }
-    ∷ record { held = false; name = id 4; ty = tree.scalar false tree.bit nowhere; at = nowhere } ∷ [];
+      ∷ record { held = false; name = id 4; ty = tree.scalar false tree.bit nowhere; at = nowhere } ∷ [];
   mark = marks.Lifted;
   results = tree.scalar false tree.bit nowhere ∷ tree.scalar false tree.bit nowhere ∷ [];
   body = tree.block
-    (tree.next (tree.spread (id 5 ∷ id 6 ∷ []) (tree.called (id 7) (tree.more (v 1) tree.none) (tree.more (v 2) (tree.more (v 4) tree.none)) nowhere) nowhere)
-    (tree.next (tree.update (tree.part (id 5) (value 0)) updates.Add (v 2) nowhere)
-    (tree.next (tree.forget (id 6) nowhere)
-    (tree.next (tree.forget_value (id 5) (tree.place (tree.part_of_part (id 2) (v 1) (value 3)) nowhere) nowhere)
-    (tree.next (tree.phase (tree.binary ops.Div (tree.pi nowhere) (value 4) nowhere) nowhere)
-    (tree.next (tree.loop (id 8) (value 0) (v 1) (tree.block (tree.next (tree.call (tree.called (id 7) tree.none tree.none nowhere) nowhere) tree.done) nowhere) nowhere)
-    (tree.next (tree.return_nothing nowhere) tree.done))))))) nowhere;
+      (tree.next (tree.spread (id 5 ∷ id 6 ∷ []) (tree.called (id 7) (tree.more (v 1) tree.none) (tree.more (v 2) (tree.more (v 4) tree.none)) nowhere) nowhere)
+      (tree.next (tree.update (tree.part (id 5) (value 0)) updates.Add (v 2) nowhere)
+      (tree.next (tree.forget (id 6) nowhere)
+      (tree.next (tree.forget_value (id 5) (tree.place (tree.part_of_part (id 2) (v 1) (value 3)) nowhere) nowhere)
+      (tree.next (tree.phase (tree.binary ops.Div (tree.pi nowhere) (value 4) nowhere) nowhere)
+      (tree.next (tree.loop (id 8) (value 0) (v 1) (tree.block (tree.next (tree.call (tree.called (id 7) tree.none tree.none nowhere) nowhere) tree.done) nowhere) nowhere)
+      (tree.next (tree.return_nothing nowhere) tree.done))))))) nowhere;
   at = nowhere;
 } ∷ [])
 row_forms = (program_of (heading ++ (f t.LeftBrace ∷ (statements ++ (f t.RightBrace ∷ [])))), refl, refl)
