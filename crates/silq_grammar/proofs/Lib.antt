@@ -7,3 +7,5 @@ pub mod Built
 pub mod Accepted
 pub mod Exact
 pub mod Rows
+pub mod NestsExpr
+pub mod Nests

@@ -20,7 +20,7 @@ take_names (and_names n s c ns) k ts f o = take_names ns k ts (λ x r. f (and_na
 
 -- the sign of an assignment or an update, and the statement that it makes
 
-abbrev value_sign : Option UpdateOp → Terminal
+abbrev pub value_sign : Option UpdateOp → Terminal
 value_sign None = t.Becomes
 value_sign (Some op) = update_sign op
 
@@ -116,29 +116,29 @@ same_return k (Fixed _ s ∷ ts) f h = absurd h
 
 -- a choice behind its first `if`
 
-abbrev if_spot : Choice → Spot
+abbrev pub if_spot : Choice → Spot
 if_spot (only s e b) = s
 if_spot (either s e b o d) = s
 if_spot (chain s e b o c) = s
 
-abbrev behind_if : Choice → List Token
+abbrev pub behind_if : Choice → List Token
 behind_if (only s e b) = expr_text e ++ block_text b
 behind_if (either s e b o d) = expr_text e ++ (block_text b ++ (Fixed t.Else o ∷ block_text d))
 behind_if (chain s e b o c) = expr_text e ++ (block_text b ++ (Fixed t.Else o ∷ choice_text c))
 
-choice_begins : (c : Choice) → choice_text c ≡ Fixed t.If (if_spot c) ∷ behind_if c
+pub choice_begins : (c : Choice) → choice_text c ≡ Fixed t.If (if_spot c) ∷ behind_if c
 choice_begins (only s e b) = refl
 choice_begins (either s e b o d) = refl
 choice_begins (chain s e b o c) = refl
 
-off_block : (b : Block) (ts : List Token) → Off (Ors 0) (block_text b ++ ts)
+pub off_block : (b : Block) (ts : List Token) → Off (Ors 0) (block_text b ++ ts)
 off_block (braces l b r) ts = refl
 
-off_block_then : (b : Block) (us ts : List Token) → Off (Ors 0) ((block_text b ++ us) ++ ts)
+pub off_block_then : (b : Block) (us ts : List Token) → Off (Ors 0) ((block_text b ++ us) ++ ts)
 off_block_then (braces l b r) us ts = refl
 
 -- no statement begins with `else`
-not_else : (b : Stmts) (ts : List Token) → NotBegun ElseRest ts → NotBegun ElseRest (stmts_text b ++ ts)
+pub not_else : (b : Stmts) (ts : List Token) → NotBegun ElseRest ts → NotBegun ElseRest (stmts_text b ++ ts)
 not_else none ts o = o
 not_else (more (assign (whole n a) s e end) b) ts o = refl
 not_else (more (assign (part n a l i r) s e end) b) ts o = refl
@@ -159,11 +159,11 @@ not_else (more (return_value s e end) b) ts o = refl
 not_else (more (call (plain n s l a r) end) b) ts o = refl
 not_else (more (call (with_statics n s l es r m a q) end) b) ts o = refl
 
-not_statement : (ts : List Token) → Off Statements ts → NotBegun Statements ts
+pub not_statement : (ts : List Token) → Off Statements ts → NotBegun Statements ts
 not_statement [] o = tt
 not_statement (w ∷ ts) o = or_left _ _ o
 
-off_else : (ts : List Token) → Off Statements ts → NotBegun ElseRest ts
+pub off_else : (ts : List Token) → Off Statements ts → NotBegun ElseRest ts
 off_else [] o = tt
 off_else (w ∷ ts) o = or_right _ _ o
 
@@ -343,7 +343,7 @@ take_mark (lifted s) k ts f o = refl
 take_mark (qfree s) k ts f o = refl
 take_mark (mfree s) k ts f o = refl
 
-not_result : (b : Block) (ts : List Token) → NotBegun ResultPart (block_text b ++ ts)
+pub not_result : (b : Block) (ts : List Token) → NotBegun ResultPart (block_text b ++ ts)
 not_result (braces l b r) ts = refl
 
 take_result_part : (a : g.ResultPart) (b : Block) (k : List Symbol) (ts : List Token) (f : g.ResultPart → Pieces k → Program)
@@ -351,11 +351,11 @@ take_result_part : (a : g.ResultPart) (b : Block) (k : List Symbol) (ts : List T
 take_result_part no_result b k ts f = skip ResultPart no_result (λ go. refl) k (block_text b ++ ts) (λ r. f r.0 r.1) (not_result b ts)
 take_result_part (results s a) (braces l b r) k ts f = take_result a k (block_text (braces l b r) ++ ts) (λ x q. f (results s x) q) refl refl
 
-not_mark : (a : g.ResultPart) (b : Block) (ts : List Token) → NotBegun MarkPart (result_part_text a ++ (block_text b ++ ts))
+pub not_mark : (a : g.ResultPart) (b : Block) (ts : List Token) → NotBegun MarkPart (result_part_text a ++ (block_text b ++ ts))
 not_mark no_result (braces l b r) ts = refl
 not_mark (results s a) b ts = refl
 
-not_statics : (p : g.ParamPart) (ts : List Token) → NotBegun StaticPart (param_part_text p ++ ts)
+pub not_statics : (p : g.ParamPart) (ts : List Token) → NotBegun StaticPart (param_part_text p ++ ts)
 not_statics (no_params l r) ts = refl
 not_statics (params l ps r) ts = refl
 

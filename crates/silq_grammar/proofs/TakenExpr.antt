@@ -5,6 +5,7 @@ use Rattle.silq_grammar.specs.Tokens.{Kind, AName, ANumber, A, Token, Name, Numb
 use Rattle.silq_grammar.specs.declared.token.Terminal.TheVariants as t
 use Rattle.silq_grammar.specs.Grammar.{Comparison, equal, not_equal, below, at_most, above, at_least, Expr, one_and, or, And, one_cmp, and, Cmp, one_sum, compare, Sum, one_prod, plus, minus, Prod, one_unary, times, over, Unary, bang, negative, number, typed_number, true_, false_, pi, place, called, paren, Scalar, bit, uint, int, Place, whole, part, part_of_part, Call, plain, with_statics, Args, no_args, args, Exprs, last, and_more, Program}
 use Rattle.silq_grammar.specs.Spelled.{comparison_sign, expr_text, and_text, cmp_text, sum_text, prod_text, unary_text, scalar_text, place_text, call_text, args_text, exprs_text}
+use Rattle.silq_grammar.specs.Nest.{prod_count, sum_count, and_count, or_count}
 use Rattle.silq_grammar.specs.Machine.{begin, can_be_empty, an_expr, exprs, Symbol, Closing, Ends, AScalar, AUnary, Prods, Sums, Compare, Ands, Ors, NumberType, InName, InBracket, InIndex, CallPart, Arguments, MoreExprs}
 use Rattle.silq_grammar.proofs.Reach.{is_some, begins, goes_on}
 use Rattle.silq_grammar.proofs.Pieces.{Piece, Pieces, Built, build, empty, at_begin, at_empty, finish, read, on_expr, on_exprs, on_sum, prod_of, cmp_of, and_of}
@@ -67,7 +68,7 @@ pub off_expr : (ts : List Token) → Off MoreExprs ts → Off (Ors 0) ts
 off_expr [] o = tt
 off_expr (w ∷ ts) o = or_left _ _ o
 
-no_ors : (n : ℕ) (ts : List Token) → Off (Ors 0) ts → NotBegun (Ors n) ts
+pub no_ors : (n : ℕ) (ts : List Token) → Off (Ors 0) ts → NotBegun (Ors n) ts
 no_ors n [] o = tt
 no_ors n (w ∷ ts) o = at_kind (kind w) (or_right _ _ o)
   where
@@ -77,7 +78,7 @@ no_ors n (w ∷ ts) o = at_kind (kind w) (or_right _ _ o)
     at_kind (A t.Or) e = cc
     at_kind (A _) e = refl
 
-no_ands : (n : ℕ) (ts : List Token) → Off (Ands 0) ts → NotBegun (Ands n) ts
+pub no_ands : (n : ℕ) (ts : List Token) → Off (Ands 0) ts → NotBegun (Ands n) ts
 no_ands n [] o = tt
 no_ands n (w ∷ ts) o = at_kind (kind w) (or_right _ _ o)
   where
@@ -87,11 +88,11 @@ no_ands n (w ∷ ts) o = at_kind (kind w) (or_right _ _ o)
     at_kind (A t.And) e = cc
     at_kind (A _) e = refl
 
-no_compare : (ts : List Token) → Off Compare ts → NotBegun Compare ts
+pub no_compare : (ts : List Token) → Off Compare ts → NotBegun Compare ts
 no_compare [] o = tt
 no_compare (w ∷ ts) o = or_right _ _ o
 
-no_sums : (n : ℕ) (ts : List Token) → Off (Sums 0) ts → NotBegun (Sums n) ts
+pub no_sums : (n : ℕ) (ts : List Token) → Off (Sums 0) ts → NotBegun (Sums n) ts
 no_sums n [] o = tt
 no_sums n (w ∷ ts) o = at_kind (kind w) (or_right _ _ o)
   where
@@ -102,7 +103,7 @@ no_sums n (w ∷ ts) o = at_kind (kind w) (or_right _ _ o)
     at_kind (A t.Minus) e = cc
     at_kind (A _) e = refl
 
-no_prods : (n : ℕ) (ts : List Token) → Off (Prods 0) ts → NotBegun (Prods n) ts
+pub no_prods : (n : ℕ) (ts : List Token) → Off (Prods 0) ts → NotBegun (Prods n) ts
 no_prods n [] o = tt
 no_prods n (w ∷ ts) o = at_kind (kind w) (or_right _ _ o)
   where
@@ -113,15 +114,15 @@ no_prods n (w ∷ ts) o = at_kind (kind w) (or_right _ _ o)
     at_kind (A t.Slash) e = cc
     at_kind (A _) e = refl
 
-no_type : (ts : List Token) → Off AUnary ts → NotBegun NumberType ts
+pub no_type : (ts : List Token) → Off AUnary ts → NotBegun NumberType ts
 no_type [] o = tt
 no_type (w ∷ ts) o = or_left _ _ o
 
-no_name : (ts : List Token) → Off AUnary ts → NotBegun InName ts
+pub no_name : (ts : List Token) → Off AUnary ts → NotBegun InName ts
 no_name [] o = tt
 no_name (w ∷ ts) o = or_right _ _ o
 
-no_index : (ts : List Token) → Off AUnary ts → NotBegun InIndex ts
+pub no_index : (ts : List Token) → Off AUnary ts → NotBegun InIndex ts
 no_index [] o = tt
 no_index (w ∷ ts) o = at_kind (kind w) (or_right _ _ o)
   where
@@ -132,7 +133,7 @@ no_index (w ∷ ts) o = at_kind (kind w) (or_right _ _ o)
     at_kind (A t.LeftParen) e = cc
     at_kind (A _) e = refl
 
-no_more : (ts : List Token) → Off MoreExprs ts → NotBegun MoreExprs ts
+pub no_more : (ts : List Token) → Off MoreExprs ts → NotBegun MoreExprs ts
 no_more [] o = tt
 no_more (w ∷ ts) o = or_right _ _ o
 
@@ -193,7 +194,7 @@ pub start_expr : (e : Expr) (ts : List Token) → Starts (expr_text e ++ ts)
 start_expr (one_and a) ts = start_and a ts
 start_expr (or e s a) ts = starts_more (expr_text e) (Fixed t.Or s ∷ and_text a) ts (start_expr e _)
 
-start_exprs : (es : Exprs) (ts : List Token) → Starts (exprs_text es ++ ts)
+pub start_exprs : (es : Exprs) (ts : List Token) → Starts (exprs_text es ++ ts)
 start_exprs (last e) ts = start_expr e ts
 start_exprs (and_more e s es) ts = starts_more (expr_text e) (Fixed t.Comma s ∷ exprs_text es) ts (start_expr e _)
 
@@ -210,7 +211,7 @@ same_start k (Fixed t.Bang s ∷ ts) f h = refl
 same_start k (Fixed t.Minus s ∷ ts) f h = refl
 same_start k (Fixed _ s ∷ ts) f h = absurd h
 
-off_comparison : (op : Comparison) → goes_on (Sums 0) (A (comparison_sign op)) ≡ false
+pub off_comparison : (op : Comparison) → goes_on (Sums 0) (A (comparison_sign op)) ≡ false
 off_comparison equal = refl
 off_comparison not_equal = refl
 off_comparison below = refl
@@ -227,26 +228,6 @@ compared below s k ts f = refl
 compared at_most s k ts f = refl
 compared above s k ts f = refl
 compared at_least s k ts f = refl
-
--- how many operators a chain has
-
-abbrev prod_count : Prod → ℕ
-prod_count (one_unary u) = 0
-prod_count (times p s u) = prod_count p + 1
-prod_count (over p s u) = prod_count p + 1
-
-abbrev sum_count : Sum → ℕ
-sum_count (one_prod p) = 0
-sum_count (plus a s p) = sum_count a + 1
-sum_count (minus a s p) = sum_count a + 1
-
-abbrev and_count : And → ℕ
-and_count (one_cmp c) = 0
-and_count (and a s c) = and_count a + 1
-
-abbrev or_count : Expr → ℕ
-or_count (one_and a) = 0
-or_count (or e s a) = or_count e + 1
 
 -- a level of an expression and the pieces below it
 

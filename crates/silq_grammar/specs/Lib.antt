@@ -7,3 +7,4 @@ pub mod Machine
 pub mod Outcome
 pub mod Place
 pub mod Laws
+pub mod Nest
