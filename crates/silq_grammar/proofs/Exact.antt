@@ -17,7 +17,7 @@ use Rattle.silq_grammar.proofs.Tested.{the_table, all}
 use Rattle.silq_grammar.proofs.Built.{Stands, builds, single}
 use Rattle.silq_grammar.proofs.Accepted.{program_accepted}
 
-abbrev start : List Symbol
+abbrev pub start : List Symbol
 start = Functions ∷ []
 
 token_of : Kind → Token
@@ -44,7 +44,7 @@ accepted_is_program : (ts : List Token) → accepts table start (map kind ts) �
 accepted_is_program ts a = single (accepted_stands table kind Stands builds start ts a)
 
 -- what the table has taken begins a program
-taken_begins : (ts : List Token) (ys : List Symbol) → expected table start (map kind ts) ≡ Some ys → BeginsProgram ts
+pub taken_begins : (ts : List Token) (ys : List Symbol) → expected table start (map kind ts) ≡ Some ys → BeginsProgram ts
 taken_begins ts ys e =
     let v = taken_viable table reach the_table start (map kind ts) ys apart e in
     let m : map kind (ts ++ map token_of v.0) ≡ map kind ts ++ v.0 = map-append kind ts (map token_of v.0) ∙ ap (λ w. map kind ts ++ w) (kinds_of v.0) in

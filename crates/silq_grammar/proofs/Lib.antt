@@ -9,3 +9,4 @@ pub mod Exact
 pub mod Rows
 pub mod NestsExpr
 pub mod Nests
+pub mod DeepPlaces

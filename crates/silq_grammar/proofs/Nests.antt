@@ -9,7 +9,7 @@ use Rattle.silq_grammar.specs.declared.token.Terminal.TheVariants as t
 use Rattle.silq_grammar.specs.Grammar as g
 use Rattle.silq_grammar.specs.Grammar.{Comparison, equal, not_equal, below, at_most, above, at_least, Expr, one_and, or, And, one_cmp, and, Cmp, one_sum, compare, Sum, one_prod, plus, minus, Prod, one_unary, times, over, Unary, bang, negative, number, typed_number, true_, false_, pi, place, called, paren, Scalar, bit, uint, int, Place, whole, part, part_of_part, Call, plain, with_statics, Args, no_args, args, Exprs, last, and_more, NameList, last_name, and_names, Stmt, assign, spread, update, forget, forget_as, phase, choose, loop, return_nothing, return_value, call, Choice, only, either, chain, Block, braces, Stmts, none, more, Size, no_size, number_size, named_size, paren_size, Type_, quantum, classical, Result, last_type, and_types, Param, moved, held, last_param, and_params, Statics, last_static, and_statics, no_statics, statics, no_params, params, no_mark, lifted, qfree, mfree, no_result, results, Function, def, Program, no_function, function_then}
 use Rattle.silq_grammar.specs.Spelled.{update_sign, expr_text, scalar_text, place_text, call_text, args_text, exprs_text, names_text, stmt_text, choice_text, block_text, stmts_text, size_text, type_text, result_text, param_text, params_text, statics_text, static_part_text, param_part_text, mark_text, result_part_text, function_text, program_text}
-use Rattle.silq_grammar.specs.Nest.{expr_nests, scalar_nests, place_nests, call_nests, args_nests, exprs_nests, names_nests, stmt_nests, choice_nests, block_nests, stmts_nests, size_nests, type_nests, result_nests, param_nests, params_nests, statics_nests, static_part_nests, param_part_nests, mark_nests, result_part_nests, function_nests, program_nests, first_deep, NestFollowsGrammar}
+use Rattle.silq_grammar.specs.Nest.{expr_nests, scalar_nests, place_nests, call_nests, args_nests, exprs_nests, names_nests, stmt_nests, choice_nests, block_nests, stmts_nests, size_nests, type_nests, result_nests, param_nests, params_nests, statics_nests, static_part_nests, param_part_nests, mark_nests, result_part_nests, function_nests, program_nests, first_deep}
 use Rattle.silq_grammar.specs.Machine.{table, nest, an_expr, exprs, Symbol, Expect, AnyName, Closing, Ends, Functions, StaticPart, MoreStatics, ParamPart, Params, OneParam, MoreParams, MarkPart, ResultPart, MoreResults, AType, AScalar, Width, SizePart, ASize, ABlock, Statements, MoreNames, ForgetPart, PhasePart, ForgetValue, Bounds, ReturnValue, ElseRest, ElseBody, StartName, StartBracket, StartIndex, Assigns, AUnary, Prods, Sums, Compare, Ands, Ors, NumberType, InName, InBracket, InIndex, CallPart, Arguments, MoreExprs}
 use Rattle.silq_grammar.specs.Outcome.{Outcome, Fine, Deep, outcome, outcome_at, program_outcome}
 use Rattle.silq_grammar.proofs.TakenExpr.{Off, NotBegun, not_ends, Starts, start_expr}
@@ -359,5 +359,6 @@ accepted_outcome xs (w ∷ ts) a = at_step (advance table xs (kind w)) (λ ys. a
     at_step None ih e = cc
     at_step (Some ys) ih e = ap (λ v. cond (nat_lt 64 (nest ys)) (Deep (w ∷ ts)) v) (ih ys e) ∙ ap (λ d. cond (nat_lt 64 d) (Deep (w ∷ ts)) (first_deep (nests ys ts) ts)) (nest_is ys)
 
-pub nest_follows : NestFollowsGrammar
-nest_follows p = accepted_outcome (Functions ∷ []) (program_text p) (program_accepted p) ∙ ap (λ ns. first_deep ns (program_text p)) (nest_program p)
+-- the nest of a program's tokens decides
+pub program_deep : (p : Program) → program_outcome (program_text p) ≡ first_deep (program_nests p) (program_text p)
+program_deep p = accepted_outcome (Functions ∷ []) (program_text p) (program_accepted p) ∙ ap (λ ns. first_deep ns (program_text p)) (nest_program p)

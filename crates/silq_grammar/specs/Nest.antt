@@ -2,12 +2,12 @@
 -- Blocks, brackets, parentheses, unary signs and `else` choices count one each from their first token on, a binary operator one from
 -- its own token to the end of its chain. A closing sign counts as what is around it: its opening sign has counted one more before it,
 -- so the first number above 64 is the same as where it still counts.
-use Rattle.std.specs.Prelude.{◌≡◌, ℕ, ◌+◌, nat_lt, cond, List, [], ◌∷◌, ◌++◌}
+use Rattle.std.specs.Prelude.{◌≡◌, ℕ, ◌+◌, ◌≤◌, nat_lt, cond, List, [], ◌∷◌, ◌++◌, length}
 use Rattle.silq_grammar.specs.Tokens.{Token}
 use Rattle.silq_grammar.specs.Grammar as g
 use Rattle.silq_grammar.specs.Grammar.{Comparison, equal, not_equal, below, at_most, above, at_least, Expr, one_and, or, And, one_cmp, and, Cmp, one_sum, compare, Sum, one_prod, plus, minus, Prod, one_unary, times, over, Unary, bang, negative, number, typed_number, true_, false_, pi, place, called, paren, Scalar, bit, uint, int, Place, whole, part, part_of_part, Call, plain, with_statics, Args, no_args, args, Exprs, last, and_more, NameList, last_name, and_names, Stmt, assign, spread, update, forget, forget_as, phase, choose, loop, return_nothing, return_value, call, Choice, only, either, chain, Block, braces, Stmts, none, more, Size, no_size, number_size, named_size, paren_size, Type_, quantum, classical, Result, last_type, and_types, Param, moved, held, last_param, and_params, Statics, last_static, and_statics, no_statics, statics, no_params, params, no_mark, lifted, qfree, mfree, no_result, results, Function, def, Program, no_function, function_then}
 use Rattle.silq_grammar.specs.Spelled.{program_text}
-use Rattle.silq_grammar.specs.Outcome.{Outcome, Fine, Deep, program_outcome}
+use Rattle.silq_grammar.specs.Outcome.{Outcome, Fine, Syntax, Deep, program_outcome}
 
 -- how many operators a chain has
 
@@ -174,6 +174,14 @@ first_deep [] ts = Fine
 first_deep (n ∷ ns) [] = Fine
 first_deep (n ∷ ns) (t ∷ ts) = cond (nat_lt 64 n) (Deep (t ∷ ts)) (first_deep ns ts)
 
--- the tokens of a program are fine, or Deep stands at the first of them with a nest above 64
-abbrev pub NestFollowsGrammar : Type 0
-NestFollowsGrammar = (p : Program) → program_outcome (program_text p) ≡ first_deep (program_nests p) (program_text p)
+-- What the table says of the nest is what the grammar says. The tokens of a program are fine, or a Deep stands at the first of them
+-- with a nest above 64. Of other tokens a Deep stands where it stands in the tokens of a program that begins with the same ones, its
+-- own among them; and none of those before a Syntax has a nest above 64.
+pub record NestFollowsGrammar : Type 0 where
+  pub programs : (p : Program) → program_outcome (program_text p) ≡ first_deep (program_nests p) (program_text p)
+  pub deep : (ts rest : List Token) → program_outcome ts ≡ Deep rest
+      → (front : List Token) × (t : Token) × (behind : List Token) × (rest ≡ t ∷ behind) × (ts ≡ front ++ rest)
+      × (p : Program) × (more : List Token) × (program_text p ≡ front ++ t ∷ more) × (first_deep (program_nests p) (program_text p) ≡ Deep (t ∷ more))
+  pub syntax : (ts rest : List Token) → program_outcome ts ≡ Syntax rest
+      → (front : List Token) × (ts ≡ front ++ rest) × (p : Program) × (more : List Token) × (program_text p ≡ front ++ more)
+      × ((late : List Token) → first_deep (program_nests p) (program_text p) ≡ Deep late → length late ≤ length more)
