@@ -16,6 +16,7 @@ use Rattle.silq_grammar.proofs.Reach.{reach, kinds}
 use Rattle.silq_grammar.proofs.Tested.{the_table, all}
 use Rattle.silq_grammar.proofs.Built.{Stands, builds, single}
 use Rattle.silq_grammar.proofs.Accepted.{program_accepted}
+use Rattle.silq_grammar.proofs.Passed.{Stuck, syntax_passed, deep_at}
 
 abbrev pub start : List Symbol
 start = Functions ∷ []
@@ -54,36 +55,7 @@ begins_taken : (ts : List Token) → BeginsProgram ts → (ys : List Symbol) × 
 begins_taken ts (more, h) =
     viable_begins table start (map kind ts) (map kind more, ap (accepts table start) (sym (map-append kind ts more)) ∙ is_program_accepted (ts ++ more) h)
 
--- the stack cannot advance, or the tokens end too early
-Stuck : List Symbol → List Token → Type 0
-Stuck ys [] = may_stop table ys ≡ false
-Stuck ys (u ∷ rest) = advance table ys (kind u) ≡ None
-
-StopsAt : List Symbol → List Token → List Token → Type 0
-StopsAt xs ts rest = (front : List Token) × (ys : List Symbol) × (ts ≡ front ++ rest) × (expected table xs (map kind front) ≡ Some ys) × Stuck ys rest
-
-syntax_stuck : (xs : List Symbol) (ts rest : List Token) → outcome xs ts ≡ Syntax rest → StopsAt xs ts rest
-unfolding outcome Stuck StopsAt
-syntax_stuck xs [] rest h = at_end (may_stop table xs) refl h
-  where
-    at_end : (b : Bool) → may_stop table xs ≡ b → cond b Fine (Syntax []) ≡ Syntax rest → StopsAt xs [] rest
-    at_end true m e = cc
-    at_end false m e = let r : [] ≡ rest = cc in rw (← r) ([], xs, refl, refl, m)
-syntax_stuck xs (u ∷ ts) rest h = at_step (advance table xs (kind u)) refl (λ ys. syntax_stuck ys ts rest) h
-  where
-    at_nest : (b : Bool) (zs : List Symbol) → cond b (Deep (u ∷ ts)) (outcome zs ts) ≡ Syntax rest → outcome zs ts ≡ Syntax rest
-    at_nest true zs e = cc
-    at_nest false zs e = e
-
-    at_step : (o : Option (List Symbol)) → advance table xs (kind u) ≡ o → ((zs : List Symbol) → outcome zs ts ≡ Syntax rest → StopsAt zs ts rest)
-        → outcome_at o (u ∷ ts) (λ zs. outcome zs ts) ≡ Syntax rest → StopsAt xs (u ∷ ts) rest
-    at_step None a ih e = let r : u ∷ ts ≡ rest = cc in rw (← r) ([], xs, refl, refl, a)
-    at_step (Some zs) a ih e =
-        let (front, ys, s, w, k) = ih zs (at_nest (nat_lt 64 (nest zs)) zs e) in
-        (u ∷ front, ys, ap (λ v. u ∷ v) s, rw a w, k)
-
 breaks : (front rest : List Token) (ys : List Symbol) → expected table start (map kind front) ≡ Some ys → Stuck ys rest → Breaks front rest
-unfolding Stuck
 breaks front [] ys w k = λ x.
     let a : some_passes (may_stop table) (expected table start (map kind front)) ≡ true = is_program_accepted front x in
     let m : may_stop table ys ≡ true = sym (ap (some_passes (may_stop table)) w) ∙ a in
@@ -97,9 +69,8 @@ breaks front (u ∷ rest) ys w k = λ b.
     cc
 
 first_fault : (ts rest : List Token) → program_outcome ts ≡ Syntax rest → IsFirstFault ts rest
-unfolding StopsAt
 first_fault ts rest h =
-    let (front, ys, s, w, k) = syntax_stuck start ts rest h in
+    let (front, ys, s, w, k, f) = syntax_passed start ts rest h in
     record { front = front; parts = s; begins = taken_begins front ys w; breaks = breaks front rest ys w k }
 
 -- where all is fine, all is accepted
@@ -121,37 +92,10 @@ fine_accepted xs (u ∷ ts) h = at_step (advance table xs (kind u)) (λ ys. fine
     at_step None ih e = cc
     at_step (Some zs) ih e = ih zs (at_nest (nat_lt 64 (nest zs)) zs e)
 
--- the token of a Deep is taken
-DeepAt : List Symbol → List Token → List Token → Type 0
-DeepAt xs ts rest = (front : List Token) × (u : Token) × (behind : List Token) × (ys : List Symbol)
-    × (rest ≡ u ∷ behind) × (ts ≡ front ++ rest) × (expected table xs (map kind (front ++ u ∷ [])) ≡ Some ys)
-
-deep_taken : (xs : List Symbol) (ts rest : List Token) → outcome xs ts ≡ Deep rest → DeepAt xs ts rest
-unfolding outcome DeepAt
-deep_taken xs [] rest h = at_end (may_stop table xs) h
-  where
-    at_end : (b : Bool) → cond b Fine (Syntax []) ≡ Deep rest → DeepAt xs [] rest
-    at_end true e = cc
-    at_end false e = cc
-deep_taken xs (u ∷ ts) rest h = at_step (advance table xs (kind u)) refl (λ ys. deep_taken ys ts rest) h
-  where
-    at_nest : (b : Bool) (zs : List Symbol) → advance table xs (kind u) ≡ Some zs → (outcome zs ts ≡ Deep rest → DeepAt zs ts rest)
-        → cond b (Deep (u ∷ ts)) (outcome zs ts) ≡ Deep rest → DeepAt xs (u ∷ ts) rest
-    at_nest true zs a ih e = let r : u ∷ ts ≡ rest = cc in rw (← r) ([], u, ts, zs, refl, refl, rw a refl)
-    at_nest false zs a ih e =
-        let (front, v, behind, ys, r, s, w) = ih e in
-        (u ∷ front, v, behind, ys, r, ap (λ q. u ∷ q) s, rw a w)
-
-    at_step : (o : Option (List Symbol)) → advance table xs (kind u) ≡ o → ((zs : List Symbol) → outcome zs ts ≡ Deep rest → DeepAt zs ts rest)
-        → outcome_at o (u ∷ ts) (λ zs. outcome zs ts) ≡ Deep rest → DeepAt xs (u ∷ ts) rest
-    at_step None a ih e = cc
-    at_step (Some zs) a ih e = at_nest (nat_lt 64 (nest zs)) zs a (ih zs) e
-
 deep_begins : (ts rest : List Token) → program_outcome ts ≡ Deep rest
     → (front : List Token) × (u : Token) × (behind : List Token) × (rest ≡ u ∷ behind) × (ts ≡ front ++ rest) × BeginsProgram (front ++ u ∷ [])
-unfolding DeepAt
 deep_begins ts rest h =
-    let (front, u, behind, ys, r, s, w) = deep_taken start ts rest h in
+    let (front, u, behind, ys, r, s, w, f) = deep_at start ts rest h in
     (front, u, behind, r, s, taken_begins (front ++ u ∷ []) ys w)
 
 pub follows : TableFollowsGrammar

@@ -5,6 +5,7 @@ pub mod TakenExpr
 pub mod Taken
 pub mod Built
 pub mod Accepted
+pub mod Passed
 pub mod Exact
 pub mod Rows
 pub mod NestsExpr

@@ -1,19 +1,19 @@
 -- The table counts the nest of a program.
-use Rattle.std.proofs.Common.{◌≡◌, ℕ, ◌+◌, Bool, true, false, List, [], ◌∷◌, ◌++◌, map, Option, Some, None, cond, nat_lt, refl, sym, ◌∙◌, ap, append_assoc, append-nil}
+use Rattle.std.proofs.Common.{◌≡◌, ℕ, ◌+◌, true, List, [], ◌∷◌, ◌++◌, map, Option, Some, None, cond, nat_lt, refl, sym, ◌∙◌, ap, append_assoc}
 use Rattle.grammar_core.specs.Table.{advance, expected, accepts, may_stop, then_maybe, some_passes}
 use Rattle.silq_tree.specs.declared.node.Spot.{Spot}
 use Rattle.silq_tree.specs.declared.node.UpdateOp.{UpdateOp}
 use Rattle.silq_tree.specs.declared.node.UpdateOp.TheVariants as updates
-use Rattle.silq_grammar.specs.Tokens.{Kind, A, Terminal, Token, Name, Number, Fixed, kind}
+use Rattle.silq_grammar.specs.Tokens.{Token, Name, Number, Fixed, kind}
 use Rattle.silq_grammar.specs.declared.token.Terminal.TheVariants as t
 use Rattle.silq_grammar.specs.Grammar as g
 use Rattle.silq_grammar.specs.Grammar.{Comparison, equal, not_equal, below, at_most, above, at_least, Expr, one_and, or, And, one_cmp, and, Cmp, one_sum, compare, Sum, one_prod, plus, minus, Prod, one_unary, times, over, Unary, bang, negative, number, typed_number, true_, false_, pi, place, called, paren, Scalar, bit, uint, int, Place, whole, part, part_of_part, Call, plain, with_statics, Args, no_args, args, Exprs, last, and_more, NameList, last_name, and_names, Stmt, assign, spread, update, forget, forget_as, phase, choose, loop, return_nothing, return_value, call, Choice, only, either, chain, Block, braces, Stmts, none, more, Size, no_size, number_size, named_size, paren_size, Type_, quantum, classical, Result, last_type, and_types, Param, moved, held, last_param, and_params, Statics, last_static, and_statics, no_statics, statics, no_params, params, no_mark, lifted, qfree, mfree, no_result, results, Function, def, Program, no_function, function_then}
 use Rattle.silq_grammar.specs.Spelled.{update_sign, expr_text, scalar_text, place_text, call_text, args_text, exprs_text, names_text, stmt_text, choice_text, block_text, stmts_text, size_text, type_text, result_text, param_text, params_text, statics_text, static_part_text, param_part_text, mark_text, result_part_text, function_text, program_text}
 use Rattle.silq_grammar.specs.Nest.{expr_nests, scalar_nests, place_nests, call_nests, args_nests, exprs_nests, names_nests, stmt_nests, choice_nests, block_nests, stmts_nests, size_nests, type_nests, result_nests, param_nests, params_nests, statics_nests, static_part_nests, param_part_nests, mark_nests, result_part_nests, function_nests, program_nests, first_deep}
-use Rattle.silq_grammar.specs.Machine.{table, nest, an_expr, exprs, Symbol, Expect, AnyName, Closing, Ends, Functions, StaticPart, MoreStatics, ParamPart, Params, OneParam, MoreParams, MarkPart, ResultPart, MoreResults, AType, AScalar, Width, SizePart, ASize, ABlock, Statements, MoreNames, ForgetPart, PhasePart, ForgetValue, Bounds, ReturnValue, ElseRest, ElseBody, StartName, StartBracket, StartIndex, Assigns, AUnary, Prods, Sums, Compare, Ands, Ors, NumberType, InName, InBracket, InIndex, CallPart, Arguments, MoreExprs}
-use Rattle.silq_grammar.specs.Outcome.{Outcome, Fine, Deep, outcome, outcome_at, program_outcome}
+use Rattle.silq_grammar.specs.Machine.{table, nest, an_expr, Symbol, Expect, AnyName, Closing, Ends, Functions, StaticPart, MoreStatics, ParamPart, Params, OneParam, MoreParams, MarkPart, ResultPart, MoreResults, AType, AScalar, SizePart, ABlock, Statements, MoreNames, ReturnValue, ElseRest, ElseBody, StartName, StartBracket, StartIndex, Assigns, CallPart}
+use Rattle.silq_grammar.specs.Outcome.{Deep, outcome, outcome_at, program_outcome}
 use Rattle.silq_grammar.proofs.TakenExpr.{Off, NotBegun, not_ends, Starts, start_expr}
-use Rattle.silq_grammar.proofs.Taken.{value_sign, if_spot, behind_if, choice_begins, off_block, off_block_then, not_else, not_statement, off_else, not_result, not_mark, not_statics}
+use Rattle.silq_grammar.proofs.Taken.{value_sign, behind_if, choice_begins, off_block, off_block_then, not_else, not_statement, off_else, not_result}
 use Rattle.silq_grammar.proofs.Accepted.{program_accepted}
 use Rattle.silq_grammar.proofs.NestsExpr.{depth, nest_is, nests, nests_at, pass, both, nest_scalar, nest_args, nest_expr, nest_exprs}
 
@@ -51,19 +51,19 @@ nest_target o (part x a l i r) s k ts ms e =
     let n = depth k in
     let sign = Fixed (value_sign o) s in
     ap (λ w. n ∷ (1 + n) ∷ w) (both _ (expr_text i) (Fixed t.RightBracket r ∷ []) (sign ∷ ts) (expr_nests (1 + n) i) (n ∷ []) (n ∷ ms)
-        (nest_expr i (StartBracket ∷ Statements ∷ k) (Fixed t.RightBracket r ∷ sign ∷ ts) (n ∷ n ∷ ms) refl
-        (ap (λ w. n ∷ w) (value_at_index o s (Statements ∷ k) ts ∙ ap (λ w. n ∷ w) e))))
+    (nest_expr i (StartBracket ∷ Statements ∷ k) (Fixed t.RightBracket r ∷ sign ∷ ts) (n ∷ n ∷ ms) refl
+    (ap (λ w. n ∷ w) (value_at_index o s (Statements ∷ k) ts ∙ ap (λ w. n ∷ w) e))))
 nest_target o (part_of_part x a l i r m j q) s k ts ms e =
     let n = depth k in
     let sign = Fixed (value_sign o) s in
     ap (λ w. n ∷ (1 + n) ∷ w)
-        (both _ (expr_text i) (Fixed t.RightBracket r ∷ Fixed t.LeftBracket m ∷ (expr_text j ++ (Fixed t.RightBracket q ∷ []))) (sign ∷ ts)
-            (expr_nests (1 + n) i) (n ∷ (1 + n) ∷ (expr_nests (1 + n) j ++ (n ∷ []))) (n ∷ ms)
-        (nest_expr i (StartBracket ∷ Statements ∷ k) (Fixed t.RightBracket r ∷ Fixed t.LeftBracket m ∷ ((expr_text j ++ (Fixed t.RightBracket q ∷ [])) ++ (sign ∷ ts)))
-            (n ∷ (1 + n) ∷ ((expr_nests (1 + n) j ++ (n ∷ [])) ++ (n ∷ ms))) refl
-        (ap (λ w. n ∷ (1 + n) ∷ w) (both _ (expr_text j) (Fixed t.RightBracket q ∷ []) (sign ∷ ts) (expr_nests (1 + n) j) (n ∷ []) (n ∷ ms)
-        (nest_expr j (Closing t.RightBracket ∷ Assigns ∷ Statements ∷ k) (Fixed t.RightBracket q ∷ sign ∷ ts) (n ∷ n ∷ ms) refl
-        (ap (λ w. n ∷ w) (value_at_assigns o s (Statements ∷ k) ts ∙ ap (λ w. n ∷ w) e)))))))
+    (both _ (expr_text i) (Fixed t.RightBracket r ∷ Fixed t.LeftBracket m ∷ (expr_text j ++ (Fixed t.RightBracket q ∷ []))) (sign ∷ ts)
+    (expr_nests (1 + n) i) (n ∷ (1 + n) ∷ (expr_nests (1 + n) j ++ (n ∷ []))) (n ∷ ms)
+    (nest_expr i (StartBracket ∷ Statements ∷ k) (Fixed t.RightBracket r ∷ Fixed t.LeftBracket m ∷ ((expr_text j ++ (Fixed t.RightBracket q ∷ [])) ++ (sign ∷ ts)))
+    (n ∷ (1 + n) ∷ ((expr_nests (1 + n) j ++ (n ∷ [])) ++ (n ∷ ms))) refl
+    (ap (λ w. n ∷ (1 + n) ∷ w) (both _ (expr_text j) (Fixed t.RightBracket q ∷ []) (sign ∷ ts) (expr_nests (1 + n) j) (n ∷ []) (n ∷ ms)
+    (nest_expr j (Closing t.RightBracket ∷ Assigns ∷ Statements ∷ k) (Fixed t.RightBracket q ∷ sign ∷ ts) (n ∷ n ∷ ms) refl
+    (ap (λ w. n ∷ w) (value_at_assigns o s (Statements ∷ k) ts ∙ ap (λ w. n ∷ w) e)))))))
 
 nest_value : (x : Expr) (end : Spot) (k : List Symbol) (ts : List Token) (ms : List ℕ) → nests k ts ≡ ms
     → nests (an_expr (Expect t.Semicolon ∷ k)) ((expr_text x ++ (Fixed t.Semicolon end ∷ [])) ++ ts) ≡ (expr_nests (depth k) x ++ (depth k ∷ [])) ++ ms
@@ -77,29 +77,29 @@ nest_call_statement (plain x s l a r) end k ts ms e =
     let n = depth k in
     let behind = Fixed t.Semicolon end ∷ ts in
     ap (λ w. n ∷ (1 + n) ∷ w) (both _ (args_text a) (Fixed t.RightParen r ∷ []) behind (args_nests (1 + n) a) (n ∷ []) (n ∷ ms)
-        (nest_args a (Expect t.Semicolon ∷ Statements ∷ k) r behind (n ∷ ms) (ap (λ w. n ∷ w) e)))
+    (nest_args a (Expect t.Semicolon ∷ Statements ∷ k) r behind (n ∷ ms) (ap (λ w. n ∷ w) e)))
 nest_call_statement (with_statics x s l (last i) r m a q) end k ts ms e =
     let n = depth k in
     let behind = Fixed t.Semicolon end ∷ ts in
     ap (λ w. n ∷ (1 + n) ∷ w)
-        (both _ (expr_text i) (Fixed t.RightBracket r ∷ Fixed t.LeftParen m ∷ (args_text a ++ (Fixed t.RightParen q ∷ []))) behind
-            (expr_nests (1 + n) i) (n ∷ (1 + n) ∷ (args_nests (1 + n) a ++ (n ∷ []))) (n ∷ ms)
-        (nest_expr i (StartBracket ∷ Statements ∷ k) (Fixed t.RightBracket r ∷ Fixed t.LeftParen m ∷ ((args_text a ++ (Fixed t.RightParen q ∷ [])) ++ behind))
-            (n ∷ (1 + n) ∷ ((args_nests (1 + n) a ++ (n ∷ [])) ++ (n ∷ ms))) refl
-        (ap (λ w. n ∷ (1 + n) ∷ w) (both _ (args_text a) (Fixed t.RightParen q ∷ []) behind (args_nests (1 + n) a) (n ∷ []) (n ∷ ms)
-        (nest_args a (Expect t.Semicolon ∷ Statements ∷ k) q behind (n ∷ ms) (ap (λ w. n ∷ w) e))))))
+    (both _ (expr_text i) (Fixed t.RightBracket r ∷ Fixed t.LeftParen m ∷ (args_text a ++ (Fixed t.RightParen q ∷ []))) behind
+    (expr_nests (1 + n) i) (n ∷ (1 + n) ∷ (args_nests (1 + n) a ++ (n ∷ []))) (n ∷ ms)
+    (nest_expr i (StartBracket ∷ Statements ∷ k) (Fixed t.RightBracket r ∷ Fixed t.LeftParen m ∷ ((args_text a ++ (Fixed t.RightParen q ∷ [])) ++ behind))
+    (n ∷ (1 + n) ∷ ((args_nests (1 + n) a ++ (n ∷ [])) ++ (n ∷ ms))) refl
+    (ap (λ w. n ∷ (1 + n) ∷ w) (both _ (args_text a) (Fixed t.RightParen q ∷ []) behind (args_nests (1 + n) a) (n ∷ []) (n ∷ ms)
+    (nest_args a (Expect t.Semicolon ∷ Statements ∷ k) q behind (n ∷ ms) (ap (λ w. n ∷ w) e))))))
 nest_call_statement (with_statics x s l (and_more i c es) r m a q) end k ts ms e =
     let n = depth k in
     let behind = Fixed t.Semicolon end ∷ ts in
     let tail = Fixed t.RightBracket r ∷ Fixed t.LeftParen m ∷ (args_text a ++ (Fixed t.RightParen q ∷ [])) in
     let counts = n ∷ (1 + n) ∷ (args_nests (1 + n) a ++ (n ∷ [])) in
     ap (λ w. n ∷ (1 + n) ∷ w)
-        (both _ (expr_text i ++ (Fixed t.Comma c ∷ exprs_text es)) tail behind (expr_nests (1 + n) i ++ ((1 + n) ∷ exprs_nests (1 + n) es)) counts (n ∷ ms)
-        (both _ (expr_text i) (Fixed t.Comma c ∷ exprs_text es) (tail ++ behind) (expr_nests (1 + n) i) ((1 + n) ∷ exprs_nests (1 + n) es) (counts ++ (n ∷ ms))
-        (nest_expr i (StartBracket ∷ Statements ∷ k) (Fixed t.Comma c ∷ (exprs_text es ++ (tail ++ behind))) ((1 + n) ∷ (exprs_nests (1 + n) es ++ (counts ++ (n ∷ ms)))) refl
-        (ap (λ w. (1 + n) ∷ w) (nest_exprs es (Closing t.RightBracket ∷ CallPart ∷ Expect t.Semicolon ∷ Statements ∷ k) (tail ++ behind) (counts ++ (n ∷ ms)) refl
-        (ap (λ w. n ∷ (1 + n) ∷ w) (both _ (args_text a) (Fixed t.RightParen q ∷ []) behind (args_nests (1 + n) a) (n ∷ []) (n ∷ ms)
-        (nest_args a (Expect t.Semicolon ∷ Statements ∷ k) q behind (n ∷ ms) (ap (λ w. n ∷ w) e)))))))))
+    (both _ (expr_text i ++ (Fixed t.Comma c ∷ exprs_text es)) tail behind (expr_nests (1 + n) i ++ ((1 + n) ∷ exprs_nests (1 + n) es)) counts (n ∷ ms)
+    (both _ (expr_text i) (Fixed t.Comma c ∷ exprs_text es) (tail ++ behind) (expr_nests (1 + n) i) ((1 + n) ∷ exprs_nests (1 + n) es) (counts ++ (n ∷ ms))
+    (nest_expr i (StartBracket ∷ Statements ∷ k) (Fixed t.Comma c ∷ (exprs_text es ++ (tail ++ behind))) ((1 + n) ∷ (exprs_nests (1 + n) es ++ (counts ++ (n ∷ ms)))) refl
+    (ap (λ w. (1 + n) ∷ w) (nest_exprs es (Closing t.RightBracket ∷ CallPart ∷ Expect t.Semicolon ∷ Statements ∷ k) (tail ++ behind) (counts ++ (n ∷ ms)) refl
+    (ap (λ w. n ∷ (1 + n) ∷ w) (both _ (args_text a) (Fixed t.RightParen q ∷ []) behind (args_nests (1 + n) a) (n ∷ []) (n ∷ ms)
+    (nest_args a (Expect t.Semicolon ∷ Statements ∷ k) q behind (n ∷ ms) (ap (λ w. n ∷ w) e)))))))))
 
 same_return : (k : List Symbol) (ts : List Token) → Starts ts → nests (ReturnValue ∷ k) ts ≡ nests (an_expr k) ts
 same_return k [] h = absurd h
@@ -139,24 +139,24 @@ mutual
       let n = depth k in
       let rest = (expr_text y ++ (Fixed t.Semicolon end ∷ [])) ++ ts in
       ap (λ w. (1 + n) ∷ (1 + n) ∷ (1 + n) ∷ w)
-          (both _ (names_text ns) (Fixed t.RightParen r ∷ Fixed t.Becomes s ∷ (expr_text y ++ (Fixed t.Semicolon end ∷ []))) ts
-              (names_nests (1 + n) ns) (n ∷ n ∷ (expr_nests n y ++ (n ∷ []))) ms
-          (nest_names ns (Closing t.RightParen ∷ Expect t.Becomes ∷ an_expr (Expect t.Semicolon ∷ Statements ∷ k)) (Fixed t.RightParen r ∷ Fixed t.Becomes s ∷ rest)
-              (n ∷ n ∷ ((expr_nests n y ++ (n ∷ [])) ++ ms)) refl
-          (ap (λ w. n ∷ n ∷ w) (nest_value y end (Statements ∷ k) ts ms e))))
+      (both _ (names_text ns) (Fixed t.RightParen r ∷ Fixed t.Becomes s ∷ (expr_text y ++ (Fixed t.Semicolon end ∷ []))) ts
+      (names_nests (1 + n) ns) (n ∷ n ∷ (expr_nests n y ++ (n ∷ []))) ms
+      (nest_names ns (Closing t.RightParen ∷ Expect t.Becomes ∷ an_expr (Expect t.Semicolon ∷ Statements ∷ k)) (Fixed t.RightParen r ∷ Fixed t.Becomes s ∷ rest)
+      (n ∷ n ∷ ((expr_nests n y ++ (n ∷ [])) ++ ms)) refl
+      (ap (λ w. n ∷ n ∷ w) (nest_value y end (Statements ∷ k) ts ms e))))
   nest_stmt (forget s l x a r end) k ts ms o e = let n = depth k in ap (λ w. n ∷ (1 + n) ∷ (1 + n) ∷ n ∷ n ∷ w) e
   nest_stmt (forget_as s l x a i y r end) k ts ms o e =
       let n = depth k in
       ap (λ w. n ∷ (1 + n) ∷ (1 + n) ∷ (1 + n) ∷ w)
-          (both _ (expr_text y) (Fixed t.RightParen r ∷ Fixed t.Semicolon end ∷ []) ts (expr_nests (1 + n) y) (n ∷ n ∷ []) ms
-          (nest_expr y (Closing t.RightParen ∷ Expect t.Semicolon ∷ Statements ∷ k) (Fixed t.RightParen r ∷ Fixed t.Semicolon end ∷ ts) (n ∷ n ∷ ms) refl
-          (ap (λ w. n ∷ n ∷ w) e)))
+      (both _ (expr_text y) (Fixed t.RightParen r ∷ Fixed t.Semicolon end ∷ []) ts (expr_nests (1 + n) y) (n ∷ n ∷ []) ms
+      (nest_expr y (Closing t.RightParen ∷ Expect t.Semicolon ∷ Statements ∷ k) (Fixed t.RightParen r ∷ Fixed t.Semicolon end ∷ ts) (n ∷ n ∷ ms) refl
+      (ap (λ w. n ∷ n ∷ w) e)))
   nest_stmt (phase s l y r end) k ts ms o e =
       let n = depth k in
       ap (λ w. n ∷ (1 + n) ∷ w)
-          (both _ (expr_text y) (Fixed t.RightParen r ∷ Fixed t.Semicolon end ∷ []) ts (expr_nests (1 + n) y) (n ∷ n ∷ []) ms
-          (nest_expr y (Closing t.RightParen ∷ Expect t.Semicolon ∷ Statements ∷ k) (Fixed t.RightParen r ∷ Fixed t.Semicolon end ∷ ts) (n ∷ n ∷ ms) refl
-          (ap (λ w. n ∷ n ∷ w) e)))
+      (both _ (expr_text y) (Fixed t.RightParen r ∷ Fixed t.Semicolon end ∷ []) ts (expr_nests (1 + n) y) (n ∷ n ∷ []) ms
+      (nest_expr y (Closing t.RightParen ∷ Expect t.Semicolon ∷ Statements ∷ k) (Fixed t.RightParen r ∷ Fixed t.Semicolon end ∷ ts) (n ∷ n ∷ ms) refl
+      (ap (λ w. n ∷ n ∷ w) e)))
   nest_stmt (choose c) k ts ms o e =
       ap (λ w. nests (Statements ∷ k) (w ++ ts)) (choice_begins c)
       ∙ ap (λ w. depth k ∷ w) (nest_choice c (Statements ∷ k) ts ms o e)
@@ -165,13 +165,13 @@ mutual
       let n = depth k in
       let behind = Closing t.RightParen ∷ ABlock ∷ Statements ∷ k in
       ap (λ w. n ∷ n ∷ n ∷ (1 + n) ∷ w)
-          (both _ (expr_text y) (Fixed t.Dots d ∷ (expr_text j ++ (Fixed t.RightParen r ∷ block_text b))) ts
-              (expr_nests (1 + n) y) ((1 + n) ∷ (expr_nests (1 + n) j ++ (n ∷ block_nests n b))) ms
-          (nest_expr y (Expect t.Dots ∷ an_expr behind) (Fixed t.Dots d ∷ ((expr_text j ++ (Fixed t.RightParen r ∷ block_text b)) ++ ts))
-              ((1 + n) ∷ ((expr_nests (1 + n) j ++ (n ∷ block_nests n b)) ++ ms)) refl
-          (ap (λ w. (1 + n) ∷ w) (both _ (expr_text j) (Fixed t.RightParen r ∷ block_text b) ts (expr_nests (1 + n) j) (n ∷ block_nests n b) ms
-          (nest_expr j behind (Fixed t.RightParen r ∷ (block_text b ++ ts)) (n ∷ (block_nests n b ++ ms)) refl
-          (ap (λ w. n ∷ w) (nest_block b (Statements ∷ k) ts ms e)))))))
+      (both _ (expr_text y) (Fixed t.Dots d ∷ (expr_text j ++ (Fixed t.RightParen r ∷ block_text b))) ts
+      (expr_nests (1 + n) y) ((1 + n) ∷ (expr_nests (1 + n) j ++ (n ∷ block_nests n b))) ms
+      (nest_expr y (Expect t.Dots ∷ an_expr behind) (Fixed t.Dots d ∷ ((expr_text j ++ (Fixed t.RightParen r ∷ block_text b)) ++ ts))
+      ((1 + n) ∷ ((expr_nests (1 + n) j ++ (n ∷ block_nests n b)) ++ ms)) refl
+      (ap (λ w. (1 + n) ∷ w) (both _ (expr_text j) (Fixed t.RightParen r ∷ block_text b) ts (expr_nests (1 + n) j) (n ∷ block_nests n b) ms
+      (nest_expr j behind (Fixed t.RightParen r ∷ (block_text b ++ ts)) (n ∷ (block_nests n b ++ ms)) refl
+      (ap (λ w. n ∷ w) (nest_block b (Statements ∷ k) ts ms e)))))))
   nest_stmt (return_nothing s end) k ts ms o e = ap (λ w. depth k ∷ depth k ∷ w) e
   nest_stmt (return_value s y end) k ts ms o e =
       ap (λ w. depth k ∷ w)
@@ -211,14 +211,14 @@ mutual
   nest_else_block (braces l d r) k ts ms e =
       let n = depth k in
       ap (λ w. (1 + n) ∷ w) (both _ (stmts_text d) (Fixed t.RightBrace r ∷ []) ts (stmts_nests (1 + n) d) (n ∷ []) ms
-          (nest_stmts d (Closing t.RightBrace ∷ k) (Fixed t.RightBrace r ∷ ts) (n ∷ ms) refl (ap (λ w. n ∷ w) e)))
+      (nest_stmts d (Closing t.RightBrace ∷ k) (Fixed t.RightBrace r ∷ ts) (n ∷ ms) refl (ap (λ w. n ∷ w) e)))
 
   nest_block : (b : Block) (k : List Symbol) (ts : List Token) (ms : List ℕ) → nests k ts ≡ ms
       → nests (ABlock ∷ k) (block_text b ++ ts) ≡ block_nests (depth k) b ++ ms
   nest_block (braces l b r) k ts ms e =
       let n = depth k in
       ap (λ w. (1 + n) ∷ w) (both _ (stmts_text b) (Fixed t.RightBrace r ∷ []) ts (stmts_nests (1 + n) b) (n ∷ []) ms
-          (nest_stmts b (Closing t.RightBrace ∷ k) (Fixed t.RightBrace r ∷ ts) (n ∷ ms) refl (ap (λ w. n ∷ w) e)))
+      (nest_stmts b (Closing t.RightBrace ∷ k) (Fixed t.RightBrace r ∷ ts) (n ∷ ms) refl (ap (λ w. n ∷ w) e)))
 
   nest_stmts : (b : Stmts) (k : List Symbol) (ts : List Token) (ms : List ℕ) → Off Statements ts → nests k ts ≡ ms
       → nests (Statements ∷ k) (stmts_text b ++ ts) ≡ stmts_nests (depth k) b ++ ms
@@ -235,7 +235,7 @@ nest_size (named_size c x s) k ts ms o e = ap (λ w. depth k ∷ depth k ∷ w) 
 nest_size (paren_size c l y r) k ts ms o e =
     let n = depth k in
     ap (λ w. n ∷ (1 + n) ∷ w) (both _ (expr_text y) (Fixed t.RightParen r ∷ []) ts (expr_nests (1 + n) y) (n ∷ []) ms
-        (nest_expr y (Closing t.RightParen ∷ k) (Fixed t.RightParen r ∷ ts) (n ∷ ms) refl (ap (λ w. n ∷ w) e)))
+    (nest_expr y (Closing t.RightParen ∷ k) (Fixed t.RightParen r ∷ ts) (n ∷ ms) refl (ap (λ w. n ∷ w) e)))
 
 same_type : (ty : Scalar) (k : List Symbol) (ts : List Token) → nests (AType ∷ k) (scalar_text ty ++ ts) ≡ nests (AScalar ∷ SizePart ∷ k) (scalar_text ty ++ ts)
 same_type (bit s) k ts = refl
@@ -293,8 +293,8 @@ nest_param_part (no_params l r) ts ms e = ap (λ w. 1 ∷ 0 ∷ w) e
 nest_param_part (params l ps r) ts ms e =
     let behind = Closing t.RightParen ∷ behind_params in
     ap (λ w. 1 ∷ w) (both _ (params_text ps) (Fixed t.RightParen r ∷ []) ts (params_nests 1 ps) (0 ∷ []) ms
-        (same_params ps behind (Fixed t.RightParen r ∷ ts)
-        ∙ nest_params ps behind (Fixed t.RightParen r ∷ ts) (0 ∷ ms) refl refl (ap (λ w. 0 ∷ w) e)))
+    (same_params ps behind (Fixed t.RightParen r ∷ ts)
+    ∙ nest_params ps behind (Fixed t.RightParen r ∷ ts) (0 ∷ ms) refl refl (ap (λ w. 0 ∷ w) e)))
 
 nest_statics : (ns : Statics) (k : List Symbol) (ts : List Token) (ms : List ℕ) → NotBegun MoreStatics ts → nests k ts ≡ ms
     → nests (AnyName ∷ Expect t.Colon ∷ Expect t.Bang ∷ Expect t.Natural ∷ MoreStatics ∷ k) (statics_text ns ++ ts) ≡ statics_nests (depth k) ns ++ ms
@@ -306,7 +306,7 @@ nest_static_part : (p : g.StaticPart) (ts : List Token) (ms : List ℕ) → NotB
 nest_static_part no_statics ts ms o e = pass StaticPart (ParamPart ∷ behind_params) ts refl o ∙ e
 nest_static_part (statics l ns r) ts ms o e =
     ap (λ w. 1 ∷ w) (both _ (statics_text ns) (Fixed t.RightBracket r ∷ []) ts (statics_nests 1 ns) (0 ∷ []) ms
-        (nest_statics ns (Closing t.RightBracket ∷ ParamPart ∷ behind_params) (Fixed t.RightBracket r ∷ ts) (0 ∷ ms) refl (ap (λ w. 0 ∷ w) e)))
+    (nest_statics ns (Closing t.RightBracket ∷ ParamPart ∷ behind_params) (Fixed t.RightBracket r ∷ ts) (0 ∷ ms) refl (ap (λ w. 0 ∷ w) e)))
 
 nest_mark : (m : g.MarkPart) (ts : List Token) (ms : List ℕ) → NotBegun MarkPart ts → nests (ResultPart ∷ ABlock ∷ Functions ∷ []) ts ≡ ms
     → nests behind_params (mark_text m ++ ts) ≡ mark_nests m ++ ms
@@ -329,9 +329,9 @@ nest_function (def s x a ss ps m r b) ts ms e =
     let t2 = mark_text m ++ t3 in
     let t1 = param_part_text ps ++ t2 in
     let last_part : nests (ResultPart ∷ ABlock ∷ Functions ∷ []) (t3 ++ ts) ≡ c3 ++ ms =
-        both _ (result_part_text r) (block_text b) ts (result_part_nests r) (block_nests 0 b) ms (nest_result_part r b ts (block_nests 0 b ++ ms) (nest_block b (Functions ∷ []) ts ms e)) in
+    both _ (result_part_text r) (block_text b) ts (result_part_nests r) (block_nests 0 b) ms (nest_result_part r b ts (block_nests 0 b ++ ms) (nest_block b (Functions ∷ []) ts ms e)) in
     let marked : nests behind_params (t2 ++ ts) ≡ c2 ++ ms =
-        both _ (mark_text m) t3 ts (mark_nests m) c3 ms (nest_mark m (t3 ++ ts) (c3 ++ ms) (unmarked r b ts) last_part) in
+    both _ (mark_text m) t3 ts (mark_nests m) c3 ms (nest_mark m (t3 ++ ts) (c3 ++ ms) (unmarked r b ts) last_part) in
     let taken : nests (ParamPart ∷ behind_params) (t1 ++ ts) ≡ c1 ++ ms = both _ (param_part_text ps) t2 ts (param_part_nests ps) c2 ms (nest_param_part ps (t2 ++ ts) (c2 ++ ms) marked) in
     ap (λ w. 0 ∷ 0 ∷ w) (both _ (static_part_text ss) t1 ts (static_part_nests ss) c1 ms (nest_static_part ss (t1 ++ ts) (c1 ++ ms) (unstatic ps t2 ts) taken))
   where

@@ -1,21 +1,15 @@
 -- The table counts the nest of an expression.
-use Rattle.std.proofs.Common.{◌≡◌, ℕ, zero, suc, ◌+◌, Bool, true, false, List, [], ◌∷◌, ◌++◌, map, Option, Some, None, cond, nat_lt, refl, sym, ◌∙◌, ap, append_assoc, arith}
-use Rattle.grammar_core.specs.Table.{advance, expected, accepts, may_stop, first_of, then_maybe, some_passes}
+use Rattle.std.proofs.Common.{◌≡◌, ℕ, zero, suc, ◌+◌, Bool, true, false, List, [], ◌∷◌, ◌++◌, Option, Some, None, cond, refl, sym, ◌∙◌, ap, append_assoc, arith}
+use Rattle.grammar_core.specs.Table.{advance, first_of}
 use Rattle.silq_tree.specs.declared.node.Spot.{Spot}
-use Rattle.silq_tree.specs.declared.node.UpdateOp.{UpdateOp}
-use Rattle.silq_tree.specs.declared.node.UpdateOp.TheVariants as updates
-use Rattle.silq_grammar.specs.Tokens.{Kind, A, Terminal, Token, Name, Number, Fixed, kind}
+use Rattle.silq_grammar.specs.Tokens.{Token, Name, Number, Fixed, kind}
 use Rattle.silq_grammar.specs.declared.token.Terminal.TheVariants as t
-use Rattle.silq_grammar.specs.Grammar as g
-use Rattle.silq_grammar.specs.Grammar.{Comparison, equal, not_equal, below, at_most, above, at_least, Expr, one_and, or, And, one_cmp, and, Cmp, one_sum, compare, Sum, one_prod, plus, minus, Prod, one_unary, times, over, Unary, bang, negative, number, typed_number, true_, false_, pi, place, called, paren, Scalar, bit, uint, int, Place, whole, part, part_of_part, Call, plain, with_statics, Args, no_args, args, Exprs, last, and_more, NameList, last_name, and_names, Stmt, assign, spread, update, forget, forget_as, phase, choose, loop, return_nothing, return_value, call, Choice, only, either, chain, Block, braces, Stmts, none, more, Size, no_size, number_size, named_size, paren_size, Type_, quantum, classical, Result, last_type, and_types, Param, moved, held, last_param, and_params, Statics, last_static, and_statics, no_statics, statics, no_params, params, no_mark, lifted, qfree, mfree, no_result, results, Function, def, Program, no_function, function_then}
-use Rattle.silq_grammar.specs.Spelled.{comparison_sign, update_sign, expr_text, and_text, cmp_text, sum_text, prod_text, unary_text, scalar_text, place_text, call_text, args_text, exprs_text, names_text, stmt_text, choice_text, block_text, stmts_text, size_text, type_text, result_text, param_text, params_text, statics_text, static_part_text, param_part_text, mark_text, result_part_text, function_text, program_text}
-use Rattle.silq_grammar.specs.Nest.{prod_count, sum_count, and_count, or_count, expr_nests, and_nests, cmp_nests, sum_nests, prod_nests, unary_nests, scalar_nests, place_nests, call_nests, args_nests, exprs_nests, names_nests, stmt_nests, choice_nests, block_nests, stmts_nests, size_nests, type_nests, result_nests, param_nests, params_nests, statics_nests, static_part_nests, param_part_nests, mark_nests, result_part_nests, function_nests, program_nests, first_deep, NestFollowsGrammar}
-use Rattle.silq_grammar.specs.Machine.{table, begin, can_be_empty, weight, nest, an_expr, exprs, Symbol, Expect, AnyName, Closing, Ends, Functions, StaticPart, MoreStatics, ParamPart, Params, OneParam, MoreParams, MarkPart, ResultPart, MoreResults, AType, AScalar, Width, SizePart, ASize, ABlock, Statements, MoreNames, ForgetPart, PhasePart, ForgetValue, Bounds, ReturnValue, ElseRest, ElseBody, StartName, StartBracket, StartIndex, Assigns, AUnary, Prods, Sums, Compare, Ands, Ors, NumberType, InName, InBracket, InIndex, CallPart, Arguments, MoreExprs}
-use Rattle.silq_grammar.specs.Outcome.{Outcome, Fine, Syntax, Deep, outcome, outcome_at, program_outcome}
-use Rattle.silq_grammar.proofs.Reach.{is_some, begins, goes_on}
-use Rattle.silq_grammar.proofs.TakenExpr.{Off, NotBegun, not_ends, Starts, start_expr, start_exprs, or_left, off_and, off_cmp, off_sum, off_prod, off_unary, off_expr, no_ors, no_ands, no_compare, no_sums, no_prods, no_type, no_name, no_index, no_more, off_comparison}
-use Rattle.silq_grammar.proofs.Taken.{value_sign, if_spot, behind_if, choice_begins, off_block, off_block_then, not_else, not_statement, off_else, not_result, not_mark, not_statics}
-use Rattle.silq_grammar.proofs.Accepted.{program_accepted}
+use Rattle.silq_grammar.specs.Grammar.{Comparison, equal, not_equal, below, at_most, above, at_least, Expr, one_and, or, And, one_cmp, and, Cmp, one_sum, compare, Sum, one_prod, plus, minus, Prod, one_unary, times, over, Unary, bang, negative, number, typed_number, true_, false_, pi, place, called, paren, Scalar, bit, uint, int, Place, whole, part, part_of_part, Call, plain, with_statics, Args, no_args, args, Exprs, last, and_more}
+use Rattle.silq_grammar.specs.Spelled.{comparison_sign, expr_text, and_text, cmp_text, sum_text, prod_text, unary_text, scalar_text, place_text, call_text, args_text, exprs_text}
+use Rattle.silq_grammar.specs.Nest.{prod_count, sum_count, and_count, or_count, expr_nests, and_nests, cmp_nests, sum_nests, prod_nests, unary_nests, scalar_nests, place_nests, call_nests, args_nests, exprs_nests}
+use Rattle.silq_grammar.specs.Machine.{table, begin, can_be_empty, weight, nest, an_expr, exprs, Symbol, Closing, Ends, AScalar, StartBracket, AUnary, Prods, Sums, Compare, Ands, Ors, NumberType, InName, InBracket, InIndex, CallPart, Arguments, MoreExprs}
+use Rattle.silq_grammar.proofs.Reach.{is_some}
+use Rattle.silq_grammar.proofs.TakenExpr.{Off, NotBegun, not_ends, Starts, start_exprs, or_left, off_and, off_cmp, off_sum, off_prod, off_unary, off_expr, no_ors, no_ands, no_compare, no_sums, no_prods, no_type, no_name, no_index, no_more, off_comparison}
 
 -- the operators of a chain, on the nest around it
 abbrev pub pick : ℕ → ℕ → ℕ
@@ -123,7 +117,7 @@ mutual
   nest_unary (paren l es r) k ts ms o e =
       let n = depth k in
       ap (λ w. (1 + n) ∷ w) (both _ (exprs_text es) (Fixed t.RightParen r ∷ []) ts (exprs_nests (1 + n) es) (n ∷ []) ms
-          (nest_exprs es (Closing t.RightParen ∷ k) (Fixed t.RightParen r ∷ ts) (n ∷ ms) refl (ap (λ w. n ∷ w) e)))
+      (nest_exprs es (Closing t.RightParen ∷ k) (Fixed t.RightParen r ∷ ts) (n ∷ ms) refl (ap (λ w. n ∷ w) e)))
 
   pub nest_scalar : (ty : Scalar) (k : List Symbol) (ts : List Token) (ms : List ℕ) → nests k ts ≡ ms
       → nests (AScalar ∷ k) (scalar_text ty ++ ts) ≡ scalar_nests (depth k) ty ++ ms
@@ -131,11 +125,11 @@ mutual
   nest_scalar (uint s l x r) k ts ms e =
       let n = depth k in
       ap (λ w. n ∷ (1 + n) ∷ w) (both _ (expr_text x) (Fixed t.RightBracket r ∷ []) ts (expr_nests (1 + n) x) (n ∷ []) ms
-          (nest_expr x (Closing t.RightBracket ∷ k) (Fixed t.RightBracket r ∷ ts) (n ∷ ms) refl (ap (λ w. n ∷ w) e)))
+      (nest_expr x (Closing t.RightBracket ∷ k) (Fixed t.RightBracket r ∷ ts) (n ∷ ms) refl (ap (λ w. n ∷ w) e)))
   nest_scalar (int s l x r) k ts ms e =
       let n = depth k in
       ap (λ w. n ∷ (1 + n) ∷ w) (both _ (expr_text x) (Fixed t.RightBracket r ∷ []) ts (expr_nests (1 + n) x) (n ∷ []) ms
-          (nest_expr x (Closing t.RightBracket ∷ k) (Fixed t.RightBracket r ∷ ts) (n ∷ ms) refl (ap (λ w. n ∷ w) e)))
+      (nest_expr x (Closing t.RightBracket ∷ k) (Fixed t.RightBracket r ∷ ts) (n ∷ ms) refl (ap (λ w. n ∷ w) e)))
 
   nest_place : (p : Place) (k : List Symbol) (ts : List Token) (ms : List ℕ) → Off AUnary ts → nests k ts ≡ ms
       → nests (AUnary ∷ k) (place_text p ++ ts) ≡ place_nests (depth k) p ++ ms
@@ -143,16 +137,16 @@ mutual
   nest_place (part x s l i r) k ts ms o e =
       let n = depth k in
       ap (λ w. n ∷ (1 + n) ∷ w) (both _ (expr_text i) (Fixed t.RightBracket r ∷ []) ts (expr_nests (1 + n) i) (n ∷ []) ms
-          (nest_expr i (InBracket ∷ k) (Fixed t.RightBracket r ∷ ts) (n ∷ ms) refl (ap (λ w. n ∷ w) (pass InIndex k ts refl (no_index ts o) ∙ e))))
+      (nest_expr i (InBracket ∷ k) (Fixed t.RightBracket r ∷ ts) (n ∷ ms) refl (ap (λ w. n ∷ w) (pass InIndex k ts refl (no_index ts o) ∙ e))))
   nest_place (part_of_part x s l i r m j q) k ts ms o e =
       let n = depth k in
       ap (λ w. n ∷ (1 + n) ∷ w)
-          (both _ (expr_text i) (Fixed t.RightBracket r ∷ Fixed t.LeftBracket m ∷ (expr_text j ++ (Fixed t.RightBracket q ∷ []))) ts
-              (expr_nests (1 + n) i) (n ∷ (1 + n) ∷ (expr_nests (1 + n) j ++ (n ∷ []))) ms
-          (nest_expr i (InBracket ∷ k) (Fixed t.RightBracket r ∷ Fixed t.LeftBracket m ∷ ((expr_text j ++ (Fixed t.RightBracket q ∷ [])) ++ ts))
-              (n ∷ (1 + n) ∷ ((expr_nests (1 + n) j ++ (n ∷ [])) ++ ms)) refl
-          (ap (λ w. n ∷ (1 + n) ∷ w) (both _ (expr_text j) (Fixed t.RightBracket q ∷ []) ts (expr_nests (1 + n) j) (n ∷ []) ms
-          (nest_expr j (Closing t.RightBracket ∷ k) (Fixed t.RightBracket q ∷ ts) (n ∷ ms) refl (ap (λ w. n ∷ w) e))))))
+      (both _ (expr_text i) (Fixed t.RightBracket r ∷ Fixed t.LeftBracket m ∷ (expr_text j ++ (Fixed t.RightBracket q ∷ []))) ts
+      (expr_nests (1 + n) i) (n ∷ (1 + n) ∷ (expr_nests (1 + n) j ++ (n ∷ []))) ms
+      (nest_expr i (InBracket ∷ k) (Fixed t.RightBracket r ∷ Fixed t.LeftBracket m ∷ ((expr_text j ++ (Fixed t.RightBracket q ∷ [])) ++ ts))
+      (n ∷ (1 + n) ∷ ((expr_nests (1 + n) j ++ (n ∷ [])) ++ ms)) refl
+      (ap (λ w. n ∷ (1 + n) ∷ w) (both _ (expr_text j) (Fixed t.RightBracket q ∷ []) ts (expr_nests (1 + n) j) (n ∷ []) ms
+      (nest_expr j (Closing t.RightBracket ∷ k) (Fixed t.RightBracket q ∷ ts) (n ∷ ms) refl (ap (λ w. n ∷ w) e))))))
 
   nest_call : (c : Call) (k : List Symbol) (ts : List Token) (ms : List ℕ) → nests k ts ≡ ms
       → nests (AUnary ∷ k) (call_text c ++ ts) ≡ call_nests (depth k) c ++ ms
@@ -162,21 +156,21 @@ mutual
   nest_call (with_statics x s l (last i) r m a q) k ts ms e =
       let n = depth k in
       ap (λ w. n ∷ (1 + n) ∷ w)
-          (both _ (expr_text i) (Fixed t.RightBracket r ∷ Fixed t.LeftParen m ∷ (args_text a ++ (Fixed t.RightParen q ∷ []))) ts
-              (expr_nests (1 + n) i) (n ∷ (1 + n) ∷ (args_nests (1 + n) a ++ (n ∷ []))) ms
-          (nest_expr i (InBracket ∷ k) (Fixed t.RightBracket r ∷ Fixed t.LeftParen m ∷ ((args_text a ++ (Fixed t.RightParen q ∷ [])) ++ ts))
-              (n ∷ (1 + n) ∷ ((args_nests (1 + n) a ++ (n ∷ [])) ++ ms)) refl
-          (ap (λ w. n ∷ (1 + n) ∷ w) (both _ (args_text a) (Fixed t.RightParen q ∷ []) ts (args_nests (1 + n) a) (n ∷ []) ms (nest_args a k q ts ms e)))))
+      (both _ (expr_text i) (Fixed t.RightBracket r ∷ Fixed t.LeftParen m ∷ (args_text a ++ (Fixed t.RightParen q ∷ []))) ts
+      (expr_nests (1 + n) i) (n ∷ (1 + n) ∷ (args_nests (1 + n) a ++ (n ∷ []))) ms
+      (nest_expr i (InBracket ∷ k) (Fixed t.RightBracket r ∷ Fixed t.LeftParen m ∷ ((args_text a ++ (Fixed t.RightParen q ∷ [])) ++ ts))
+      (n ∷ (1 + n) ∷ ((args_nests (1 + n) a ++ (n ∷ [])) ++ ms)) refl
+      (ap (λ w. n ∷ (1 + n) ∷ w) (both _ (args_text a) (Fixed t.RightParen q ∷ []) ts (args_nests (1 + n) a) (n ∷ []) ms (nest_args a k q ts ms e)))))
   nest_call (with_statics x s l (and_more i c es) r m a q) k ts ms e =
       let n = depth k in
       let tail = Fixed t.RightBracket r ∷ Fixed t.LeftParen m ∷ (args_text a ++ (Fixed t.RightParen q ∷ [])) in
       let counts = n ∷ (1 + n) ∷ (args_nests (1 + n) a ++ (n ∷ [])) in
       ap (λ w. n ∷ (1 + n) ∷ w)
-          (both _ (expr_text i ++ (Fixed t.Comma c ∷ exprs_text es)) tail ts (expr_nests (1 + n) i ++ ((1 + n) ∷ exprs_nests (1 + n) es)) counts ms
-          (both _ (expr_text i) (Fixed t.Comma c ∷ exprs_text es) (tail ++ ts) (expr_nests (1 + n) i) ((1 + n) ∷ exprs_nests (1 + n) es) (counts ++ ms)
-          (nest_expr i (InBracket ∷ k) (Fixed t.Comma c ∷ (exprs_text es ++ (tail ++ ts))) ((1 + n) ∷ (exprs_nests (1 + n) es ++ (counts ++ ms))) refl
-          (ap (λ w. (1 + n) ∷ w) (nest_exprs es (Closing t.RightBracket ∷ CallPart ∷ k) (tail ++ ts) (counts ++ ms) refl
-          (ap (λ w. n ∷ (1 + n) ∷ w) (both _ (args_text a) (Fixed t.RightParen q ∷ []) ts (args_nests (1 + n) a) (n ∷ []) ms (nest_args a k q ts ms e))))))))
+      (both _ (expr_text i ++ (Fixed t.Comma c ∷ exprs_text es)) tail ts (expr_nests (1 + n) i ++ ((1 + n) ∷ exprs_nests (1 + n) es)) counts ms
+      (both _ (expr_text i) (Fixed t.Comma c ∷ exprs_text es) (tail ++ ts) (expr_nests (1 + n) i) ((1 + n) ∷ exprs_nests (1 + n) es) (counts ++ ms)
+      (nest_expr i (InBracket ∷ k) (Fixed t.Comma c ∷ (exprs_text es ++ (tail ++ ts))) ((1 + n) ∷ (exprs_nests (1 + n) es ++ (counts ++ ms))) refl
+      (ap (λ w. (1 + n) ∷ w) (nest_exprs es (Closing t.RightBracket ∷ CallPart ∷ k) (tail ++ ts) (counts ++ ms) refl
+      (ap (λ w. n ∷ (1 + n) ∷ w) (both _ (args_text a) (Fixed t.RightParen q ∷ []) ts (args_nests (1 + n) a) (n ∷ []) ms (nest_args a k q ts ms e))))))))
 
   pub nest_args : (a : Args) (k : List Symbol) (r : Spot) (ts : List Token) (ms : List ℕ) → nests k ts ≡ ms
       → nests (Arguments ∷ Closing t.RightParen ∷ k) (args_text a ++ (Fixed t.RightParen r ∷ ts)) ≡ args_nests (1 + depth k) a ++ (depth k ∷ ms)
@@ -232,7 +226,7 @@ mutual
       (pass (Sums (sum_count a)) (Compare ∷ k) (sign ∷ (sum_text b ++ ts)) refl (no_sums (sum_count a) (sign ∷ (sum_text b ++ ts)) (off_comparison op))
       ∙ compared op s k (sum_text b ++ ts)
       ∙ ap (λ w. (1 + n) ∷ w) (nest_sums b (Ends ∷ k) ts ms (off_prod ts (off_sum ts o))
-          (pass (Sums (sum_count b)) (Ends ∷ k) ts refl (no_sums (sum_count b) ts (off_sum ts o)) ∙ pass Ends k ts refl (not_ends ts) ∙ e))))
+      (pass (Sums (sum_count b)) (Ends ∷ k) ts refl (no_sums (sum_count b) ts (off_sum ts o)) ∙ pass Ends k ts refl (not_ends ts) ∙ e))))
 
   nest_ands : (a : And) (k : List Symbol) (ts : List Token) (ms : List ℕ) → Off Compare ts → nests (Ands (and_count a) ∷ k) ts ≡ ms
       → nests (AUnary ∷ Prods 0 ∷ Sums 0 ∷ Compare ∷ Ands 0 ∷ k) (and_text a ++ ts) ≡ and_nests (depth k) a ++ ms
@@ -265,7 +259,7 @@ mutual
       both _ (expr_text x) (Fixed t.Or s ∷ and_text a) ts (expr_nests (depth k) x) (m ∷ and_nests m a) ms
       (nest_ors x k (Fixed t.Or s ∷ (and_text a ++ ts)) (m ∷ (and_nests m a ++ ms)) refl
       (ap (λ w. pick (or_count x + 1) (depth k) ∷ w) (nest_ands a behind ts ms (off_cmp ts (off_and ts o))
-          (pass (Ands (and_count a)) behind ts refl (no_ands (and_count a) ts (off_and ts o)) ∙ pass (Ors (or_count x + 1)) k ts refl (no_ors (or_count x + 1) ts o) ∙ e))
+      (pass (Ands (and_count a)) behind ts refl (no_ands (and_count a) ts (off_and ts o)) ∙ pass (Ors (or_count x + 1)) k ts refl (no_ors (or_count x + 1) ts o) ∙ e))
       ∙ ap (λ d. d ∷ (and_nests d a ++ ms)) (one_more (or_count x) (depth k))))
 
   pub nest_exprs : (es : Exprs) (k : List Symbol) (ts : List Token) (ms : List ℕ) → Off MoreExprs ts → nests k ts ≡ ms
