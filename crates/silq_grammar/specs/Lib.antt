@@ -6,3 +6,5 @@ pub mod Trees
 pub mod Machine
 pub mod Outcome
 pub mod Place
+pub mod Laws
+pub mod Nest
