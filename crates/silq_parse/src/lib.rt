@@ -1,7 +1,9 @@
 #![tactic(auto)]
 //! The parser of Silq: the program that a text is, or its first fault.
 
+mod expr;
 pub mod fault;
+mod sign;
 mod stop;
 
 pub use fault::ParseFault;

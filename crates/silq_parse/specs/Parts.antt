@@ -1,0 +1,65 @@
+-- Parts of derivations that the parser reads one by one.
+use Rattle.std.specs.Prelude.{List, [], ◌∷◌, ◌++◌, Option, Some, None}
+use Rattle.silq_tree.specs.declared.node.Spot.{Spot}
+use Rattle.silq_tree.specs.declared.node.UpdateOp.{UpdateOp}
+use Rattle.silq_tree.specs.Syntax as tree
+use Rattle.silq_grammar.specs.declared.token.Token.{Token}
+use Rattle.silq_grammar.specs.declared.token.Token.TheVariants.{Name, Number, Fixed}
+use Rattle.silq_grammar.specs.declared.token.Terminal.{Terminal}
+use Rattle.silq_grammar.specs.declared.token.Terminal.TheVariants as t
+use Rattle.silq_grammar.specs.Grammar.{Expr, Exprs, Stmts, none, more, Stmt, NameList, last_name, and_names, Size, no_size, number_size, named_size, paren_size, Block, Choice}
+use Rattle.silq_grammar.specs.Spelled.{update_sign, expr_text, exprs_text, block_text, choice_text}
+use Rattle.silq_grammar.specs.Trees.{expr_tree, exprs_tree, block_tree, choice_tree}
+
+-- ( ":=" | "+=" | "-=" | "^=" ) expr ";"; no update at ":="
+pub data Change : Type 0 where
+  change : Option UpdateOp → Spot → Expr → Spot → Change
+
+abbrev pub change_sign : Option UpdateOp → Terminal
+change_sign None = t.Becomes
+change_sign (Some op) = update_sign op
+
+abbrev pub change_text : Change → List Token
+change_text (change op s e end) = Fixed (change_sign op) s ∷ (expr_text e ++ (Fixed t.Semicolon end ∷ []))
+
+-- the update and the value
+pub record Changed : Type 0 where
+  pub op : Option UpdateOp
+  pub value : tree.Expression
+
+abbrev pub change_tree : Change → Changed
+change_tree (change op s e end) = record { op = op; value = expr_tree e }
+
+-- expr { "," expr } "]"
+pub data Bracketed : Type 0 where
+  bracketed : Exprs → Spot → Bracketed
+
+abbrev pub bracketed_text : Bracketed → List Token
+bracketed_text (bracketed es r) = exprs_text es ++ (Fixed t.RightBracket r ∷ [])
+
+abbrev pub bracketed_tree : Bracketed → tree.Expressions
+bracketed_tree (bracketed es r) = exprs_tree es
+
+-- the tree of a size
+abbrev pub size_tree : Size → Option tree.Expression
+size_tree no_size = None
+size_tree (number_size k v s) = Some (tree.number v s)
+size_tree (named_size k n s) = Some (tree.place (tree.whole n) s)
+size_tree (paren_size k l e r) = Some (expr_tree e)
+
+-- what may stand behind the first block of a choice: [ "else" ( block | choice ) ]
+pub data Rest : Type 0 where
+  missing : Rest
+  with_block : Spot → Block → Rest
+  with_choice : Spot → Choice → Rest
+
+abbrev pub rest_text : Rest → List Token
+rest_text missing = []
+rest_text (with_block o b) = Fixed t.Else o ∷ block_text b
+rest_text (with_choice o c) = Fixed t.Else o ∷ choice_text c
+
+-- where there is no `else`, an empty block with this end
+abbrev pub rest_tree : Spot → Rest → tree.Otherwise
+rest_tree end missing = tree.else_block (tree.block tree.done end)
+rest_tree end (with_block o b) = tree.else_block (block_tree b)
+rest_tree end (with_choice o c) = tree.else_choice (choice_tree c)
