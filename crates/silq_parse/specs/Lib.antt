@@ -6,3 +6,6 @@ pub mod Stops
 pub mod Grown
 pub mod Reads
 pub mod Parts
+pub mod Targets
+pub mod Added
+pub mod AddedStatement

@@ -1,6 +1,9 @@
 -- Parts of derivations that the parser reads one by one.
-use Rattle.std.specs.Prelude.{List, [], ◌∷◌, ◌++◌, Option, Some, None}
+use Rattle.std.specs.Prelude.{◌≡◌, List, [], ◌∷◌, ◌++◌, Option, Some, None}
 use Rattle.silq_tree.specs.declared.node.Spot.{Spot}
+use Rattle.silq_tree.specs.declared.node.NameId.{NameId}
+use Rattle.silq_tree.specs.declared.node.ExprId.{ExprId}
+use Rattle.silq_tree.specs.Arena.{Forest}
 use Rattle.silq_tree.specs.declared.node.UpdateOp.{UpdateOp}
 use Rattle.silq_tree.specs.Syntax as tree
 use Rattle.silq_grammar.specs.declared.token.Token.{Token}
@@ -8,8 +11,8 @@ use Rattle.silq_grammar.specs.declared.token.Token.TheVariants.{Name, Number, Fi
 use Rattle.silq_grammar.specs.declared.token.Terminal.{Terminal}
 use Rattle.silq_grammar.specs.declared.token.Terminal.TheVariants as t
 use Rattle.silq_grammar.specs.Grammar.{Expr, Exprs, Stmts, none, more, Stmt, NameList, last_name, and_names, Size, no_size, number_size, named_size, paren_size, Block, Choice}
-use Rattle.silq_grammar.specs.Spelled.{update_sign, expr_text, exprs_text, block_text, choice_text}
-use Rattle.silq_grammar.specs.Trees.{expr_tree, exprs_tree, block_tree, choice_tree}
+use Rattle.silq_grammar.specs.Spelled.{update_sign, names_text, expr_text, exprs_text, block_text, choice_text}
+use Rattle.silq_grammar.specs.Trees.{names_tree, expr_tree, exprs_tree, block_tree, choice_tree}
 
 -- ( ":=" | "+=" | "-=" | "^=" ) expr ";"; no update at ":="
 pub data Change : Type 0 where
@@ -63,3 +66,31 @@ abbrev pub rest_tree : Spot → Rest → tree.Otherwise
 rest_tree end missing = tree.else_block (tree.block tree.done end)
 rest_tree end (with_block o b) = tree.else_block (block_tree b)
 rest_tree end (with_choice o c) = tree.else_choice (choice_tree c)
+
+-- NAME "," NAME { "," NAME } ")"
+pub record SpellsTuple (names : List NameId) (ts rest : List Token) : Type 0 where
+  pub first : NameId
+  pub at : Spot
+  pub comma : Spot
+  pub others : NameList
+  pub close : Spot
+  pub spelled : ts ≡ Name first at ∷ Fixed t.Comma comma ∷ (names_text others ++ (Fixed t.RightParen close ∷ rest))
+  pub named : names ≡ first ∷ names_tree others
+
+-- [ "=" expr ]
+pub data ForgetPart : Type 0 where
+  no_value : ForgetPart
+  a_value : Spot → Expr → ForgetPart
+
+abbrev pub forget_part_text : ForgetPart → List Token
+forget_part_text no_value = []
+forget_part_text (a_value i e) = Fixed t.Is i ∷ expr_text e
+
+abbrev pub forget_part_tree : ForgetPart → Option tree.Expression
+forget_part_tree no_value = None
+forget_part_tree (a_value i e) = Some (expr_tree e)
+
+-- the trees of nodes that may be there
+abbrev pub maybe : (ExprId → tree.Expression) → Option ExprId → Option tree.Expression
+maybe at None = None
+maybe at (Some e) = Some (at e)

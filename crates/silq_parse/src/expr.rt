@@ -1,7 +1,9 @@
 //! Expressions.
 
-ghost use Rattle.std.specs.Prelude.{◌≡◌, ◌+◌, ◌-◌, ◌^◌, ◌<◌, ◌≤◌, List, [], ◌∷◌, length, IfOk, MatchResult};
-ghost use Rattle.silq_tree.specs.Arena.{expr_at};
+ghost use Rattle.std.specs.Prelude.{◌≡◌, ◌+◌, ◌-◌, ◌^◌, ◌<◌, ◌≤◌, List, [], ◌∷◌, ◌++◌, length, IfOk, MatchResult};
+ghost use Rattle.silq_tree.specs.declared.node.Spot.{Spot};
+ghost use Rattle.silq_grammar.specs.declared.token.Token.TheVariants.{Fixed};
+ghost use Rattle.silq_tree.specs.Arena.{IsArena, expr_at};
 ghost use Rattle.silq_tree.specs.Standing.{expressions_of, scalar_of};
 ghost use Rattle.silq_tree.specs.Children.{scalar_exprs};
 ghost use Rattle.silq_grammar.specs.declared.token.Terminal.TheVariants as t;
@@ -24,10 +26,12 @@ pub(crate) fn expr<'t>(
     tokens: &'t [Token],
     room: u32,
 ) -> Result<(ExprId, &'t [Token]), Stop<'t>>
+    requires arena { IsArena tree.old }
     requires nodes { length tree.old.exprs + length tokens.now < 2 ^ 32 - 1 }
     ensures machine { (k : List Symbol) → nest k + room ≡ 64 → MatchResult result (λ p. outcome (an_expr k) tokens.now ≡ outcome k p.1.now)
         (λ stop. StopsAt (outcome (an_expr k) tokens.now) stop) }
     ensures reads { IfOk result (λ p. ReadsExpr expr_text expr_tree tree.old tree.new tokens.now p.0 p.1.now) }
+    ensures arena { IsArena tree.new }
     ensures shorter { IfOk result (λ p. length p.1.now < length tokens.now) }
 {
     Err(Stop::Memory)
@@ -40,10 +44,12 @@ pub(crate) fn exprs<'t>(
     tokens: &'t [Token],
     room: u32,
 ) -> Result<(ExprIds, &'t [Token]), Stop<'t>>
+    requires arena { IsArena tree.old }
     requires nodes { length tree.old.exprs + length tokens.now < 2 ^ 32 - 1 }
     ensures machine { (k : List Symbol) → nest k + room ≡ 64 → MatchResult result (λ p. outcome (exprs k) tokens.now ≡ outcome k p.1.now)
         (λ stop. StopsAt (outcome (exprs k) tokens.now) stop) }
     ensures reads { IfOk result (λ p. ReadsPart exprs_text exprs_tree tree.old tree.new tokens.now (expressions_of (expr_at tree.new) p.0) p.0 [] p.1.now) }
+    ensures arena { IsArena tree.new }
     ensures shorter { IfOk result (λ p. length p.1.now < length tokens.now) }
 {
     Err(Stop::Memory)
@@ -56,9 +62,12 @@ pub(crate) fn arguments<'t>(
     tokens: &'t [Token],
     room: u32,
 ) -> Result<(ExprIds, &'t [Token]), Stop<'t>>
+    requires arena { IsArena tree.old }
     requires nodes { length tree.old.exprs + length tokens.now < 2 ^ 32 - 1 }
     ensures machine { (k : List Symbol) → nest k + room ≡ 64 → MatchResult result (λ p. outcome (Arguments ∷ Closing t.RightParen ∷ k) tokens.now ≡ outcome k p.1.now)
         (λ stop. StopsAt (outcome (Arguments ∷ Closing t.RightParen ∷ k) tokens.now) stop) }
+    ensures reads { IfOk result (λ p. (r : Spot) × ReadsPart (λ a. args_text a ++ (Fixed t.RightParen r ∷ [])) args_tree tree.old tree.new tokens.now (expressions_of (expr_at tree.new) p.0) p.0 [] p.1.now) }
+    ensures arena { IsArena tree.new }
     ensures shorter { IfOk result (λ p. length p.1.now < length tokens.now) }
 {
     Err(Stop::Memory)
@@ -71,10 +80,12 @@ pub(crate) fn scalar<'t>(
     tokens: &'t [Token],
     room: u32,
 ) -> Result<(ScalarNode, &'t [Token]), Stop<'t>>
+    requires arena { IsArena tree.old }
     requires nodes { length tree.old.exprs + length tokens.now < 2 ^ 32 - 1 }
     ensures machine { (k : List Symbol) → nest k + room ≡ 64 → MatchResult result (λ p. outcome (AScalar ∷ k) tokens.now ≡ outcome k p.1.now)
         (λ stop. StopsAt (outcome (AScalar ∷ k) tokens.now) stop) }
     ensures reads { IfOk result (λ p. ReadsPart scalar_text scalar_tree tree.old tree.new tokens.now (scalar_of (expr_at tree.new) p.0) (scalar_exprs p.0) [] p.1.now) }
+    ensures arena { IsArena tree.new }
     ensures shorter { IfOk result (λ p. length p.1.now < length tokens.now) }
 {
     Err(Stop::Memory)
