@@ -18,7 +18,7 @@ use Rattle.silq_grammar.specs.Spelled.{expr_text, stmt_text, names_text}
 use Rattle.silq_grammar.specs.Trees.{expr_tree, stmt_tree, names_tree}
 use Rattle.silq_parse.specs.Grown.{Grew}
 use Rattle.silq_parse.specs.Reads.{IsBounded, ReadsExpr, ReadsStmt, ReadsPart}
-use Rattle.silq_parse.specs.Parts.{Change, change, change_sign, change_text, change_tree, SpellsTuple, ForgetPart, no_value, a_value, forget_part_text, forget_part_tree, maybe}
+use Rattle.silq_parse.specs.Parts.{Change, change, change_sign, change_text, change_tree, SpellsTuple, ForgetPart, no_value, a_value, forget_part_text, forget_part_tree, ReturnPart, nothing, something, return_part_text, return_part_tree, maybe}
 use Rattle.silq_parse.specs.AddedStatement.{IsAddedStmt}
 use Rattle.silq_parse.proofs.Growing.{grew_nothing, grew_then}
 use Rattle.silq_parse.proofs.AddedStatements.{added_stands, added_grew, added_bounded}
@@ -71,26 +71,39 @@ phase_reads {old} {mid} {new} {ts} {r0} {r1} {r2} {rest} {e} {id} at l close end
   bounded = let x = one_more p in let y = one_more q in let z = one_more o in added_bounded r0 r1 (Fixed t.Phase at ∷ ts) rest a r.bounded (omega arith) (omega arith);
 }
 
-pub return_value_reads : {old mid new : Forest} {ts r1 rest : List Token} {e : ExprId} {id : StmtId} (at end : Spot)
-    → ReadsExpr expr_text expr_tree old mid ts e r1 → IsAddedStmt mid new (stmts.Return (Some e) at) id → r1 ≡ Fixed t.Semicolon end ∷ rest
+pub something_reads : {old new : Forest} {ts rest : List Token} {e : ExprId} → ReadsExpr expr_text expr_tree old new ts e rest
+    → ReadsPart return_part_text return_part_tree old new ts (Some (expr_at new e)) (e ∷ []) [] rest
+something_reads {old} {new} {ts} {rest} {e} x = record { derivation = something x.derivation; spelled = x.spelled; stands = ap Some x.stands; grew = x.grew; bounded = x.bounded }
+
+pub nothing_reads : (f : Forest) (ts : List Token) → ReadsPart return_part_text return_part_tree f f ts None [] [] ts
+nothing_reads f ts = record { derivation = nothing; spelled = refl; stands = refl; grew = grew_nothing f; bounded = record { exprs = omega arith; stmts = omega arith } }
+
+return_of : Spot → Spot → ReturnPart → Stmt
+return_of at end nothing = return_nothing at end
+return_of at end (something e) = return_value at e end
+
+return_of_text : (at end : Spot) (d : ReturnPart) → stmt_text (return_of at end d) ≡ Fixed t.Return at ∷ (return_part_text d ++ (Fixed t.Semicolon end ∷ []))
+unfolding return_of
+return_of_text at end nothing = refl
+return_of_text at end (something e) = refl
+
+return_of_tree : (f : ExprId → tree.Expression) (g : StmtId → tree.Statement) (at end : Spot) (v : Option ExprId) (d : ReturnPart) → maybe f v ≡ return_part_tree d
+    → stmt_grown f g (stmts.Return v at) ≡ stmt_tree (return_of at end d)
+unfolding return_of
+return_of_tree f g at end None nothing p = refl
+return_of_tree f g at end None (something e) p = cc
+return_of_tree f g at end (Some x) nothing p = cc
+return_of_tree f g at end (Some x) (something e) p = let q : f x ≡ expr_tree e = cc in ap (λ w. tree.return_value w at) q
+
+pub return_reads : {old mid new : Forest} {ts r1 rest : List Token} {v : Option ExprId} {id : StmtId} (at end : Spot)
+    → ReadsPart return_part_text return_part_tree old mid ts (maybe (expr_at mid) v) (listed v) [] r1 → IsAddedStmt mid new (stmts.Return v at) id → r1 ≡ Fixed t.Semicolon end ∷ rest
     → ReadsStmt stmt_text stmt_tree old new (Fixed t.Return at ∷ ts) id rest
-return_value_reads {old} {mid} {new} {ts} {r1} {rest} {e} {id} at end r a p = record {
-  derivation = return_value at r.derivation end;
-  spelled = ap (λ w. Fixed t.Return at ∷ w) (behind_text (expr_text r.derivation) r.spelled p);
-  stands = added_stands a ∙ ap (λ w. tree.return_value w at) r.stands;
+return_reads {old} {mid} {new} {ts} {r1} {rest} {v} {id} at end r a p = record {
+  derivation = return_of at end r.derivation;
+  spelled = ap (λ w. Fixed t.Return at ∷ w) (behind_text (return_part_text r.derivation) r.spelled p) ∙ ap (λ w. w ++ rest) (sym (return_of_text at end r.derivation));
+  stands = added_stands a ∙ return_of_tree (expr_at mid) (stmt_at mid) at end v r.derivation r.stands;
   grew = added_grew a r.grew;
   bounded = let x = one_more p in added_bounded ts r1 (Fixed t.Return at ∷ ts) rest a r.bounded (omega arith) (omega arith);
-}
-
-pub return_reads : {old new : Forest} {ts rest : List Token} {id : StmtId} (at end : Spot)
-    → IsAddedStmt old new (stmts.Return None at) id → ts ≡ Fixed t.Semicolon end ∷ rest
-    → ReadsStmt stmt_text stmt_tree old new (Fixed t.Return at ∷ ts) id rest
-return_reads {old} {new} {ts} {rest} {id} at end a p = record {
-  derivation = return_nothing at end;
-  spelled = ap (λ w. Fixed t.Return at ∷ w) p;
-  stands = added_stands a;
-  grew = added_grew a (grew_nothing old);
-  bounded = let x = one_more p in added_bounded ts ts (Fixed t.Return at ∷ ts) rest a (record { exprs = omega arith; stmts = omega arith }) (omega arith) (omega arith);
 }
 
 pub spread_reads : {old mid new : Forest} {names : List NameId} {ts r1 r2 r3 rest : List Token} {e : ExprId} {id : StmtId} (at s end : Spot)

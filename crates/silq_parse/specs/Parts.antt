@@ -94,3 +94,30 @@ forget_part_tree (a_value i e) = Some (expr_tree e)
 abbrev pub maybe : (ExprId → tree.Expression) → Option ExprId → Option tree.Expression
 maybe at None = None
 maybe at (Some e) = Some (at e)
+
+-- [ expr ]
+pub data ReturnPart : Type 0 where
+  nothing : ReturnPart
+  something : Expr → ReturnPart
+
+abbrev pub return_part_text : ReturnPart → List Token
+return_part_text nothing = []
+return_part_text (something e) = expr_text e
+
+abbrev pub return_part_tree : ReturnPart → Option tree.Expression
+return_part_tree nothing = None
+return_part_tree (something e) = Some (expr_tree e)
+
+-- "[" expr ".." expr ")"
+pub data Between : Type 0 where
+  between : Spot → Expr → Spot → Expr → Spot → Between
+
+abbrev pub between_text : Between → List Token
+between_text (between l e d f r) = Fixed t.LeftBracket l ∷ (expr_text e ++ (Fixed t.Dots d ∷ (expr_text f ++ (Fixed t.RightParen r ∷ []))))
+
+pub record Range : Type 0 where
+  pub low : tree.Expression
+  pub high : tree.Expression
+
+abbrev pub between_tree : Between → Range
+between_tree (between l e d f r) = record { low = expr_tree e; high = expr_tree f }

@@ -10,7 +10,7 @@ ghost use Rattle.silq_grammar.specs.Outcome.{outcome};
 ghost use Rattle.silq_grammar.specs.Spelled.{stmt_text, expr_text, names_text};
 ghost use Rattle.silq_grammar.specs.Trees.{stmt_tree, expr_tree, names_tree};
 ghost use Rattle.silq_parse.specs.Stops.{StopsAt};
-ghost use Rattle.silq_parse.specs.Parts.{SpellsTuple, forget_part_text, forget_part_tree, maybe};
+ghost use Rattle.silq_parse.specs.Parts.{SpellsTuple, forget_part_text, forget_part_tree, return_part_text, return_part_tree, maybe};
 ghost use Rattle.silq_parse.specs.Reads.{ReadsExpr, ReadsStmt, ReadsPart};
 
 use crate::expr::expr;
@@ -60,7 +60,8 @@ pub(crate) fn spread<'t>(
     requires arena { IsArena tree.old }
     requires exprs { length tree.old.exprs + length tokens.now < 2 ^ 32 - 1 }
     requires stmts { length tree.old.stmts + length tokens.now < 2 ^ 32 - 1 }
-    ensures machine { (k : List Symbol) → nest k + 1 + room ≡ 64 → MatchResult result (λ p. outcome (AnyName ∷ Expect t.Comma ∷ AnyName ∷ MoreNames ∷ Closing t.RightParen ∷ Expect t.Becomes ∷ value k) tokens.now ≡ outcome k p.1.now)
+    requires inside { 1 ≤ room }
+    ensures machine { (k : List Symbol) → nest k + room ≡ 64 → MatchResult result (λ p. outcome (AnyName ∷ Expect t.Comma ∷ AnyName ∷ MoreNames ∷ Closing t.RightParen ∷ Expect t.Becomes ∷ value k) tokens.now ≡ outcome k p.1.now)
         (λ stop. StopsAt (outcome (AnyName ∷ Expect t.Comma ∷ AnyName ∷ MoreNames ∷ Closing t.RightParen ∷ Expect t.Becomes ∷ value k) tokens.now) stop) }
     ensures reads { IfOk result (λ p. ReadsStmt stmt_text stmt_tree tree.old tree.new (Fixed t.LeftParen at ∷ tokens.now) p.0 p.1.now) }
     ensures arena { IsArena tree.new }
@@ -68,7 +69,7 @@ pub(crate) fn spread<'t>(
 {
     let (names, rest) = tuple_names(alloc, tokens)?;
     let (_, rest) = sign(rest, Terminal::Becomes)?;
-    let (value, rest) = expr(alloc, tree, rest, room + 1)?;
+    let (value, rest) = expr(alloc, tree, rest, room)?;
     let (_, rest) = sign(rest, Terminal::Semicolon)?;
     let id = add_statement(tree, Stmt::Spread { names, value, at })?;
     Ok((id, rest))
@@ -158,6 +159,31 @@ pub(crate) fn phase<'t>(
     Ok((id, rest))
 }
 
+/// The value of a return, or none where the semicolon follows.
+#[tactic(auto, unfolding(silq_grammar::specs::Outcome::outcome))]
+fn return_value<'t>(
+    alloc: Global,
+    tree: &mut Tree,
+    tokens: &'t [Token],
+    room: u32,
+) -> Result<(Option<ExprId>, &'t [Token]), Stop<'t>>
+    requires arena { IsArena tree.old }
+    requires exprs { length tree.old.exprs + length tokens.now < 2 ^ 32 - 1 }
+    ensures machine { (k : List Symbol) → nest k + room ≡ 64 → MatchResult result (λ p. outcome (ReturnValue ∷ Expect t.Semicolon ∷ k) tokens.now ≡ outcome (Expect t.Semicolon ∷ k) p.1.now)
+        (λ stop. StopsAt (outcome (ReturnValue ∷ Expect t.Semicolon ∷ k) tokens.now) stop) }
+    ensures reads { IfOk result (λ p. ReadsPart return_part_text return_part_tree tree.old tree.new tokens.now (maybe (expr_at tree.new) p.0) (listed p.0) [] p.1.now) }
+    ensures arena { IsArena tree.new }
+    ensures no_longer { IfOk result (λ p. length p.1.now ≤ length tokens.now) }
+{
+    match tokens {
+        [Token::Fixed(Terminal::Semicolon, _), ..] => Ok((None, tokens)),
+        _ => {
+            let (value, rest) = expr(alloc, tree, tokens, room)?;
+            Ok((Some(value), rest))
+        }
+    }
+}
+
 /// A return, from behind its word.
 #[tactic(auto, unfolding(silq_grammar::specs::Outcome::outcome))]
 pub(crate) fn return_rest<'t>(
@@ -176,19 +202,9 @@ pub(crate) fn return_rest<'t>(
     ensures arena { IsArena tree.new }
     ensures shorter { IfOk result (λ p. length p.1.now < length tokens.now) }
 {
-    if let [Token::Fixed(Terminal::Semicolon, _end), rest @ ..] = tokens {
-        let id = add_statement(tree, Stmt::Return { value: None, at })?;
-        return Ok((id, rest));
-    }
-    let (value, rest) = expr(alloc, tree, tokens, room)?;
+    let (value, rest) = return_value(alloc, tree, tokens, room)?;
     let (_, rest) = sign(rest, Terminal::Semicolon)?;
-    let id = add_statement(
-        tree,
-        Stmt::Return {
-            value: Some(value),
-            at,
-        },
-    )?;
+    let id = add_statement(tree, Stmt::Return { value, at })?;
     Ok((id, rest))
 }
 

@@ -7,21 +7,20 @@ use Rattle.silq_grammar.specs.Machine.{Symbol, Expect, AnyName, Closing, Ends, F
 use Rattle.silq_grammar.specs.declared.token.Terminal.TheVariants as t
 use Rattle.silq_grammar.specs.declared.token.Token.TheVariants.{Name, Number, Fixed}
 use Rattle.silq_parse.proofs.Exits.{stops, stops_behind, behind}
-use Rattle.silq_parse.proofs.SimpleReads.{change_reads, forget_value_reads, no_value_reads, phase_reads, return_value_reads, return_reads, spread_reads, forget_reads}
+use Rattle.silq_parse.proofs.SimpleReads.{change_reads, forget_value_reads, no_value_reads, phase_reads, something_reads, nothing_reads, return_reads, spread_reads, forget_reads}
 use Rattle.silq_parse.proofs.simple.return_rest.Goals as goal
 
 pub returns-in_err-value-clause-machine : goal.returns-in_err-value-clause-machine
-unfolding outcome
 returns-in_err-value-clause-machine c = λ k h.
-    stops_behind _ _ _ _ _ _ c.from_residual-in_err-value.ensures.1 (refl) (c.in_err-value.ensures.machine (Expect t.Semicolon ∷ k) (omega arith)) (grind (arith, common_steps))
+    stops _ _ _ _ _ c.from_residual.ensures.1 (refl) (c.in_err-value.ensures.machine (k) (omega arith))
 
 pub returns-in_err-rest-clause-machine : goal.returns-in_err-rest-clause-machine
-unfolding outcome
 returns-in_err-rest-clause-machine c = λ k h.
-    stops_behind _ _ _ _ _ _ c.from_residual-in_err-rest.ensures.1 ((c.in_ok-value.ensures.machine (Expect t.Semicolon ∷ k) (omega arith))) (c.in_err-rest.ensures.machine (k) (omega arith)) (search rules)
+    stops _ _ _ _ _ c.from_residual-in_err-rest.ensures.1 ((c.in_ok-value.ensures.machine (k) (omega arith))) (c.in_err-rest.ensures.machine (k) (omega arith))
 
-pub returns-in-Fixed-clause-reads : goal.returns-in-Fixed-clause-reads
-returns-in-Fixed-clause-reads c = return_reads c.args.at c.in-Fixed._end c.in_ok-id.ensures.added (grind (arith, common_steps))
+pub returns-clause-machine : goal.returns-clause-machine
+returns-clause-machine c = λ k h.
+    (c.in_ok-value.ensures.machine (k) (omega arith)) ∙ (c.in_ok-rest.ensures.machine (k) (omega arith))
 
 pub returns-clause-reads : goal.returns-clause-reads
-returns-clause-reads c = return_value_reads c.args.at _ c.in_ok-value.ensures.reads c.in_ok-id-2.ensures.added c.in_ok-rest.ensures.token
+returns-clause-reads c = return_reads c.args.at _ c.in_ok-value.ensures.reads c.in_ok-id.ensures.added c.in_ok-rest.ensures.token

@@ -7,7 +7,7 @@ use Rattle.silq_grammar.specs.Machine.{Symbol, Expect, AnyName, Closing, Ends, F
 use Rattle.silq_grammar.specs.declared.token.Terminal.TheVariants as t
 use Rattle.silq_grammar.specs.declared.token.Token.TheVariants.{Name, Number, Fixed}
 use Rattle.silq_parse.proofs.Exits.{stops, stops_behind, behind}
-use Rattle.silq_parse.proofs.SimpleReads.{change_reads, forget_value_reads, no_value_reads, phase_reads, return_value_reads, return_reads, spread_reads, forget_reads}
+use Rattle.silq_parse.proofs.SimpleReads.{change_reads, forget_value_reads, no_value_reads, phase_reads, something_reads, nothing_reads, return_reads, spread_reads, forget_reads}
 use Rattle.silq_parse.proofs.simple.spread.Goals as goal
 
 pub returns-in_err-names-clause-machine : goal.returns-in_err-names-clause-machine
