@@ -5,3 +5,4 @@ pub mod Stands
 pub mod Stops
 pub mod Grown
 pub mod Reads
+pub mod Added

@@ -2,6 +2,9 @@
 //! The parser of Silq: the program that a text is, or its first fault.
 
 pub mod fault;
+mod node;
+mod operator;
+mod sign;
 mod stop;
 
 pub use fault::ParseFault;
