@@ -1,2 +1,4 @@
 pub mod Growing
 pub mod Signs
+pub mod Firsts
+pub mod Reading
