@@ -1,6 +1,7 @@
 #![tactic(auto)]
 //! The parser of Silq: the program that a text is, or its first fault.
 
+mod expr;
 pub mod fault;
 mod node;
 mod operator;
