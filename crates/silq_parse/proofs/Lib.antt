@@ -2,3 +2,4 @@ pub mod Growing
 pub mod Signs
 pub mod Firsts
 pub mod Reading
+pub mod Passed

@@ -6,3 +6,4 @@ pub mod Stops
 pub mod Grown
 pub mod Reads
 pub mod Added
+pub mod Targets

@@ -10,8 +10,10 @@ ghost use Rattle.silq_parse.specs.Stops.{StopsAt};
 ghost use Rattle.silq_parse.specs.Reads.{ReadsExpr};
 
 use crate::node::{add_binary, first_spot};
-use crate::operator::{and_operator, comparison_operator, or_operator, prod_operator, sum_operator};
-use crate::stop::{deeper, Stop};
+use crate::operator::{
+    and_operator, comparison_operator, or_operator, prod_operator, sum_operator,
+};
+use crate::stop::{Stop, deeper};
 use silq_grammar::Token;
 use silq_tree::{ExprId, Tree};
 use std::alloc::Global;

@@ -5,8 +5,10 @@ mod expr;
 pub mod fault;
 mod node;
 mod operator;
+mod scalar;
 mod sign;
 mod stop;
+mod target;
 
 pub use fault::ParseFault;
 pub use silq_tree::Program;
