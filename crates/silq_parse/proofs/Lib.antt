@@ -3,3 +3,4 @@ pub mod Signs
 pub mod Firsts
 pub mod Reading
 pub mod Passed
+pub mod Atoms

@@ -36,7 +36,7 @@ grew_by {old} {mid} {new} e id g a = rw a.is (grew_expr e id a.arena g a.number)
 pub one_more : {old new : Forest} (e : Expr) (id : ExprId) → IsAdded old new e id → length new.exprs ≡ length old.exprs + 1
 one_more {old} {new} e id a = let h = ap (λ f. length f.exprs) a.is in let l = length-append old.exprs (e ∷ []) in omega (arith, h, l)
 
-same_stmts : {old new : Forest} (e : Expr) (id : ExprId) → IsAdded old new e id → length new.stmts ≡ length old.stmts
+pub same_stmts : {old new : Forest} (e : Expr) (id : ExprId) → IsAdded old new e id → length new.stmts ≡ length old.stmts
 same_stmts e id a = ap (λ f. length f.stmts) a.is
 
 -- an operand, an operator and an operand

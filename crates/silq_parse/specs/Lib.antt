@@ -6,4 +6,5 @@ pub mod Stops
 pub mod Grown
 pub mod Reads
 pub mod Added
+pub mod Groups
 pub mod Targets

@@ -3,6 +3,7 @@
 
 mod expr;
 pub mod fault;
+mod list;
 mod node;
 mod operator;
 mod scalar;
