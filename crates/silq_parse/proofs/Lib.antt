@@ -4,3 +4,4 @@ pub mod Firsts
 pub mod Reading
 pub mod Passed
 pub mod Atoms
+pub mod Named

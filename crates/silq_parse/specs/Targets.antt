@@ -1,5 +1,8 @@
 -- A place or a call, behind the name with which it begins.
 use Rattle.std.specs.Prelude.{◌≡◌, List, [], ◌∷◌}
+use Rattle.silq_tree.specs.declared.node.ExprId.{ExprId}
+use Rattle.silq_tree.specs.declared.node.Spot.{Spot}
+use Rattle.silq_tree.specs.declared.node.Expr.TheVariants as exprs
 use Rattle.silq_tree.specs.Standing.{place_of}
 use Rattle.silq_tree.specs.Children.{place_exprs, HasFirst}
 use Rattle.silq_tree.specs.Arena.{Forest, expr_at}
@@ -9,6 +12,7 @@ use Rattle.silq_grammar.specs.Machine.{Symbol, Assigns, Expect}
 use Rattle.silq_grammar.specs.Spelled.{place_text, call_text}
 use Rattle.silq_grammar.specs.Trees.{place_tree, call_tree}
 use Rattle.silq_parse.specs.Reads.{IsBounded, ReadsExpr, ReadsPart}
+use Rattle.silq_parse.specs.Added.{IsAdded}
 use Rattle.silq_parse.specs.declared.target.Target.{Target}
 use Rattle.silq_parse.specs.declared.target.Target.TheVariants as targets
 
@@ -22,3 +26,17 @@ ReadsTarget old new name ts (targets.Call id) rest = ReadsExpr call_text call_tr
 abbrev pub behind_target : Target → List Symbol → List Symbol
 behind_target (targets.Place p) k = Assigns ∷ k
 behind_target (targets.Call id) k = Expect t.Semicolon ∷ k
+
+-- the expressions that it names, or it itself
+abbrev pub target_ids : Target → List ExprId
+target_ids (targets.Place p) = place_exprs p
+target_ids (targets.Call id) = id ∷ []
+
+abbrev pub TargetHasFirst : Target → Type 0
+TargetHasFirst (targets.Place p) = HasFirst p
+TargetHasFirst (targets.Call id) = Unit {0}
+
+-- a place as a new expression; a call is one
+abbrev pub IsMade : Forest → Forest → Target → Spot → ExprId → Type 0
+IsMade old new (targets.Place p) at id = IsAdded old new (exprs.Place p at) id
+IsMade old new (targets.Call e) at id = (id ≡ e) × (new ≡ old)
