@@ -12,6 +12,7 @@ use Rattle.silq_tree.specs.Arena.{Forest, expr_at, stmt_at, expr_parents, stmt_p
 use Rattle.silq_tree.proofs.Lists.{exprs_below_more, stmts_below_more}
 use Rattle.silq_tree.proofs.Arenas.{expr_parents-with_expr, expr_parents-with_stmt, stmt_parents-with_stmt, kept_with_expr, kept_with_stmt}
 use Rattle.silq_parse.specs.Grown.{Grew}
+use Rattle.silq_parse.specs.Added.{AreFree}
 
 -- counts
 expr_count-append : (id : ExprId) (xs ys : List ExprId) → expr_count id (xs ++ ys) ≡ expr_count id xs + expr_count id ys
@@ -213,3 +214,7 @@ pub statements_kept : {old new : Forest} (ids : List StmtId) → KeepsTrees old 
     → statements_of (expr_at new) (stmt_at new) ids ≡ statements_of (expr_at old) (stmt_at old) ids
 statements_kept [] k b = refl
 statements_kept (id ∷ ids) k b = let e = k.stmts id b.0 in let f = statements_kept ids k b.1 in cc
+
+-- the roots so far may get a parent
+pub free : {old mid : Forest} {xs : List ExprId} {ss : List StmtId} → IsArena mid → Grew old mid xs ss → AreFree mid xs
+free a g = record { there = g.exprs_there; parents = may_name a g }

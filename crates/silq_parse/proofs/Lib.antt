@@ -1,6 +1,7 @@
 pub mod Growing
 pub mod Signs
-pub mod Exits
-pub mod AddedStatements
-pub mod SimpleReads
-pub mod TupleNames
+pub mod Firsts
+pub mod Reading
+pub mod Passed
+pub mod Atoms
+pub mod Named

@@ -5,7 +5,6 @@ pub mod Stands
 pub mod Stops
 pub mod Grown
 pub mod Reads
-pub mod Parts
-pub mod Targets
 pub mod Added
-pub mod AddedStatement
+pub mod Groups
+pub mod Targets

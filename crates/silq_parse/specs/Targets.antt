@@ -1,36 +1,42 @@
--- What a statement that begins with a name begins with.
-use Rattle.std.specs.Prelude.{List, [], ◌∷◌}
+-- A place or a call, behind the name with which it begins.
+use Rattle.std.specs.Prelude.{◌≡◌, List, [], ◌∷◌}
 use Rattle.silq_tree.specs.declared.node.ExprId.{ExprId}
-use Rattle.silq_tree.specs.Arena.{Forest, expr_at}
+use Rattle.silq_tree.specs.declared.node.Spot.{Spot}
+use Rattle.silq_tree.specs.declared.node.Expr.TheVariants as exprs
 use Rattle.silq_tree.specs.Standing.{place_of}
-use Rattle.silq_tree.specs.Children.{place_exprs}
+use Rattle.silq_tree.specs.Children.{place_exprs, HasFirst}
+use Rattle.silq_tree.specs.Arena.{Forest, expr_at}
 use Rattle.silq_grammar.specs.declared.token.Token.{Token}
 use Rattle.silq_grammar.specs.declared.token.Terminal.TheVariants as t
-use Rattle.silq_grammar.specs.Machine.{Symbol, Expect, StartIndex, Assigns, CallPart}
+use Rattle.silq_grammar.specs.Machine.{Symbol, Assigns, Expect}
 use Rattle.silq_grammar.specs.Spelled.{place_text, call_text}
 use Rattle.silq_grammar.specs.Trees.{place_tree, call_tree}
-use Rattle.silq_parse.specs.declared.named.Target.{Target}
-use Rattle.silq_parse.specs.declared.named.Target.TheVariants as targets
-use Rattle.silq_parse.specs.declared.named.Bracket.{Bracket}
-use Rattle.silq_parse.specs.declared.named.Bracket.TheVariants as brackets
-use Rattle.silq_parse.specs.Reads.{ReadsExpr, ReadsPart}
+use Rattle.silq_parse.specs.Reads.{IsBounded, ReadsExpr, ReadsPart}
+use Rattle.silq_parse.specs.Added.{IsAdded}
+use Rattle.silq_parse.specs.declared.target.Target.{Target}
+use Rattle.silq_parse.specs.declared.target.Target.TheVariants as targets
 
--- a place, or a call
-abbrev pub ReadsTarget : Forest → Forest → List Token → Target → List Token → Type 0
-ReadsTarget old new ts (targets.Place p) rest = ReadsPart place_text place_tree old new ts (place_of (expr_at new) p) (place_exprs p) [] rest
-ReadsTarget old new ts (targets.Call c) rest = ReadsExpr call_text call_tree old new ts c rest
+-- the name and the tokens up to the rest spell the place, or the call, for which the new nodes stand
+abbrev pub ReadsTarget : Forest → Forest → Token → List Token → Target → List Token → Type 0
+ReadsTarget old new name ts (targets.Place p) rest =
+    ReadsPart place_text place_tree old new (name ∷ ts) (place_of (expr_at new) p) (place_exprs p) [] rest × HasFirst p × IsBounded old new ts rest
+ReadsTarget old new name ts (targets.Call id) rest = ReadsExpr call_text call_tree old new (name ∷ ts) id rest
 
--- what is expected behind it
-abbrev pub behind : Target → List Symbol → List Symbol
-behind (targets.Place p) k = Assigns ∷ k
-behind (targets.Call c) k = Expect t.Semicolon ∷ k
+-- what comes behind it where a statement begins with it
+abbrev pub behind_target : Target → List Symbol → List Symbol
+behind_target (targets.Place p) k = Assigns ∷ k
+behind_target (targets.Call id) k = Expect t.Semicolon ∷ k
 
--- what is expected behind the first bracket
-abbrev pub behind_bracket : Bracket → List Symbol → List Symbol
-behind_bracket (brackets.Index e) k = StartIndex ∷ k
-behind_bracket (brackets.Statics es) k = CallPart ∷ Expect t.Semicolon ∷ k
+-- the expressions that it names, or it itself
+abbrev pub target_ids : Target → List ExprId
+target_ids (targets.Place p) = place_exprs p
+target_ids (targets.Call id) = id ∷ []
 
--- the expressions in it
-abbrev pub bracket_ids : Bracket → List ExprId
-bracket_ids (brackets.Index e) = e ∷ []
-bracket_ids (brackets.Statics es) = es
+abbrev pub TargetHasFirst : Target → Type 0
+TargetHasFirst (targets.Place p) = HasFirst p
+TargetHasFirst (targets.Call id) = Unit {0}
+
+-- a place as a new expression; a call is one
+abbrev pub IsMade : Forest → Forest → Target → Spot → ExprId → Type 0
+IsMade old new (targets.Place p) at id = IsAdded old new (exprs.Place p at) id
+IsMade old new (targets.Call e) at id = (id ≡ e) × (new ≡ old)

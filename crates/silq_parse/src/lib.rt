@@ -2,13 +2,14 @@
 //! The parser of Silq: the program that a text is, or its first fault.
 
 mod expr;
-mod named;
-mod node;
 pub mod fault;
+mod list;
+mod node;
+mod operator;
+mod scalar;
 mod sign;
-mod simple;
-mod statement;
 mod stop;
+mod target;
 
 pub use fault::ParseFault;
 pub use silq_tree::Program;

@@ -4,10 +4,12 @@ ghost use Rattle.std.specs.Prelude.{◌≡◌, ◌+◌, ◌-◌, ◌^◌, ◌<�
 ghost use Rattle.silq_tree.specs.Arena.{IsArena};
 ghost use Rattle.silq_tree.specs.Children.{expr_exprs, ExprHasFirst};
 ghost use Rattle.silq_tree.specs.declared.node.Expr.TheVariants as exprs;
+ghost use Rattle.silq_grammar.specs.Tokens.{spot_of, first_spot};
 ghost use Rattle.silq_parse.specs.Added.{AreFree, IsAdded};
 ghost use Rattle.silq_parse.specs.declared.stop.Stop.TheVariants as stops;
 
 use crate::stop::Stop;
+use silq_grammar::Token;
 use silq_tree::{BinaryOp, Expr, ExprId, Spot, Tree};
 
 /// Adds an expression.
@@ -47,4 +49,25 @@ pub(crate) fn add_binary<'t>(
             at,
         },
     )
+}
+
+/// The place of a token.
+fn spot_of(token: &Token) -> Spot
+    ensures { result ≡ spot_of token.now }
+{
+    match token {
+        Token::Name(_, at) => *at,
+        Token::Number(_, at) => *at,
+        Token::Fixed(_, at) => *at,
+    }
+}
+
+/// The place of the first token; where there is none, any.
+pub(crate) fn first_spot(tokens: &[Token]) -> Spot
+    ensures { result ≡ first_spot tokens.now }
+{
+    match tokens {
+        [first, ..] => spot_of(first),
+        [] => Spot { line: 0, col: 0 },
+    }
 }
