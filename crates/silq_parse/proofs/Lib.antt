@@ -5,3 +5,7 @@ pub mod Reading
 pub mod Passed
 pub mod Atoms
 pub mod Named
+pub mod Exits
+pub mod AddedStatements
+pub mod SimpleReads
+pub mod TupleNames

@@ -8,3 +8,5 @@ pub mod Reads
 pub mod Added
 pub mod Groups
 pub mod Targets
+pub mod Parts
+pub mod AddedStatement

@@ -3,16 +3,18 @@ use Rattle.std.specs.Prelude.{◌≡◌, List, [], ◌∷◌, ◌++◌, Option, 
 use Rattle.silq_tree.specs.declared.node.Spot.{Spot}
 use Rattle.silq_tree.specs.declared.node.NameId.{NameId}
 use Rattle.silq_tree.specs.declared.node.ExprId.{ExprId}
-use Rattle.silq_tree.specs.Arena.{Forest}
+use Rattle.silq_tree.specs.declared.node.PlaceNode.{PlaceNode}
+use Rattle.silq_tree.specs.declared.node.Stmt as stmts
+use Rattle.silq_tree.specs.declared.node.Stmt.TheVariants as nodes
 use Rattle.silq_tree.specs.declared.node.UpdateOp.{UpdateOp}
 use Rattle.silq_tree.specs.Syntax as tree
 use Rattle.silq_grammar.specs.declared.token.Token.{Token}
 use Rattle.silq_grammar.specs.declared.token.Token.TheVariants.{Name, Number, Fixed}
 use Rattle.silq_grammar.specs.declared.token.Terminal.{Terminal}
 use Rattle.silq_grammar.specs.declared.token.Terminal.TheVariants as t
-use Rattle.silq_grammar.specs.Grammar.{Expr, Exprs, Stmts, none, more, Stmt, NameList, last_name, and_names, Size, no_size, number_size, named_size, paren_size, Block, Choice}
-use Rattle.silq_grammar.specs.Spelled.{update_sign, names_text, expr_text, exprs_text, block_text, choice_text}
-use Rattle.silq_grammar.specs.Trees.{names_tree, expr_tree, exprs_tree, block_tree, choice_tree}
+use Rattle.silq_grammar.specs.Grammar.{Expr, NameList, Size, no_size, number_size, named_size, paren_size, Block, Choice}
+use Rattle.silq_grammar.specs.Spelled.{update_sign, names_text, expr_text, block_text, choice_text}
+use Rattle.silq_grammar.specs.Trees.{names_tree, expr_tree, block_tree, choice_tree}
 
 -- ( ":=" | "+=" | "-=" | "^=" ) expr ";"; no update at ":="
 pub data Change : Type 0 where
@@ -32,16 +34,6 @@ pub record Changed : Type 0 where
 
 abbrev pub change_tree : Change → Changed
 change_tree (change op s e end) = record { op = op; value = expr_tree e }
-
--- expr { "," expr } "]"
-pub data Bracketed : Type 0 where
-  bracketed : Exprs → Spot → Bracketed
-
-abbrev pub bracketed_text : Bracketed → List Token
-bracketed_text (bracketed es r) = exprs_text es ++ (Fixed t.RightBracket r ∷ [])
-
-abbrev pub bracketed_tree : Bracketed → tree.Expressions
-bracketed_tree (bracketed es r) = exprs_tree es
 
 -- the tree of a size
 abbrev pub size_tree : Size → Option tree.Expression
@@ -121,3 +113,8 @@ pub record Range : Type 0 where
 
 abbrev pub between_tree : Between → Range
 between_tree (between l e d f r) = record { low = expr_tree e; high = expr_tree f }
+
+-- the node of an assignment, or of an update
+abbrev pub changed_node : PlaceNode → Option UpdateOp → ExprId → Spot → stmts.Stmt
+changed_node place None value at = nodes.Assign place value at
+changed_node place (Some op) value at = nodes.Update place op value at

@@ -16,7 +16,7 @@ ghost use Rattle.silq_parse.specs.Parts.{Between, between_text, between_tree, re
 ghost use Rattle.silq_parse.specs.Reads.{ReadsExpr, ReadsStmt, ReadsPart};
 
 use crate::expr::expr;
-use crate::named::named;
+use crate::assign::named;
 use crate::sign::{name, sign};
 use crate::simple::{forget, phase, return_rest, spread};
 use crate::statement::add_statement;
@@ -40,7 +40,7 @@ fn statements<'t>(
     ensures machine { (k : List Symbol) → nest k + room ≡ 64 → MatchResult result (λ p. outcome (Statements ∷ k) tokens.now ≡ outcome k p.1.now)
         (λ stop. StopsAt (outcome (Statements ∷ k) tokens.now) stop) }
     ensures reads { IfOk result (λ p. ReadsPart stmts_text stmts_tree tree.old tree.new tokens.now (statements_of (expr_at tree.new) (stmt_at tree.new) p.0) [] p.0 p.1.now) }
-    ensures arena { IsArena tree.new }
+    ensures arena { OnOk result (IsArena tree.new) }
     ensures no_longer { IfOk result (λ p. length p.1.now ≤ length tokens.now) }
 {
     let mut items = StmtIds::new(alloc);
@@ -68,7 +68,7 @@ fn statement<'t>(
         (λ p. outcome (Statements ∷ k) tokens.now ≡ outcome (Statements ∷ k) p.1.now)) (λ stop. StopsAt (outcome (Statements ∷ k) tokens.now) stop) }
     ensures reads { IfOk result (λ o. MatchOption o (tree.new ≡ tree.old) (λ p. ReadsStmt stmt_text stmt_tree tree.old tree.new tokens.now p.0 p.1.now)) }
     ensures shorter { IfOk result (λ o. MatchOption o ⊤ (λ p. length p.1.now < length tokens.now)) }
-    ensures arena { IsArena tree.new }
+    ensures arena { OnOk result (IsArena tree.new) }
 {
     let p = match tokens {
         [Token::Name(name, at), rest @ ..] => named(alloc, tree, rest, *name, *at, room)?,
@@ -103,7 +103,7 @@ fn inner<'t>(
     ensures machine { (k : List Symbol) → nest k + 1 + room ≡ 64 → MatchResult result (λ p. outcome (Statements ∷ Closing t.RightBrace ∷ k) tokens.now ≡ outcome k p.1.now)
         (λ stop. StopsAt (outcome (Statements ∷ Closing t.RightBrace ∷ k) tokens.now) stop) }
     ensures reads { (l : Spot) → IfOk result (λ p. ReadsPart block_text block_tree tree.old tree.new (Fixed t.LeftBrace l ∷ tokens.now) (block_of (expr_at tree.new) (stmt_at tree.new) p.0) [] p.0.items p.1.now) }
-    ensures arena { IsArena tree.new }
+    ensures arena { OnOk result (IsArena tree.new) }
     ensures shorter { IfOk result (λ p. length p.1.now < length tokens.now) }
 {
     let (items, rest) = statements(alloc, tree, tokens, room)?;
@@ -126,7 +126,7 @@ pub(crate) fn block<'t>(
     ensures machine { (k : List Symbol) → nest k + room ≡ 64 → MatchResult result (λ p. outcome (ABlock ∷ k) tokens.now ≡ outcome k p.1.now)
         (λ stop. StopsAt (outcome (ABlock ∷ k) tokens.now) stop) }
     ensures reads { IfOk result (λ p. ReadsPart block_text block_tree tree.old tree.new tokens.now (block_of (expr_at tree.new) (stmt_at tree.new) p.0) [] p.0.items p.1.now) }
-    ensures arena { IsArena tree.new }
+    ensures arena { OnOk result (IsArena tree.new) }
     ensures shorter { IfOk result (λ p. length p.1.now < length tokens.now) }
 {
     let [Token::Fixed(Terminal::LeftBrace, _open), rest @ ..] = tokens else {
@@ -152,7 +152,7 @@ fn choice<'t>(
     ensures machine { (k : List Symbol) → nest k + room ≡ 64 → MatchResult result (λ p. outcome (an_expr (ABlock ∷ ElseRest ∷ k)) tokens.now ≡ outcome k p.1.now)
         (λ stop. StopsAt (outcome (an_expr (ABlock ∷ ElseRest ∷ k)) tokens.now) stop) }
     ensures reads { IfOk result (λ p. ReadsStmt choice_text choice_tree tree.old tree.new (Fixed t.If at ∷ tokens.now) p.0 p.1.now) }
-    ensures arena { IsArena tree.new }
+    ensures arena { OnOk result (IsArena tree.new) }
     ensures shorter { IfOk result (λ p. length p.1.now < length tokens.now) }
 {
     let (cond, rest) = expr(alloc, tree, tokens, room)?;
@@ -186,7 +186,7 @@ fn else_rest<'t>(
     ensures machine { (k : List Symbol) → nest k + room ≡ 64 → MatchResult result (λ p. outcome (ElseRest ∷ k) tokens.now ≡ outcome k p.1.now)
         (λ stop. StopsAt (outcome (ElseRest ∷ k) tokens.now) stop) }
     ensures reads { IfOk result (λ p. ReadsPart rest_text (rest_tree end) tree.old tree.new tokens.now (otherwise_of (expr_at tree.new) (stmt_at tree.new) p.0) [] (else_stmts p.0) p.1.now) }
-    ensures arena { IsArena tree.new }
+    ensures arena { OnOk result (IsArena tree.new) }
     ensures no_longer { IfOk result (λ p. length p.1.now ≤ length tokens.now) }
 {
     match tokens {
@@ -215,7 +215,7 @@ fn else_body<'t>(
     ensures machine { (k : List Symbol) → nest k + room ≡ 64 → MatchResult result (λ p. outcome (ElseBody ∷ k) tokens.now ≡ outcome k p.1.now)
         (λ stop. StopsAt (outcome (ElseBody ∷ k) tokens.now) stop) }
     ensures reads { IfOk result (λ p. ReadsPart rest_text (rest_tree end) tree.old tree.new (Fixed t.Else at ∷ tokens.now) (otherwise_of (expr_at tree.new) (stmt_at tree.new) p.0) [] (else_stmts p.0) p.1.now) }
-    ensures arena { IsArena tree.new }
+    ensures arena { OnOk result (IsArena tree.new) }
     ensures shorter { IfOk result (λ p. length p.1.now < length tokens.now) }
 {
     match tokens {
@@ -246,7 +246,7 @@ fn bounds<'t>(
     ensures machine { (k : List Symbol) → nest k + room ≡ 64 → MatchResult result (λ p. outcome (Bounds ∷ k) tokens.now ≡ outcome k p.2.now)
         (λ stop. StopsAt (outcome (Bounds ∷ k) tokens.now) stop) }
     ensures reads { IfOk result (λ p. ReadsPart between_text between_tree tree.old tree.new tokens.now (record { low = expr_at tree.new p.0; high = expr_at tree.new p.1 }) (p.0 ∷ p.1 ∷ []) [] p.2.now) }
-    ensures arena { IsArena tree.new }
+    ensures arena { OnOk result (IsArena tree.new) }
     ensures shorter { IfOk result (λ p. length p.2.now < length tokens.now) }
 {
     let [Token::Fixed(Terminal::LeftBracket, _open), rest @ ..] = tokens else {
@@ -276,7 +276,7 @@ fn loop_rest<'t>(
     ensures machine { (k : List Symbol) → nest k + room ≡ 64 → MatchResult result (λ p. outcome (AnyName ∷ Expect t.In ∷ Bounds ∷ ABlock ∷ k) tokens.now ≡ outcome k p.1.now)
         (λ stop. StopsAt (outcome (AnyName ∷ Expect t.In ∷ Bounds ∷ ABlock ∷ k) tokens.now) stop) }
     ensures reads { IfOk result (λ p. ReadsStmt stmt_text stmt_tree tree.old tree.new (Fixed t.For at ∷ tokens.now) p.0 p.1.now) }
-    ensures arena { IsArena tree.new }
+    ensures arena { OnOk result (IsArena tree.new) }
     ensures shorter { IfOk result (λ p. length p.1.now < length tokens.now) }
 {
     let (name, _, rest) = name(tokens)?;

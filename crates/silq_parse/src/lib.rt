@@ -1,13 +1,18 @@
 #![tactic(auto)]
 //! The parser of Silq: the program that a text is, or its first fault.
 
+mod assign;
+mod block;
 mod expr;
 pub mod fault;
 mod list;
+
 mod node;
 mod operator;
 mod scalar;
 mod sign;
+mod simple;
+mod statement;
 mod stop;
 mod target;
 

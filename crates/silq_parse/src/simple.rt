@@ -64,7 +64,7 @@ pub(crate) fn spread<'t>(
     ensures machine { (k : List Symbol) → nest k + room ≡ 64 → MatchResult result (λ p. outcome (AnyName ∷ Expect t.Comma ∷ AnyName ∷ MoreNames ∷ Closing t.RightParen ∷ Expect t.Becomes ∷ value k) tokens.now ≡ outcome k p.1.now)
         (λ stop. StopsAt (outcome (AnyName ∷ Expect t.Comma ∷ AnyName ∷ MoreNames ∷ Closing t.RightParen ∷ Expect t.Becomes ∷ value k) tokens.now) stop) }
     ensures reads { IfOk result (λ p. ReadsStmt stmt_text stmt_tree tree.old tree.new (Fixed t.LeftParen at ∷ tokens.now) p.0 p.1.now) }
-    ensures arena { IsArena tree.new }
+    ensures arena { OnOk result (IsArena tree.new) }
     ensures shorter { IfOk result (λ p. length p.1.now < length tokens.now) }
 {
     let (names, rest) = tuple_names(alloc, tokens)?;
@@ -88,7 +88,7 @@ fn forget_value<'t>(
     ensures machine { (k : List Symbol) → nest k + room ≡ 64 → MatchResult result (λ p. outcome (ForgetValue ∷ k) tokens.now ≡ outcome k p.1.now)
         (λ stop. StopsAt (outcome (ForgetValue ∷ k) tokens.now) stop) }
     ensures reads { IfOk result (λ p. ReadsPart forget_part_text forget_part_tree tree.old tree.new tokens.now (maybe (expr_at tree.new) p.0) (listed p.0) [] p.1.now) }
-    ensures arena { IsArena tree.new }
+    ensures arena { OnOk result (IsArena tree.new) }
     ensures no_longer { IfOk result (λ p. length p.1.now ≤ length tokens.now) }
 {
     match tokens {
@@ -115,7 +115,7 @@ pub(crate) fn forget<'t>(
     ensures machine { (k : List Symbol) → nest k + room ≡ 64 → MatchResult result (λ p. outcome (ForgetPart ∷ Expect t.Semicolon ∷ k) tokens.now ≡ outcome k p.1.now)
         (λ stop. StopsAt (outcome (ForgetPart ∷ Expect t.Semicolon ∷ k) tokens.now) stop) }
     ensures reads { IfOk result (λ p. ReadsStmt stmt_text stmt_tree tree.old tree.new (Fixed t.Forget at ∷ tokens.now) p.0 p.1.now) }
-    ensures arena { IsArena tree.new }
+    ensures arena { OnOk result (IsArena tree.new) }
     ensures shorter { IfOk result (λ p. length p.1.now < length tokens.now) }
 {
     let [Token::Fixed(Terminal::LeftParen, _open), rest @ ..] = tokens else {
@@ -145,7 +145,7 @@ pub(crate) fn phase<'t>(
     ensures machine { (k : List Symbol) → nest k + room ≡ 64 → MatchResult result (λ p. outcome (PhasePart ∷ Expect t.Semicolon ∷ k) tokens.now ≡ outcome k p.1.now)
         (λ stop. StopsAt (outcome (PhasePart ∷ Expect t.Semicolon ∷ k) tokens.now) stop) }
     ensures reads { IfOk result (λ p. ReadsStmt stmt_text stmt_tree tree.old tree.new (Fixed t.Phase at ∷ tokens.now) p.0 p.1.now) }
-    ensures arena { IsArena tree.new }
+    ensures arena { OnOk result (IsArena tree.new) }
     ensures shorter { IfOk result (λ p. length p.1.now < length tokens.now) }
 {
     let [Token::Fixed(Terminal::LeftParen, _open), rest @ ..] = tokens else {
@@ -172,7 +172,7 @@ fn return_value<'t>(
     ensures machine { (k : List Symbol) → nest k + room ≡ 64 → MatchResult result (λ p. outcome (ReturnValue ∷ Expect t.Semicolon ∷ k) tokens.now ≡ outcome (Expect t.Semicolon ∷ k) p.1.now)
         (λ stop. StopsAt (outcome (ReturnValue ∷ Expect t.Semicolon ∷ k) tokens.now) stop) }
     ensures reads { IfOk result (λ p. ReadsPart return_part_text return_part_tree tree.old tree.new tokens.now (maybe (expr_at tree.new) p.0) (listed p.0) [] p.1.now) }
-    ensures arena { IsArena tree.new }
+    ensures arena { OnOk result (IsArena tree.new) }
     ensures no_longer { IfOk result (λ p. length p.1.now ≤ length tokens.now) }
 {
     match tokens {
@@ -199,7 +199,7 @@ pub(crate) fn return_rest<'t>(
     ensures machine { (k : List Symbol) → nest k + room ≡ 64 → MatchResult result (λ p. outcome (ReturnValue ∷ Expect t.Semicolon ∷ k) tokens.now ≡ outcome k p.1.now)
         (λ stop. StopsAt (outcome (ReturnValue ∷ Expect t.Semicolon ∷ k) tokens.now) stop) }
     ensures reads { IfOk result (λ p. ReadsStmt stmt_text stmt_tree tree.old tree.new (Fixed t.Return at ∷ tokens.now) p.0 p.1.now) }
-    ensures arena { IsArena tree.new }
+    ensures arena { OnOk result (IsArena tree.new) }
     ensures shorter { IfOk result (λ p. length p.1.now < length tokens.now) }
 {
     let (value, rest) = return_value(alloc, tree, tokens, room)?;

@@ -18,7 +18,7 @@ pub(crate) fn add_statement<'t>(tree: &mut Tree, s: Stmt) -> Result<StmtId, Stop
     requires first { StmtHasFirst s }
     requires room { length tree.old.stmts < 2 ^ 32 - 1 }
     ensures added { IfOk result (λ id. IsAddedStmt tree.old tree.new s id) }
-    ensures arena { IsArena tree.new }
+    ensures arena { OnOk result (IsArena tree.new) }
     ensures memory { IfErr result (λ stop. stop ≡ stops.Memory) }
 {
     Ok(tree.add_stmt(s)?)

@@ -18,7 +18,7 @@ returns-in_err-value-in_default-clause-machine c = λ k h.
 pub returns-in_ok-value-in_default-clause-machine : goal.returns-in_ok-value-in_default-clause-machine
 unfolding outcome
 returns-in_ok-value-in_default-clause-machine c = λ k h.
-    behind ((c.in_ok-value-in_default.ensures.machine (Expect t.Semicolon ∷ k) (omega arith))) (grind (arith, common_steps))
+    behind ((c.in_ok-value-in_default.ensures.machine (Expect t.Semicolon ∷ k) (omega arith))) (search rules)
 
 pub returns-in_ok-value-in_default-clause-reads : goal.returns-in_ok-value-in_default-clause-reads
 returns-in_ok-value-in_default-clause-reads c = something_reads c.in_ok-value-in_default.ensures.reads

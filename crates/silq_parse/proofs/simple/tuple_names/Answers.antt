@@ -44,6 +44,6 @@ pub loop-rest-preserved : goal.loop-rest-preserved
 unfolding outcome
 loop-rest-preserved c = (
   λ k h. behind (c.in_ok-next.ensures.machine (MoreNames ∷ Closing t.RightParen ∷ k) (omega arith)) (c.loop-rest.invariant.0 k h ∙ grind (arith, common_steps)),
-  grind (arith, common_steps, step c.in-Fixed._comma _ _ c.loop-rest.invariant.1.0 (grind (arith, common_steps)) c.in_ok-next.ensures.token),
+  grind (arith, common_steps, step c.in-Fixed._comma _ _ c.loop-rest.invariant.1 (grind (arith, common_steps)) c.in_ok-next.ensures.token),
   grind (arith, common_steps),
 )
