@@ -9,3 +9,5 @@ pub mod Exits
 pub mod AddedStatements
 pub mod SimpleReads
 pub mod TupleNames
+pub mod Skips
+pub mod AssignReads

@@ -6,6 +6,7 @@ ghost use Rattle.silq_grammar.specs.Terminals.{same_terminal};
 ghost use Rattle.silq_grammar.specs.Machine.{Symbol, Expect, Closing, AnyName, nest};
 ghost use Rattle.silq_grammar.specs.Outcome.{outcome};
 ghost use Rattle.silq_parse.specs.Stops.{StopsAt};
+ghost use Rattle.silq_parse.specs.Parts.{begins_with};
 
 use crate::stop::Stop;
 use silq_grammar::{Terminal, Token};
@@ -16,6 +17,16 @@ fn is(found: Terminal, wanted: Terminal) -> bool
     ensures { result ≡ same_terminal found wanted }
 {
     found == wanted
+}
+
+/// Whether the first token is a word or a sign.
+pub(crate) fn begins(tokens: &[Token], wanted: Terminal) -> bool
+    ensures { result ≡ begins_with wanted tokens.now }
+{
+    match tokens {
+        [Token::Fixed(found, _), ..] => is(*found, wanted),
+        _ => false,
+    }
 }
 
 /// Takes a word or a sign.

@@ -14,7 +14,7 @@ ghost use Rattle.silq_parse.specs.Parts.{SpellsTuple, forget_part_text, forget_p
 ghost use Rattle.silq_parse.specs.Reads.{ReadsExpr, ReadsStmt, ReadsPart};
 
 use crate::expr::expr;
-use crate::sign::{name, sign};
+use crate::sign::{begins, name, sign};
 use crate::statement::add_statement;
 use crate::stop::{deeper, Stop};
 use silq_grammar::{Terminal, Token};
@@ -175,13 +175,11 @@ fn return_value<'t>(
     ensures arena { OnOk result (IsArena tree.new) }
     ensures no_longer { IfOk result (λ p. length p.1.now ≤ length tokens.now) }
 {
-    match tokens {
-        [Token::Fixed(Terminal::Semicolon, _), ..] => Ok((None, tokens)),
-        _ => {
-            let (value, rest) = expr(alloc, tree, tokens, room)?;
-            Ok((Some(value), rest))
-        }
+    if begins(tokens, Terminal::Semicolon) {
+        return Ok((None, tokens));
     }
+    let (value, rest) = expr(alloc, tree, tokens, room)?;
+    Ok((Some(value), rest))
 }
 
 /// A return, from behind its word.
