@@ -56,9 +56,9 @@ stmts_none : (p : PlaceNode) (op : Option UpdateOp) (v : ExprId) (at : Spot) →
 stmts_none p None v at = refl
 stmts_none p (Some op) v at = refl
 
-pub changed_free : {old mid late : Forest} {p : PlaceNode} {op : Option UpdateOp} {v : ExprId} {at : Spot} (s : Stmt) → s ≡ changed_node p op v at → IsArena late
+pub changed_free : {old mid late : Forest} {v : ExprId} (p : PlaceNode) (op : Option UpdateOp) (at : Spot) (s : Stmt) → s ≡ changed_node p op v at → IsArena late
     → Grew old mid (place_exprs p) [] → Grew mid late (v ∷ []) [] → AreFree late (stmt_exprs s)
-changed_free {old} {mid} {late} {p} {op} {v} {at} s e a g h = rw e (rw (changed_exprs p op v at) (free a (grew_then g h)))
+changed_free {old} {mid} {late} {v} p op at s e a g h = rw e (rw (changed_exprs p op v at) (free a (grew_then g h)))
 
 statement_of : Place → Change → g.Stmt
 statement_of p (change None s e end) = assign p s e end
@@ -79,11 +79,11 @@ statement_of_tree f h q (change None s e end) p (Some o) v at a b c = let x : So
 statement_of_tree f h q (change (Some o) s e end) p (Some u) v at a b c =
     let x : f v ≡ expr_tree e = ap (λ w. w.value) b in let y : Some u ≡ Some o = ap (λ w. w.op) b in cc
 
-pub assign_reads : {old mid late new : Forest} {ts r rest : List Token} {p : PlaceNode} {op : Option UpdateOp} {v : ExprId} {id : StmtId} {s : Stmt} (n : NameId) (at : Spot)
+pub assign_reads : {old mid late new : Forest} {ts r rest : List Token} {op : Option UpdateOp} {v : ExprId} {id : StmtId} {s : Stmt} (p : PlaceNode) (n : NameId) (at : Spot)
     → ReadsPart place_text place_tree old mid (Name n at ∷ ts) (place_of (expr_at mid) p) (place_exprs p) [] r
     → ReadsPart change_text change_tree mid late r (record { op = op; value = expr_at late v }) (v ∷ []) [] rest
     → s ≡ changed_node p op v at → IsAddedStmt late new s id → IsBounded old mid ts r → ReadsStmt stmt_text stmt_tree old new (Name n at ∷ ts) id rest
-assign_reads {old} {mid} {late} {new} {ts} {r} {rest} {p} {op} {v} {id} {s} n at x y e a b = record {
+assign_reads {old} {mid} {late} {new} {ts} {r} {rest} {op} {v} {id} {s} p n at x y e a b = record {
   derivation = statement_of x.derivation y.derivation;
   spelled = x.spelled ∙ ap (λ w. place_text x.derivation ++ w) y.spelled ∙ sym (append_assoc (place_text x.derivation) (change_text y.derivation) rest)
       ∙ ap (λ w. w ++ rest) (sym (statement_of_text x.derivation y.derivation));

@@ -11,3 +11,4 @@ pub mod SimpleReads
 pub mod TupleNames
 pub mod Skips
 pub mod AssignReads
+pub mod BlockReads
