@@ -206,3 +206,6 @@ loop_reads {old} {m1} {m2} {new} {n} {low} {high} {body} {ts} {r0} {r1} {r2} {re
       let c : IsBounded old m2 ts rest = record { exprs = omega (arith, x.bounded.exprs, y.bounded.exprs); stmts = omega (arith, x.bounded.stmts, y.bounded.stmts) } in
       added_bounded ts rest (Fixed t.For at ∷ ts) rest d c (omega arith) (omega arith);
 }
+
+pub no_items : (f : Forest) (ts : List Token) (ids : List StmtId) → ids ≡ [] → ReadsPart stmts_text stmts_tree f f ts (statements_of (expr_at f) (stmt_at f) ids) [] ids ts
+no_items f ts ids e = subst (λ w. ReadsPart stmts_text stmts_tree f f ts (statements_of (expr_at f) (stmt_at f) w) [] w ts) (sym e) (no_statement f ts)

@@ -12,3 +12,4 @@ pub mod TupleNames
 pub mod Skips
 pub mod AssignReads
 pub mod BlockReads
+pub mod Opened

@@ -70,22 +70,38 @@ fn statement<'t>(
     ensures shorter { IfOk result (λ o. MatchOption o ⊤ (λ p. length p.1.now < length tokens.now)) }
     ensures arena { OnOk result (IsArena tree.new) }
 {
-    let p = match tokens {
-        [Token::Name(name, at), rest @ ..] => named(alloc, tree, rest, *name, *at, room)?,
+    match tokens {
+        [Token::Name(name, at), rest @ ..] => {
+            let p = named(alloc, tree, rest, *name, *at, room)?;
+            Ok(Some(p))
+        }
         [Token::Fixed(Terminal::LeftParen, at), rest @ ..] => {
-            deeper(tokens, room)?;
-            spread(alloc, tree, rest, *at, room)?
+            let _inside = deeper(tokens, room)?;
+            let p = spread(alloc, tree, rest, *at, room)?;
+            Ok(Some(p))
         }
-        [Token::Fixed(Terminal::Forget, at), rest @ ..] => forget(alloc, tree, rest, *at, room)?,
-        [Token::Fixed(Terminal::Phase, at), rest @ ..] => phase(alloc, tree, rest, *at, room)?,
-        [Token::Fixed(Terminal::If, at), rest @ ..] => choice(alloc, tree, rest, *at, room)?,
-        [Token::Fixed(Terminal::For, at), rest @ ..] => loop_rest(alloc, tree, rest, *at, room)?,
+        [Token::Fixed(Terminal::Forget, at), rest @ ..] => {
+            let p = forget(alloc, tree, rest, *at, room)?;
+            Ok(Some(p))
+        }
+        [Token::Fixed(Terminal::Phase, at), rest @ ..] => {
+            let p = phase(alloc, tree, rest, *at, room)?;
+            Ok(Some(p))
+        }
+        [Token::Fixed(Terminal::If, at), rest @ ..] => {
+            let p = choice(alloc, tree, rest, *at, room)?;
+            Ok(Some(p))
+        }
+        [Token::Fixed(Terminal::For, at), rest @ ..] => {
+            let p = loop_rest(alloc, tree, rest, *at, room)?;
+            Ok(Some(p))
+        }
         [Token::Fixed(Terminal::Return, at), rest @ ..] => {
-            return_rest(alloc, tree, rest, *at, room)?
+            let p = return_rest(alloc, tree, rest, *at, room)?;
+            Ok(Some(p))
         }
-        _ => return Ok(None),
-    };
-    Ok(Some(p))
+        _ => Ok(None),
+    }
 }
 
 /// Statements and the brace that closes them.

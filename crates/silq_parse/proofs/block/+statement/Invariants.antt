@@ -36,10 +36,10 @@ decreases-loop_rest l = 2 * length l.tokens.now
 
 -- the statements so far, and what is left decides
 
-abbrev pub invariant-statements-loop-rest : goal.invariant-statements-loop-rest
-invariant-statements-loop-rest l =
+abbrev pub invariant-statements-loop-items : goal.invariant-statements-loop-items
+invariant-statements-loop-items l =
     IsArena l.tree × ((k : List Symbol) → nest k + l.fn.room ≡ 64 → outcome (Statements ∷ k) l.fn.tokens ≡ outcome (Statements ∷ k) l.rest)
     × ReadsPart stmts_text stmts_tree l.fn.tree l.tree l.fn.tokens (statements_of (expr_at l.tree) (stmt_at l.tree) l.items) [] l.items l.rest × (length l.rest ≤ length l.fn.tokens)
 
-abbrev pub decreases-statements-loop-rest : goal.decreases-statements-loop-rest
-decreases-statements-loop-rest l = length l.rest
+abbrev pub decreases-statements-loop-items : goal.decreases-statements-loop-items
+decreases-statements-loop-items l = length l.rest
