@@ -209,3 +209,9 @@ loop_reads {old} {m1} {m2} {new} {n} {low} {high} {body} {ts} {r0} {r1} {r2} {re
 
 pub no_items : (f : Forest) (ts : List Token) (ids : List StmtId) → ids ≡ [] → ReadsPart stmts_text stmts_tree f f ts (statements_of (expr_at f) (stmt_at f) ids) [] ids ts
 no_items f ts ids e = subst (λ w. ReadsPart stmts_text stmts_tree f f ts (statements_of (expr_at f) (stmt_at f) w) [] w ts) (sym e) (no_statement f ts)
+
+pub next_statement : {old mid new : Forest} {items ids : List StmtId} {ts r rest : List Token} {id : StmtId} → ids ≡ items ++ id ∷ []
+    → ReadsPart stmts_text stmts_tree old mid ts (statements_of (expr_at mid) (stmt_at mid) items) [] items r → ReadsStmt stmt_text stmt_tree mid new r id rest
+    → ReadsPart stmts_text stmts_tree old new ts (statements_of (expr_at new) (stmt_at new) ids) [] ids rest
+next_statement {old} {mid} {new} {items} {ids} {ts} {r} {rest} {id} e x y =
+    subst (λ w. ReadsPart stmts_text stmts_tree old new ts (statements_of (expr_at new) (stmt_at new) w) [] w rest) (sym e) (one_statement x y)

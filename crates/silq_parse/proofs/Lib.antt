@@ -13,3 +13,4 @@ pub mod Skips
 pub mod AssignReads
 pub mod BlockReads
 pub mod Opened
+pub mod TypeReads

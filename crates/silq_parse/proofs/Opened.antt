@@ -5,7 +5,7 @@ use Rattle.silq_tree.specs.declared.node.NameId.{NameId}
 use Rattle.silq_grammar.specs.declared.token.Token.{Token}
 use Rattle.silq_grammar.specs.declared.token.Token.TheVariants.{Name, Fixed}
 use Rattle.silq_grammar.specs.declared.token.Terminal.TheVariants as t
-use Rattle.silq_grammar.specs.Machine.{Symbol, Expect, Closing, Ends, Statements, ABlock, ElseBody, ElseRest, ForgetPart, ForgetValue, AnyName, PhasePart, Bounds, ASize, ParamPart, Params, StaticPart, MoreStatics, an_expr, value, MoreNames, StartName, ReturnValue, nest}
+use Rattle.silq_grammar.specs.Machine.{Symbol, Expect, Closing, Ends, Statements, ABlock, ElseBody, ElseRest, ForgetPart, ForgetValue, AnyName, PhasePart, Bounds, ASize, ParamPart, Params, StaticPart, MoreStatics, an_expr, value, MoreNames, StartName, ReturnValue, AType, MoreResults, ResultPart, OneParam, MoreParams, MarkPart, Functions, nest}
 use Rattle.silq_grammar.specs.Outcome.{Outcome, Deep, outcome}
 
 taken : (ys : List Symbol) (here : List Token) (o : Outcome) → nest ys ≤ 64 → cond (nat_lt 64 (nest ys)) (Deep here) o ≡ o
@@ -55,3 +55,43 @@ loop_begins k ts r s e h = ap (λ w. outcome (Statements ∷ k) w) e ∙ taken (
 pub return_begins : (k : List Symbol) (ts r : List Token) (s : Spot) → ts ≡ Fixed t.Return s ∷ r → nest k ≤ 64 → outcome (Statements ∷ k) ts ≡ outcome (ReturnValue ∷ Expect t.Semicolon ∷ Statements ∷ k) r
 unfolding outcome
 return_begins k ts r s e h = ap (λ w. outcome (Statements ∷ k) w) e ∙ taken (ReturnValue ∷ Expect t.Semicolon ∷ Statements ∷ k) (Fixed t.Return s ∷ r) _ (omega arith)
+
+pub size_open : (k : List Symbol) (ts r : List Token) (s : Spot) → ts ≡ Fixed t.LeftParen s ∷ r → nest k < 64 → outcome (ASize ∷ k) ts ≡ outcome (an_expr (Closing t.RightParen ∷ k)) r
+unfolding outcome
+size_open k ts r s e h = ap (λ w. outcome (ASize ∷ k) w) e ∙ taken (an_expr (Closing t.RightParen ∷ k)) (Fixed t.LeftParen s ∷ r) _ (omega arith)
+
+pub params_open : (k : List Symbol) (ts r : List Token) (s : Spot) → ts ≡ Fixed t.LeftParen s ∷ r → nest k < 64 → outcome (ParamPart ∷ k) ts ≡ outcome (Params ∷ Closing t.RightParen ∷ k) r
+unfolding outcome
+params_open k ts r s e h = ap (λ w. outcome (ParamPart ∷ k) w) e ∙ taken (Params ∷ Closing t.RightParen ∷ k) (Fixed t.LeftParen s ∷ r) _ (omega arith)
+
+pub statics_open : (k : List Symbol) (ts r : List Token) (s : Spot) → ts ≡ Fixed t.LeftBracket s ∷ r → nest k < 64 → outcome (StaticPart ∷ k) ts ≡ outcome (AnyName ∷ Expect t.Colon ∷ Expect t.Bang ∷ Expect t.Natural ∷ MoreStatics ∷ Closing t.RightBracket ∷ k) r
+unfolding outcome
+statics_open k ts r s e h = ap (λ w. outcome (StaticPart ∷ k) w) e ∙ taken (AnyName ∷ Expect t.Colon ∷ Expect t.Bang ∷ Expect t.Natural ∷ MoreStatics ∷ Closing t.RightBracket ∷ k) (Fixed t.LeftBracket s ∷ r) _ (omega arith)
+
+pub more_statics_open : (k : List Symbol) (ts r : List Token) (s : Spot) → ts ≡ Fixed t.Comma s ∷ r → nest k ≤ 64 → outcome (MoreStatics ∷ k) ts ≡ outcome (AnyName ∷ Expect t.Colon ∷ Expect t.Bang ∷ Expect t.Natural ∷ MoreStatics ∷ k) r
+unfolding outcome
+more_statics_open k ts r s e h = ap (λ w. outcome (MoreStatics ∷ k) w) e ∙ taken (AnyName ∷ Expect t.Colon ∷ Expect t.Bang ∷ Expect t.Natural ∷ MoreStatics ∷ k) (Fixed t.Comma s ∷ r) _ (omega arith)
+
+pub results_open : (k : List Symbol) (ts r : List Token) (s : Spot) → ts ≡ Fixed t.Colon s ∷ r → nest k ≤ 64 → outcome (ResultPart ∷ k) ts ≡ outcome (AType ∷ MoreResults ∷ k) r
+unfolding outcome
+results_open k ts r s e h = ap (λ w. outcome (ResultPart ∷ k) w) e ∙ taken (AType ∷ MoreResults ∷ k) (Fixed t.Colon s ∷ r) _ (omega arith)
+
+pub more_results_open : (k : List Symbol) (ts r : List Token) (s : Spot) → ts ≡ Fixed t.Times s ∷ r → nest k ≤ 64 → outcome (MoreResults ∷ k) ts ≡ outcome (AType ∷ MoreResults ∷ k) r
+unfolding outcome
+more_results_open k ts r s e h = ap (λ w. outcome (MoreResults ∷ k) w) e ∙ taken (AType ∷ MoreResults ∷ k) (Fixed t.Times s ∷ r) _ (omega arith)
+
+pub more_params_open : (k : List Symbol) (ts r : List Token) (s : Spot) → ts ≡ Fixed t.Comma s ∷ r → nest k ≤ 64 → outcome (MoreParams ∷ k) ts ≡ outcome (OneParam ∷ MoreParams ∷ k) r
+unfolding outcome
+more_params_open k ts r s e h = ap (λ w. outcome (MoreParams ∷ k) w) e ∙ taken (OneParam ∷ MoreParams ∷ k) (Fixed t.Comma s ∷ r) _ (omega arith)
+
+pub moved_open : (k : List Symbol) (ts r : List Token) (m : NameId) (s : Spot) → ts ≡ Name m s ∷ r → nest k ≤ 64 → outcome (OneParam ∷ k) ts ≡ outcome (Expect t.Colon ∷ AType ∷ k) r
+unfolding outcome
+moved_open k ts r m s e h = ap (λ w. outcome (OneParam ∷ k) w) e ∙ taken (Expect t.Colon ∷ AType ∷ k) (Name m s ∷ r) _ (omega arith)
+
+pub held_open : (k : List Symbol) (ts r : List Token) (s : Spot) → ts ≡ Fixed t.Const s ∷ r → nest k ≤ 64 → outcome (OneParam ∷ k) ts ≡ outcome (AnyName ∷ Expect t.Colon ∷ AType ∷ k) r
+unfolding outcome
+held_open k ts r s e h = ap (λ w. outcome (OneParam ∷ k) w) e ∙ taken (AnyName ∷ Expect t.Colon ∷ AType ∷ k) (Fixed t.Const s ∷ r) _ (omega arith)
+
+pub function_begins : (k : List Symbol) (ts r : List Token) (s : Spot) → ts ≡ Fixed t.Def s ∷ r → nest k ≤ 64 → outcome (Functions ∷ k) ts ≡ outcome (AnyName ∷ StaticPart ∷ ParamPart ∷ MarkPart ∷ ResultPart ∷ ABlock ∷ Functions ∷ k) r
+unfolding outcome
+function_begins k ts r s e h = ap (λ w. outcome (Functions ∷ k) w) e ∙ taken (AnyName ∷ StaticPart ∷ ParamPart ∷ MarkPart ∷ ResultPart ∷ ABlock ∷ Functions ∷ k) (Fixed t.Def s ∷ r) _ (omega arith)

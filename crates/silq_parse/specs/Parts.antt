@@ -3,6 +3,7 @@ use Rattle.std.specs.Prelude.{◌≡◌, Bool, false, List, [], ◌∷◌, ◌++
 use Rattle.silq_tree.specs.declared.node.Spot.{Spot}
 use Rattle.silq_tree.specs.declared.node.NameId.{NameId}
 use Rattle.silq_tree.specs.declared.node.ExprId.{ExprId}
+use Rattle.silq_tree.specs.declared.node.Mark.{Mark}
 use Rattle.silq_tree.specs.declared.node.PlaceNode.{PlaceNode}
 use Rattle.silq_tree.specs.declared.node.Stmt as stmts
 use Rattle.silq_tree.specs.declared.node.Stmt.TheVariants as nodes
@@ -13,9 +14,9 @@ use Rattle.silq_grammar.specs.declared.token.Token.TheVariants.{Name, Number, Fi
 use Rattle.silq_grammar.specs.declared.token.Terminal.{Terminal}
 use Rattle.silq_grammar.specs.declared.token.Terminal.TheVariants as t
 use Rattle.silq_grammar.specs.Terminals.{same_terminal}
-use Rattle.silq_grammar.specs.Grammar.{Expr, NameList, Size, no_size, number_size, named_size, paren_size, Block, Choice}
-use Rattle.silq_grammar.specs.Spelled.{update_sign, names_text, expr_text, block_text, choice_text}
-use Rattle.silq_grammar.specs.Trees.{names_tree, expr_tree, block_tree, choice_tree}
+use Rattle.silq_grammar.specs.Grammar.{Expr, NameList, Scalar, Type_, Statics, StaticPart, MarkPart, Size, no_size, number_size, named_size, paren_size, Block, Choice}
+use Rattle.silq_grammar.specs.Spelled.{update_sign, names_text, scalar_text, size_text, type_text, statics_text, static_part_text, mark_text, expr_text, block_text, choice_text}
+use Rattle.silq_grammar.specs.Trees.{names_tree, scalar_tree, sized_tree, type_tree, statics_tree, static_part_tree, mark_tree, expr_tree, block_tree, choice_tree}
 
 -- ( ":=" | "+=" | "-=" | "^=" ) expr ";"; no update at ":="
 pub data Change : Type 0 where
@@ -126,3 +127,51 @@ begins_with wanted [] = false
 begins_with wanted (Name n s ∷ ts) = false
 begins_with wanted (Number v s ∷ ts) = false
 begins_with wanted (Fixed found s ∷ ts) = same_terminal found wanted
+
+-- scalar [ "^" size ]
+pub record Sized : Type 0 where
+  pub scalar : Scalar
+  pub size : Size
+
+abbrev pub sized_text : Sized → List Token
+sized_text d = scalar_text d.scalar ++ size_text d.size
+
+abbrev pub sized_node_tree : Bool → Spot → Sized → tree.WrittenType
+sized_node_tree classical at d = sized_tree (scalar_tree d.scalar) classical d.size at
+
+-- NAME ":" "!" "N"
+pub record SpellsStatic (name : NameId) (ts rest : List Token) : Type 0 where
+  pub at : Spot
+  pub colon : Spot
+  pub bang : Spot
+  pub natural : Spot
+  pub spelled : ts ≡ Name name at ∷ Fixed t.Colon colon ∷ Fixed t.Bang bang ∷ Fixed t.Natural natural ∷ rest
+
+-- static { "," static }
+pub record SpellsStatics (names : List NameId) (ts rest : List Token) : Type 0 where
+  pub derivation : Statics
+  pub spelled : ts ≡ statics_text derivation ++ rest
+  pub named : names ≡ statics_tree derivation
+
+-- [ "[" static { "," static } "]" ]
+pub record SpellsStaticPart (names : List NameId) (ts rest : List Token) : Type 0 where
+  pub derivation : StaticPart
+  pub spelled : ts ≡ static_part_text derivation ++ rest
+  pub named : names ≡ static_part_tree derivation
+
+-- [ mark ]
+pub record SpellsMark (mark : Mark) (ts rest : List Token) : Type 0 where
+  pub derivation : MarkPart
+  pub spelled : ts ≡ mark_text derivation ++ rest
+  pub named : mark ≡ mark_tree derivation
+
+-- ":" type
+pub record Typed : Type 0 where
+  pub colon : Spot
+  pub ty : Type_
+
+abbrev pub typed_text : Typed → List Token
+typed_text d = Fixed t.Colon d.colon ∷ type_text d.ty
+
+abbrev pub typed_tree : Bool → NameId → Spot → Typed → tree.Parameter
+typed_tree held name at d = record { held = held; name = name; ty = type_tree d.ty; at = at }

@@ -15,6 +15,7 @@ mod simple;
 mod statement;
 mod stop;
 mod target;
+mod types;
 
 pub use fault::ParseFault;
 pub use silq_tree::Program;

@@ -7,7 +7,7 @@ use Rattle.silq_grammar.specs.Machine.{Symbol, Expect, AnyName, Closing, Ends, F
 use Rattle.silq_grammar.specs.declared.token.Terminal.TheVariants as t
 use Rattle.silq_grammar.specs.declared.token.Token.TheVariants.{Name, Number, Fixed}
 use Rattle.silq_parse.proofs.Exits.{stops, stops_behind, behind}
-use Rattle.silq_parse.proofs.BlockReads.{no_statement, no_items, one_statement, closed_block, part_of, stmt_of, no_else, else_block, else_choice, chosen, choice_free, choice_reads, between_reads, loop_reads}
+use Rattle.silq_parse.proofs.BlockReads.{no_statement, no_items, next_statement, one_statement, closed_block, part_of, stmt_of, no_else, else_block, else_choice, chosen, choice_free, choice_reads, between_reads, loop_reads}
 use Rattle.silq_parse.proofs.Opened.{bounds_open, block_open, else_block_open, else_choice_open, name_begins, spread_begins, forget_begins, phase_begins, choice_begins, loop_begins, return_begins}
 use Rattle.silq_parse.proofs.AddedStatements.{free_stmts}
 use Rattle.silq_parse.proofs.Growing.{grew_then}
@@ -84,7 +84,12 @@ pub statements-loop-items-init : goal.statements-loop-items-init
 statements-loop-items-init n c = (c.requires.arena, (λ k h. refl), no_items _ _ _ c.new-items.ensures, omega arith)
 
 pub statements-loop-items-preserved : goal.statements-loop-items-preserved
-statements-loop-items-preserved n c = ?
+statements-loop-items-preserved n c = (
+  c.in_ok-id.ensures.arena,
+  (λ k h. c.loop-items.invariant.1 k h ∙ (rw c.in-Some.is at (c.in_ok-id.ensures.machine k h))),
+  next_statement c.in_ok-push.ensures.ok c.loop-items.invariant.2 (rw c.in-Some.is at c.in_ok-id.ensures.reads),
+  (let s = rw c.in-Some.is at c.in_ok-id.ensures.shorter in omega (arith, s, c.loop-items.invariant.3)),
+)
 
 pub else_body-returns-in_err-id-in-Fixed-2-clause-machine : goal.else_body-returns-in_err-id-in-Fixed-2-clause-machine
 unfolding outcome
