@@ -5,7 +5,7 @@ use Rattle.silq_tree.specs.declared.node.NameId.{NameId}
 use Rattle.silq_grammar.specs.declared.token.Token.{Token}
 use Rattle.silq_grammar.specs.declared.token.Token.TheVariants.{Name, Fixed}
 use Rattle.silq_grammar.specs.declared.token.Terminal.TheVariants as t
-use Rattle.silq_grammar.specs.Machine.{Symbol, Expect, Closing, Ends, Statements, ABlock, ElseBody, ElseRest, ForgetPart, ForgetValue, AnyName, PhasePart, Bounds, ASize, ParamPart, Params, StaticPart, MoreStatics, an_expr, value, MoreNames, StartName, ReturnValue, AType, MoreResults, ResultPart, OneParam, MoreParams, MarkPart, Functions, nest}
+use Rattle.silq_grammar.specs.Machine.{Symbol, Expect, Closing, Ends, Statements, ABlock, ElseBody, ElseRest, ForgetPart, ForgetValue, AnyName, PhasePart, Bounds, ASize, ParamPart, Params, StaticPart, MoreStatics, an_expr, value, MoreNames, StartName, ReturnValue, AType, AScalar, SizePart, MoreResults, ResultPart, OneParam, MoreParams, MarkPart, Functions, nest}
 use Rattle.silq_grammar.specs.Outcome.{Outcome, Deep, outcome}
 
 taken : (ys : List Symbol) (here : List Token) (o : Outcome) → nest ys ≤ 64 → cond (nat_lt 64 (nest ys)) (Deep here) o ≡ o
@@ -95,3 +95,7 @@ held_open k ts r s e h = ap (λ w. outcome (OneParam ∷ k) w) e ∙ taken (AnyN
 pub function_begins : (k : List Symbol) (ts r : List Token) (s : Spot) → ts ≡ Fixed t.Def s ∷ r → nest k ≤ 64 → outcome (Functions ∷ k) ts ≡ outcome (AnyName ∷ StaticPart ∷ ParamPart ∷ MarkPart ∷ ResultPart ∷ ABlock ∷ Functions ∷ k) r
 unfolding outcome
 function_begins k ts r s e h = ap (λ w. outcome (Functions ∷ k) w) e ∙ taken (AnyName ∷ StaticPart ∷ ParamPart ∷ MarkPart ∷ ResultPart ∷ ABlock ∷ Functions ∷ k) (Fixed t.Def s ∷ r) _ (omega arith)
+
+pub bang_there : (k : List Symbol) (ts r : List Token) (s : Spot) → ts ≡ Fixed t.Bang s ∷ r → nest k ≤ 64 → outcome (AType ∷ k) ts ≡ outcome (AScalar ∷ SizePart ∷ k) r
+unfolding outcome
+bang_there k ts r s e h = ap (λ w. outcome (AType ∷ k) w) e ∙ taken (AScalar ∷ SizePart ∷ k) (Fixed t.Bang s ∷ r) _ (omega arith)

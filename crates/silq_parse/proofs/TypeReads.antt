@@ -84,10 +84,10 @@ sized_by f c s at (Some n) ty (g.number_size k v x) p q = let u : f n ≡ tree.n
 sized_by f c s at (Some n) ty (g.named_size k v x) p q = let u : f n ≡ tree.place (tree.whole v) x = cc in cc
 sized_by f c s at (Some n) ty (g.paren_size k l e r) p q = let u : f n ≡ expr_tree e = cc in cc
 
-pub sized_reads : {old mid new : Forest} {ts r rest : List Token} {s : ScalarNode} {n : Option ExprId} (c : Bool) (at : Spot)
+pub sized_reads : {old mid new : Forest} {ts r rest : List Token} (s : ScalarNode) (n : Option ExprId) (c : Bool) (at : Spot)
     → ReadsPart scalar_text scalar_tree old mid ts (scalar_of (expr_at mid) s) (scalar_exprs s) [] r → ReadsPart size_text size_tree mid new r (maybe (expr_at new) n) (listed n) [] rest
     → ReadsPart sized_text (sized_node_tree c at) old new ts (type_of (expr_at new) (record { classical = c; scalar = s; size = n; at = at })) (scalar_exprs s ++ listed n) [] rest
-sized_reads {old} {mid} {new} {ts} {r} {rest} {s} {n} c at x y = record {
+sized_reads {old} {mid} {new} {ts} {r} {rest} s n c at x y = record {
   derivation = record { scalar = x.derivation; size = y.derivation };
   spelled = x.spelled ∙ ap (λ w. scalar_text x.derivation ++ w) y.spelled ∙ sym (append_assoc (scalar_text x.derivation) (size_text y.derivation) rest);
   stands = sized_by (expr_at new) c s at n (scalar_tree x.derivation) y.derivation (scalar_kept s y.grew.trees x.grew.exprs_there ∙ x.stands) y.stands;
@@ -149,9 +149,9 @@ unfolding snoc
 snoc_tree (g.last_type a) s b = refl
 snoc_tree (g.and_types a u r) s b = ap (λ w. type_tree a ∷ w) (snoc_tree r s b)
 
-pub first_type : {old new : Forest} {ts rest : List Token} {n : TypeNode} → ReadsPart type_text type_tree old new ts (type_of (expr_at new) n) (type_exprs n) [] rest
+pub first_type : {old new : Forest} {ts rest : List Token} (n : TypeNode) → ReadsPart type_text type_tree old new ts (type_of (expr_at new) n) (type_exprs n) [] rest
     → ReadsPart result_text result_tree old new ts (map (type_of (expr_at new)) (n ∷ [])) (flat_map type_exprs (n ∷ [])) [] rest
-first_type {old} {new} {ts} {rest} {n} x = record {
+first_type {old} {new} {ts} {rest} n x = record {
   derivation = g.last_type x.derivation;
   spelled = x.spelled;
   stands = ap (λ w. w ∷ []) x.stands;
@@ -159,11 +159,11 @@ first_type {old} {new} {ts} {rest} {n} x = record {
   bounded = x.bounded;
 }
 
-pub next_type : {old mid new : Forest} {ts r q rest : List Token} {ns : List TypeNode} {n : TypeNode} (s : Spot)
+pub next_type : {old mid new : Forest} {ts r q rest : List Token} (ns : List TypeNode) (n : TypeNode) (s : Spot)
     → ReadsPart result_text result_tree old mid ts (map (type_of (expr_at mid)) ns) (flat_map type_exprs ns) [] r → r ≡ Fixed t.Times s ∷ q
     → ReadsPart type_text type_tree mid new q (type_of (expr_at new) n) (type_exprs n) [] rest
     → ReadsPart result_text result_tree old new ts (map (type_of (expr_at new)) (ns ++ n ∷ [])) (flat_map type_exprs (ns ++ n ∷ [])) [] rest
-next_type {old} {mid} {new} {ts} {r} {q} {rest} {ns} {n} s x p y = record {
+next_type {old} {mid} {new} {ts} {r} {q} {rest} ns n s x p y = record {
   derivation = snoc x.derivation s y.derivation;
   spelled = x.spelled ∙ ap (λ w. result_text x.derivation ++ w) (p ∙ ap (λ w. Fixed t.Times s ∷ w) y.spelled)
       ∙ sym (append_assoc (result_text x.derivation) (Fixed t.Times s ∷ type_text y.derivation) rest) ∙ ap (λ w. w ++ rest) (sym (snoc_text x.derivation s y.derivation));
@@ -172,3 +172,14 @@ next_type {old} {mid} {new} {ts} {r} {q} {rest} {ns} {n} s x p y = record {
   grew = subst (λ w. Grew old new w []) (sym (flat_map-append type_exprs ns (n ∷ []) ∙ ap (λ w. flat_map type_exprs ns ++ w) (append-nil (type_exprs n)))) (grew_then x.grew y.grew);
   bounded = let u = one_more p in record { exprs = omega (arith, x.bounded.exprs, y.bounded.exprs); stmts = omega (arith, x.bounded.stmts, y.bounded.stmts) };
 }
+
+pub first_types : {old new : Forest} {ts rest : List Token} (ms : List TypeNode) (n : TypeNode) → ms ≡ n ∷ [] → ReadsPart type_text type_tree old new ts (type_of (expr_at new) n) (type_exprs n) [] rest
+    → ReadsPart result_text result_tree old new ts (map (type_of (expr_at new)) ms) (flat_map type_exprs ms) [] rest
+first_types {old} {new} {ts} {rest} ms n e x = subst (λ w. ReadsPart result_text result_tree old new ts (map (type_of (expr_at new)) w) (flat_map type_exprs w) [] rest) (sym e) (first_type n x)
+
+pub next_types : {old mid new : Forest} {ts r q rest : List Token} (ms ns : List TypeNode) (n : TypeNode) (s : Spot) → ms ≡ ns ++ n ∷ []
+    → ReadsPart result_text result_tree old mid ts (map (type_of (expr_at mid)) ns) (flat_map type_exprs ns) [] r → r ≡ Fixed t.Times s ∷ q
+    → ReadsPart type_text type_tree mid new q (type_of (expr_at new) n) (type_exprs n) [] rest
+    → ReadsPart result_text result_tree old new ts (map (type_of (expr_at new)) ms) (flat_map type_exprs ms) [] rest
+next_types {old} {mid} {new} {ts} {r} {q} {rest} ms ns n s e x p y =
+    subst (λ w. ReadsPart result_text result_tree old new ts (map (type_of (expr_at new)) w) (flat_map type_exprs w) [] rest) (sym e) (next_type ns n s x p y)

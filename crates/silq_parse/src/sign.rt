@@ -1,6 +1,6 @@
 //! Single tokens.
 
-ghost use Rattle.std.specs.Prelude.{◌≡◌, ◌+◌, ◌<◌, ◌≤◌, List, [], ◌∷◌, length, IfOk, MatchResult};
+ghost use Rattle.std.specs.Prelude.{◌≡◌, ◌+◌, ◌<◌, ◌≤◌, List, [], ◌∷◌, length, IfOk, MatchResult, MatchOption, false};
 ghost use Rattle.silq_grammar.specs.declared.token.Token.TheVariants.{Name, Fixed};
 ghost use Rattle.silq_grammar.specs.Terminals.{same_terminal};
 ghost use Rattle.silq_grammar.specs.Machine.{Symbol, Expect, Closing, AnyName, nest};
@@ -26,6 +26,24 @@ pub(crate) fn begins(tokens: &[Token], wanted: Terminal) -> bool
     match tokens {
         [Token::Fixed(found, _), ..] => is(*found, wanted),
         _ => false,
+    }
+}
+
+/// Takes a word or a sign, if it is the first token.
+#[tactic(auto, using(crate::proofs::Signs::are_same))]
+pub(crate) fn optional<'t>(
+    tokens: &'t [Token],
+    wanted: Terminal,
+) -> Option<(Spot, &'t [Token])>
+    ensures { MatchOption result (begins_with wanted tokens.now ≡ false) (λ p. tokens.now ≡ Fixed wanted p.0 ∷ p.1.now) }
+{
+    let [Token::Fixed(found, at), rest @ ..] = tokens else {
+        return None;
+    };
+    if is(*found, wanted) {
+        Some((*at, rest))
+    } else {
+        None
     }
 }
 

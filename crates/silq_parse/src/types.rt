@@ -19,7 +19,7 @@ ghost use Rattle.silq_parse.specs.Reads.{ReadsPart};
 use crate::expr::expr;
 use crate::node::{add, first_spot};
 use crate::scalar::scalar;
-use crate::sign::{begins, sign};
+use crate::sign::{optional, sign};
 use crate::stop::{deeper, Stop};
 use silq_grammar::{Terminal, Token};
 use silq_tree::{Expr, ExprId, PlaceNode, ScalarNode, Spot, Tree, TypeNode, TypeNodes};
@@ -133,12 +133,17 @@ pub(crate) fn written_type<'t>(
     ensures arena { OnOk result (IsArena tree.new) }
     ensures shorter { IfOk result (λ p. length p.1.now < length tokens.now) }
 {
-    if begins(tokens, Terminal::Bang) {
-        let (at, rest) = sign(tokens, Terminal::Bang)?;
-        return sized(alloc, tree, rest, true, at, room);
+    match optional(tokens, Terminal::Bang) {
+        Some((at, rest)) => {
+            let (ty, rest) = sized(alloc, tree, rest, true, at, room)?;
+            Ok((ty, rest))
+        }
+        None => {
+            let at = first_spot(tokens);
+            let (ty, rest) = sized(alloc, tree, tokens, false, at, room)?;
+            Ok((ty, rest))
+        }
     }
-    let at = first_spot(tokens);
-    sized(alloc, tree, tokens, false, at, room)
 }
 
 /// Types between the signs `×`.

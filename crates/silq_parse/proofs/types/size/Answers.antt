@@ -7,9 +7,10 @@ use Rattle.silq_grammar.specs.Machine.{Symbol, Expect, AnyName, Closing, Ends, F
 use Rattle.silq_grammar.specs.declared.token.Terminal.TheVariants as t
 use Rattle.silq_grammar.specs.declared.token.Token.TheVariants.{Name, Number, Fixed}
 use Rattle.silq_parse.proofs.Exits.{stops, stops_behind, behind}
-use Rattle.silq_parse.proofs.TypeReads.{number_size, named_size, paren_size, no_size, sized_reads, quantum_reads, classical_reads, first_type, next_type}
+use Rattle.std.proofs.Common.{to_z-of_z, SFits, w64}
+use Rattle.silq_parse.proofs.TypeReads.{number_size, named_size, paren_size, no_size, sized_reads, quantum_reads, classical_reads, first_types, next_types}
 use Rattle.silq_parse.proofs.BlockReads.{part_of}
-use Rattle.silq_parse.proofs.Opened.{size_open}
+use Rattle.silq_parse.proofs.Opened.{size_open, bang_there, more_results_open}
 use Rattle.silq_parse.proofs.Skips.{no_bang_there}
 use Rattle.silq_parse.proofs.types.size.Goals as goal
 

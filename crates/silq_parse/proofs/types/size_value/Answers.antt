@@ -7,9 +7,10 @@ use Rattle.silq_grammar.specs.Machine.{Symbol, Expect, AnyName, Closing, Ends, F
 use Rattle.silq_grammar.specs.declared.token.Terminal.TheVariants as t
 use Rattle.silq_grammar.specs.declared.token.Token.TheVariants.{Name, Number, Fixed}
 use Rattle.silq_parse.proofs.Exits.{stops, stops_behind, behind}
-use Rattle.silq_parse.proofs.TypeReads.{number_size, named_size, paren_size, no_size, sized_reads, quantum_reads, classical_reads, first_type, next_type}
+use Rattle.std.proofs.Common.{to_z-of_z, SFits, w64}
+use Rattle.silq_parse.proofs.TypeReads.{number_size, named_size, paren_size, no_size, sized_reads, quantum_reads, classical_reads, first_types, next_types}
 use Rattle.silq_parse.proofs.BlockReads.{part_of}
-use Rattle.silq_parse.proofs.Opened.{size_open}
+use Rattle.silq_parse.proofs.Opened.{size_open, bang_there, more_results_open}
 use Rattle.silq_parse.proofs.Skips.{no_bang_there}
 use Rattle.silq_parse.proofs.types.size_value.Goals as goal
 
@@ -35,4 +36,4 @@ pub returns-in_ok-id-in-Name-clause-reads : goal.returns-in_ok-id-in-Name-clause
 returns-in_ok-id-in-Name-clause-reads c = λ k. part_of (named_size c.in-Name.name c.in-Name.at k c.in_ok-id-in-Name.ensures.added) (ap (λ w. Fixed t.Caret k ∷ w) (grind (arith, common_steps)))
 
 pub returns-in_ok-id-in-Number-clause-reads : goal.returns-in_ok-id-in-Number-clause-reads
-returns-in_ok-id-in-Number-clause-reads c = λ k. part_of (number_size c.in-Number.value c.in-Number.at k c.in_ok-id-in-Number.ensures.added) (ap (λ w. Fixed t.Caret k ∷ w) (grind (arith, common_steps)))
+returns-in_ok-id-in-Number-clause-reads c = λ k. let f : SFits w64 c.in-Number.value = search rules in part_of (number_size c.in-Number.value c.in-Number.at k (simp to_z-of_z at c.in_ok-id-in-Number.ensures.added)) (ap (λ w. Fixed t.Caret k ∷ w) (grind (arith, common_steps)))

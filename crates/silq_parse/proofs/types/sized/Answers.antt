@@ -7,9 +7,10 @@ use Rattle.silq_grammar.specs.Machine.{Symbol, Expect, AnyName, Closing, Ends, F
 use Rattle.silq_grammar.specs.declared.token.Terminal.TheVariants as t
 use Rattle.silq_grammar.specs.declared.token.Token.TheVariants.{Name, Number, Fixed}
 use Rattle.silq_parse.proofs.Exits.{stops, stops_behind, behind}
-use Rattle.silq_parse.proofs.TypeReads.{number_size, named_size, paren_size, no_size, sized_reads, quantum_reads, classical_reads, first_type, next_type}
+use Rattle.std.proofs.Common.{to_z-of_z, SFits, w64}
+use Rattle.silq_parse.proofs.TypeReads.{number_size, named_size, paren_size, no_size, sized_reads, quantum_reads, classical_reads, first_types, next_types}
 use Rattle.silq_parse.proofs.BlockReads.{part_of}
-use Rattle.silq_parse.proofs.Opened.{size_open}
+use Rattle.silq_parse.proofs.Opened.{size_open, bang_there, more_results_open}
 use Rattle.silq_parse.proofs.Skips.{no_bang_there}
 use Rattle.silq_parse.proofs.types.sized.Goals as goal
 
@@ -26,4 +27,4 @@ returns-clause-machine c = λ k h.
     (c.in_ok-scalar.ensures.machine (SizePart ∷ k) (omega arith)) ∙ (c.in_ok-size.ensures.machine (k) (omega arith))
 
 pub returns-clause-reads : goal.returns-clause-reads
-returns-clause-reads c = sized_reads c.args.classical c.args.at c.in_ok-scalar.ensures.reads c.in_ok-size.ensures.reads
+returns-clause-reads c = sized_reads _ _ c.args.classical c.args.at c.in_ok-scalar.ensures.reads c.in_ok-size.ensures.reads
