@@ -14,3 +14,4 @@ pub mod AssignReads
 pub mod BlockReads
 pub mod Opened
 pub mod TypeReads
+pub mod HeaderReads

@@ -99,3 +99,7 @@ function_begins k ts r s e h = ap (λ w. outcome (Functions ∷ k) w) e ∙ take
 pub bang_there : (k : List Symbol) (ts r : List Token) (s : Spot) → ts ≡ Fixed t.Bang s ∷ r → nest k ≤ 64 → outcome (AType ∷ k) ts ≡ outcome (AScalar ∷ SizePart ∷ k) r
 unfolding outcome
 bang_there k ts r s e h = ap (λ w. outcome (AType ∷ k) w) e ∙ taken (AScalar ∷ SizePart ∷ k) (Fixed t.Bang s ∷ r) _ (omega arith)
+
+pub params_end : (k : List Symbol) (ts r : List Token) (s : Spot) → ts ≡ Fixed t.RightParen s ∷ r → nest k ≤ 64 → outcome (Params ∷ Closing t.RightParen ∷ k) ts ≡ outcome k r
+unfolding outcome
+params_end k ts r s e h = ap (λ w. outcome (Params ∷ Closing t.RightParen ∷ k) w) e ∙ taken k (Fixed t.RightParen s ∷ r) _ (omega arith)
