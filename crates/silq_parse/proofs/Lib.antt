@@ -15,3 +15,4 @@ pub mod BlockReads
 pub mod Opened
 pub mod TypeReads
 pub mod HeaderReads
+pub mod FunctionReads

@@ -10,3 +10,4 @@ pub mod Groups
 pub mod Targets
 pub mod Parts
 pub mod AddedStatement
+pub mod Functions

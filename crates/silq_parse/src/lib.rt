@@ -5,6 +5,7 @@ mod assign;
 mod block;
 mod expr;
 pub mod fault;
+mod function;
 mod header;
 mod list;
 

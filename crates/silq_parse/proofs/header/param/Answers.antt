@@ -15,27 +15,22 @@ use Rattle.silq_parse.proofs.Skips.{params_there}
 use Rattle.silq_parse.proofs.header.param.Goals as goal
 
 pub returns-in_err-param-in-Name-clause-machine : goal.returns-in_err-param-in-Name-clause-machine
-unfolding outcome
 returns-in_err-param-in-Name-clause-machine c = λ k h.
     stops_behind _ _ _ _ _ _ c.from_residual.ensures.1 (refl) (c.in_err-param-in-Name.ensures.machine (k) (omega arith)) (moved_open k _ _ c.in-Name.id c.in-Name.at (grind (arith, common_steps)) (omega arith))
 
 pub returns-in_ok-param-in-Name-clause-machine : goal.returns-in_ok-param-in-Name-clause-machine
-unfolding outcome
 returns-in_ok-param-in-Name-clause-machine c = λ k h.
     behind ((c.in_ok-param-in-Name.ensures.machine (k) (omega arith))) (moved_open k _ _ c.in-Name.id c.in-Name.at (grind (arith, common_steps)) (omega arith))
 
 pub returns-in_err-id-in-Fixed-clause-machine : goal.returns-in_err-id-in-Fixed-clause-machine
-unfolding outcome
 returns-in_err-id-in-Fixed-clause-machine c = λ k h.
     stops_behind _ _ _ _ _ _ c.from_residual-in_err-id-in-Fixed.ensures.1 (refl) (c.in_err-id-in-Fixed.ensures.machine (Expect t.Colon ∷ AType ∷ k) (omega arith)) (held_open k _ _ c.in-Fixed.at (grind (arith, common_steps)) (omega arith))
 
 pub returns-in_err-param-in-Fixed-clause-machine : goal.returns-in_err-param-in-Fixed-clause-machine
-unfolding outcome
 returns-in_err-param-in-Fixed-clause-machine c = λ k h.
     stops_behind _ _ _ _ _ _ c.from_residual-in_err-param-in-Fixed.ensures.1 ((c.in_ok-id-in-Fixed.ensures.machine (Expect t.Colon ∷ AType ∷ k) (omega arith))) (c.in_err-param-in-Fixed.ensures.machine (k) (omega arith)) (held_open k _ _ c.in-Fixed.at (grind (arith, common_steps)) (omega arith))
 
 pub returns-in_ok-param-in-Fixed-clause-machine : goal.returns-in_ok-param-in-Fixed-clause-machine
-unfolding outcome
 returns-in_ok-param-in-Fixed-clause-machine c = λ k h.
     behind ((c.in_ok-id-in-Fixed.ensures.machine (Expect t.Colon ∷ AType ∷ k) (omega arith)) ∙ (c.in_ok-param-in-Fixed.ensures.machine (k) (omega arith))) (held_open k _ _ c.in-Fixed.at (grind (arith, common_steps)) (omega arith))
 

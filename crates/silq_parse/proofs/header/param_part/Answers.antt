@@ -15,12 +15,10 @@ use Rattle.silq_parse.proofs.Skips.{params_there}
 use Rattle.silq_parse.proofs.header.param_part.Goals as goal
 
 pub returns-in_err-params-clause-machine : goal.returns-in_err-params-clause-machine
-unfolding outcome
 returns-in_err-params-clause-machine c = λ k h.
     stops_behind _ _ _ _ _ _ c.from_residual-in_err-params.ensures.1 (refl) (c.in_err-params.ensures.machine (k) (omega arith)) (params_open k _ _ c.in-Fixed.open (grind (arith, common_steps)) (omega arith))
 
 pub returns-clause-machine : goal.returns-clause-machine
-unfolding outcome
 returns-clause-machine c = λ k h.
     behind ((c.in_ok-params.ensures.machine (k) (omega arith))) (params_open k _ _ c.in-Fixed.open (grind (arith, common_steps)) (omega arith))
 

@@ -19,7 +19,6 @@ returns-in_err-first-clause-machine c = λ k h.
     stops _ _ _ _ _ c.from_residual.ensures.1 (refl) (c.in_err-first.ensures.machine (MoreParams ∷ k) (omega arith))
 
 pub returns-in_err-next-clause-machine : goal.returns-in_err-next-clause-machine
-unfolding outcome
 returns-in_err-next-clause-machine c = λ k h.
     stops_behind _ _ _ _ _ _ c.from_residual-in_err-next.ensures.1 (refl) (c.in_err-next.ensures.machine (MoreParams ∷ k) (omega arith)) (c.loop-rest.invariant.1 k h ∙ more_params_open k _ _ c.in-Fixed._comma (grind (arith, common_steps)) (omega arith))
 

@@ -21,17 +21,14 @@ pub returns-in-Some-clause-reads : goal.returns-in-Some-clause-reads
 returns-in-Some-clause-reads c = no_params _ _ c.args.open_at c.in-Some._end c.new-params.ensures refl c.in-Some.ensures
 
 pub returns-in_err-params-in-None-clause-machine : goal.returns-in_err-params-in-None-clause-machine
-unfolding outcome
 returns-in_err-params-in-None-clause-machine c = λ k h.
     stops_behind _ _ _ _ _ _ c.from_residual.ensures.1 (refl) (c.in_err-params-in-None.ensures.machine (Closing t.RightParen ∷ k) (omega arith)) (params_there k _ c.in-None.ensures)
 
 pub returns-in_err-rest-in-None-clause-machine : goal.returns-in_err-rest-in-None-clause-machine
-unfolding outcome
 returns-in_err-rest-in-None-clause-machine c = λ k h.
     stops_behind _ _ _ _ _ _ c.from_residual-in_err-rest-in-None.ensures.1 ((c.in_ok-params-in-None.ensures.machine (Closing t.RightParen ∷ k) (omega arith))) (c.in_err-rest-in-None.ensures.closing (k) (omega arith)) (params_there k _ c.in-None.ensures)
 
 pub returns-in_ok-rest-in-None-clause-machine : goal.returns-in_ok-rest-in-None-clause-machine
-unfolding outcome
 returns-in_ok-rest-in-None-clause-machine c = λ k h.
     behind ((c.in_ok-params-in-None.ensures.machine (Closing t.RightParen ∷ k) (omega arith)) ∙ (c.in_ok-rest-in-None.ensures.closing (k) (omega arith))) (params_there k _ c.in-None.ensures)
 

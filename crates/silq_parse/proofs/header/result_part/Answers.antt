@@ -15,12 +15,10 @@ use Rattle.silq_parse.proofs.Skips.{params_there}
 use Rattle.silq_parse.proofs.header.result_part.Goals as goal
 
 pub returns-in_err-types-in-Fixed-clause-machine : goal.returns-in_err-types-in-Fixed-clause-machine
-unfolding outcome
 returns-in_err-types-in-Fixed-clause-machine c = λ k h.
     stops_behind _ _ _ _ _ _ c.from_residual.ensures.1 (refl) (c.in_err-types-in-Fixed.ensures.machine (k) (omega arith)) (results_open k _ _ c.in-Fixed._colon (grind (arith, common_steps)) (omega arith))
 
 pub returns-in_ok-types-in-Fixed-clause-machine : goal.returns-in_ok-types-in-Fixed-clause-machine
-unfolding outcome
 returns-in_ok-types-in-Fixed-clause-machine c = λ k h.
     behind ((c.in_ok-types-in-Fixed.ensures.machine (k) (omega arith))) (results_open k _ _ c.in-Fixed._colon (grind (arith, common_steps)) (omega arith))
 
