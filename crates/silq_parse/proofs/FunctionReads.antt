@@ -57,9 +57,6 @@ function_free a x y z = (free a (all_grew x y z), free_stmts a (all_grew x y z))
 five : (a b c d e rest : List Token) → a ++ (b ++ (c ++ (d ++ (e ++ rest)))) ≡ (a ++ (b ++ (c ++ (d ++ e)))) ++ rest
 five a b c d e rest = simp append_assoc
 
-text_then : {xs : List Token} (us : List Token) {ts r rest : List Token} → ts ≡ us ++ r → r ≡ rest → ts ≡ us ++ rest
-text_then us p q = p ∙ ap (λ w. us ++ w) q
-
 grown : (f : Forest) (n : NameId) (ss : List NameId) (ps : List ParamNode) (m : Mark) (rs : List TypeNode) (b : Block) (at a : Spot)
     (dss : g.StaticPart) (dps : g.ParamPart) (dm : g.MarkPart) (dr : g.ResultPart) (db : g.Block)
     → ss ≡ static_part_tree dss → map (param_of (expr_at f)) ps ≡ param_part_tree dps → m ≡ mark_tree dm → map (type_of (expr_at f)) rs ≡ result_part_tree dr → block_of (expr_at f) (stmt_at f) b ≡ block_tree db

@@ -16,3 +16,4 @@ pub mod Opened
 pub mod TypeReads
 pub mod HeaderReads
 pub mod FunctionReads
+pub mod ProgramReads

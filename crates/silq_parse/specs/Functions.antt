@@ -1,5 +1,5 @@
 -- What the functions of a program that were read do to an arena.
-use Rattle.std.specs.Prelude.{◌≡◌, ℕ, ◌+◌, ◌<◌, ◌≤◌, List, [], ◌∷◌, ◌++◌, Some, length, slice_get}
+use Rattle.std.specs.Prelude.{◌≡◌, ℕ, ◌+◌, ◌<◌, ◌≤◌, List, [], ◌∷◌, ◌++◌, length}
 use Rattle.silq_tree.specs.declared.node.ExprId.{ExprId}
 use Rattle.silq_tree.specs.declared.node.StmtId.{StmtId}
 use Rattle.silq_tree.specs.declared.node.FunId.{FunId}
@@ -38,12 +38,26 @@ pub record ReadsFunction (old new : Forest) (ts : List Token) (id : FunId) (rest
   pub owned : AreOwned old → AreOwned new
   pub bounded : HasRoom old new ts rest
 
+-- their numbers count up from this one
+abbrev pub AreInOrder : ℕ → List FunId → Type 0
+AreInOrder n [] = Unit {0}
+AreInOrder n (f ∷ fs) = (f.number ≡ n) × AreInOrder (n + 1) fs
+
 -- the tokens up to the rest spell the functions, for which the new nodes stand, in their order
 pub record ReadsFunctions (old new : Forest) (ts : List Token) (ids : List FunId) (rest : List Token) : Type 0 where
   pub derivation : Program
   pub spelled : ts ≡ program_text derivation ++ rest
   pub stands : program_at new ids ≡ program_tree derivation
   pub added : length new.funs ≡ length old.funs + length ids
-  pub numbers : (i : ℕ) (f : FunId) → i < length ids → slice_get ids i ≡ Some f → f.number ≡ length old.funs + i
+  pub numbers : AreInOrder (length old.funs) ids
   pub owned : AreOwned old → AreOwned new
   pub bounded : HasRoom old new ts rest
+
+-- the tokens spell the program of these functions, which are all, and each other node has one parent
+pub record IsParsed (nodes : Forest) (ts : List Token) (ids : List FunId) : Type 0 where
+  pub derivation : Program
+  pub spelled : ts ≡ program_text derivation
+  pub stands : program_at nodes ids ≡ program_tree derivation
+  pub funs_are_all : length ids ≡ length nodes.funs
+  pub funs_in_order : AreInOrder 0 ids
+  pub owned : AreOwned nodes

@@ -17,6 +17,7 @@ mod simple;
 mod statement;
 mod stop;
 mod target;
+mod tokens;
 mod types;
 
 pub use fault::ParseFault;
