@@ -73,16 +73,18 @@ no_tokens : (ts : List Token) → length ts ≡ 0 → ts ≡ []
 no_tokens [] e = refl
 no_tokens (x ∷ ts) e = absurd (omega arith)
 
-pub parsed : {old new : Forest} {ts rest : List Token} {ids : List FunId} → old ≡ record { exprs = []; stmts = []; funs = [] } → ReadsFunctions old new ts ids rest → length rest ≡ 0 → IsParsed new ts ids
-parsed {old} {new} {ts} {rest} {ids} e x r =
-    let no_funs : length old.funs ≡ 0 = ap (λ w. length w.funs) e in
+pub parsed : {old new : Forest} {ts rest : List Token} {ids : List FunId} → old.exprs ≡ [] → old.stmts ≡ [] → old.funs ≡ [] → ReadsFunctions old new ts ids rest → length rest ≡ 0 → IsParsed new ts ids
+parsed {old} {new} {ts} {rest} {ids} a b c x r =
+    let no_exprs : length old.exprs ≡ 0 = ap length a in
+    let no_stmts : length old.stmts ≡ 0 = ap length b in
+    let no_funs : length old.funs ≡ 0 = ap length c in
     record {
       derivation = x.derivation;
       spelled = x.spelled ∙ ap (λ w. program_text x.derivation ++ w) (no_tokens rest r) ∙ append-nil (program_text x.derivation);
       stands = x.stands;
       funs_are_all = omega (arith, x.added);
       funs_in_order = subst (λ w. AreInOrder w ids) no_funs x.numbers;
-      owned = x.owned (subst AreOwned (sym e) (record { exprs = λ id l. absurd (omega arith); stmts = λ id l. absurd (omega arith) }));
+      owned = x.owned (record { exprs = λ id l. absurd (omega arith); stmts = λ id l. absurd (omega arith) });
     }
 
 pub all_fine : (rest : List Token) → length rest ≡ 0 → outcome [] rest ≡ Fine
