@@ -9,6 +9,7 @@ mod operator;
 mod scalar;
 mod sign;
 mod stop;
+mod stub;
 mod target;
 
 pub use fault::ParseFault;
