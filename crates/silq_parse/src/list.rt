@@ -9,7 +9,7 @@ ghost use Rattle.silq_grammar.specs.declared.token.Token.{Token};
 ghost use Rattle.silq_grammar.specs.declared.token.Token.TheVariants.{Fixed};
 ghost use Rattle.silq_grammar.specs.declared.token.Terminal.TheVariants as t;
 ghost use Rattle.silq_grammar.specs.Machine.{Symbol, Closing, Expect, CallPart, MoreExprs, InBracket, InIndex, StartBracket, StartIndex, Arguments, an_expr, exprs, nest};
-ghost use Rattle.silq_grammar.specs.Outcome.{outcome, outcome_at};
+ghost use Rattle.silq_grammar.specs.Outcome.{outcome};
 ghost use Rattle.silq_grammar.specs.Spelled.{exprs_text, args_text};
 ghost use Rattle.silq_grammar.specs.Trees.{exprs_tree, args_tree};
 ghost use Rattle.silq_parse.specs.Stops.{StopsAt};
@@ -50,11 +50,11 @@ fn ids_of<'t>(alloc: Global, group: Group) -> Result<ExprIds, Stop<'t>>
 #[tactic(auto, unfolding(silq_grammar::specs::Outcome::outcome))]
 fn comma<'t>(tokens: &'t [Token]) -> Option<&'t [Token]>
     ensures more { (k : List Symbol) → MatchOption result (outcome (MoreExprs ∷ k) tokens.now ≡ outcome k tokens.now)
-        (λ rest. outcome (MoreExprs ∷ k) tokens.now ≡ outcome_at (Some (exprs k)) tokens.now (λ ys. outcome ys rest.now)) }
+        (λ rest. nest k ≤ 64 → outcome (MoreExprs ∷ k) tokens.now ≡ outcome (exprs k) rest.now) }
     ensures bracket { (k : List Symbol) → MatchOption result (outcome (InBracket ∷ k) tokens.now ≡ outcome (Closing t.RightBracket ∷ InIndex ∷ k) tokens.now)
-        (λ rest. outcome (InBracket ∷ k) tokens.now ≡ outcome (MoreExprs ∷ Closing t.RightBracket ∷ CallPart ∷ k) tokens.now) }
+        (λ rest. nest k ≤ 63 → outcome (InBracket ∷ k) tokens.now ≡ outcome (exprs (Closing t.RightBracket ∷ CallPart ∷ k)) rest.now) }
     ensures start { (k : List Symbol) → MatchOption result (outcome (StartBracket ∷ k) tokens.now ≡ outcome (Closing t.RightBracket ∷ StartIndex ∷ k) tokens.now)
-        (λ rest. outcome (StartBracket ∷ k) tokens.now ≡ outcome (MoreExprs ∷ Closing t.RightBracket ∷ CallPart ∷ Expect t.Semicolon ∷ k) tokens.now) }
+        (λ rest. nest k ≤ 63 → outcome (StartBracket ∷ k) tokens.now ≡ outcome (exprs (Closing t.RightBracket ∷ CallPart ∷ Expect t.Semicolon ∷ k)) rest.now) }
     ensures token { IfSome result (λ rest. (s : Spot) × (tokens.now ≡ Fixed t.Comma s ∷ rest.now)) }
 {
     match tokens {
@@ -63,9 +63,9 @@ fn comma<'t>(tokens: &'t [Token]) -> Option<&'t [Token]>
     }
 }
 
-/// Further expressions, each behind a comma, where the nest may still grow by `room`.
+/// Expressions between commas, behind the comma that follows those of the list; where the nest may still grow by `room`.
 #[tactic(auto, unfolding(silq_grammar::specs::Outcome::outcome))]
-fn more_exprs<'t>(
+fn exprs<'t>(
     alloc: Global,
     tree: &mut Tree,
     ids: &mut ExprIds,
@@ -74,21 +74,24 @@ fn more_exprs<'t>(
 ) -> Result<&'t [Token], Stop<'t>>
     requires arena { IsArena tree.old }
     requires nodes { length tree.old.exprs + length tokens.now < 2 ^ 32 - 1 }
-    ensures machine { (k : List Symbol) → nest k + room ≡ 64 → MatchResult result (λ rest. outcome (MoreExprs ∷ k) tokens.now ≡ outcome k rest.now)
-        (λ stop. StopsAt (outcome (MoreExprs ∷ k) tokens.now) stop) }
-    ensures reads { IfOk result (λ rest. (old : Forest) (ts : List Token) → ReadsPart exprs_text exprs_tree old tree.old ts (expressions_of (expr_at tree.old) ids.old) ids.old [] tokens.now
+    ensures machine { (k : List Symbol) → nest k + room ≡ 64 → MatchResult result (λ rest. outcome (exprs k) tokens.now ≡ outcome k rest.now)
+        (λ stop. StopsAt (outcome (exprs k) tokens.now) stop) }
+    ensures reads { IfOk result (λ rest. (old : Forest) (ts : List Token) (s : Spot)
+        → ReadsPart exprs_text exprs_tree old tree.old ts (expressions_of (expr_at tree.old) ids.old) ids.old [] (Fixed t.Comma s ∷ tokens.now)
         → ReadsPart exprs_text exprs_tree old tree.new ts (expressions_of (expr_at tree.new) ids.new) ids.new [] rest.now) }
     ensures arena { OnOk result (IsArena tree.new) }
-    ensures longer { length ids.old ≤ length ids.new }
-    ensures no_longer { IfOk result (λ rest. length rest.now ≤ length tokens.now) }
+    ensures longer { OnOk result (length ids.old < length ids.new) }
+    ensures shorter { IfOk result (λ rest. length rest.now < length tokens.now) }
 {
     let mut rest = tokens;
-    while let Some(more) = comma(rest) {
-        let (id, after) = inner(alloc, tree, more, room)?;
+    loop {
+        let (id, after) = inner(alloc, tree, rest, room)?;
         ids.push(id)?;
-        rest = after;
+        rest = match comma(after) {
+            Some(more) => more,
+            None => return Ok(after),
+        };
     }
-    Ok(rest)
 }
 
 /// An expression, or several between commas, and the sign that closes them; where the nest may still grow by `room`.
@@ -116,13 +119,13 @@ pub(crate) fn closed_group<'t>(
     ensures shorter { IfOk result (λ p. length p.1.now < length tokens.now) }
 {
     let (first, rest) = inner(alloc, tree, tokens, room)?;
-    if comma(rest).is_none() {
+    let Some(more) = comma(rest) else {
         let (_, rest) = sign(rest, closing)?;
         return Ok((Group::One(first), rest));
-    }
+    };
     let mut ids = ExprIds::new(alloc);
     ids.push(first)?;
-    let rest = more_exprs(alloc, tree, &mut ids, rest, room)?;
+    let rest = exprs(alloc, tree, &mut ids, more, room)?;
     let (_, rest) = sign(rest, closing)?;
     Ok((Group::Several(ids), rest))
 }
