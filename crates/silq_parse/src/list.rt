@@ -130,6 +130,19 @@ pub(crate) fn closed_group<'t>(
     Ok((Group::Several(ids), rest))
 }
 
+/// The tokens behind the parenthesis that closes no arguments.
+#[tactic(auto, unfolding(silq_grammar::specs::Outcome::outcome))]
+fn no_arguments<'t>(tokens: &'t [Token]) -> Option<&'t [Token]>
+    ensures machine { (k : List Symbol) → MatchOption result (outcome (Arguments ∷ Closing t.RightParen ∷ k) tokens.now ≡ outcome (exprs (Closing t.RightParen ∷ k)) tokens.now)
+        (λ rest. nest k ≤ 64 → outcome (Arguments ∷ Closing t.RightParen ∷ k) tokens.now ≡ outcome k rest.now) }
+    ensures token { IfSome result (λ rest. (s : Spot) × (tokens.now ≡ Fixed t.RightParen s ∷ rest.now)) }
+{
+    match tokens {
+        [Token::Fixed(Terminal::RightParen, _), rest @ ..] => Some(rest),
+        _ => None,
+    }
+}
+
 /// Arguments and the parenthesis behind them, where the nest may still grow by `room`.
 #[tactic(auto, unfolding(silq_grammar::specs::Outcome::outcome))]
 pub(crate) fn arguments<'t>(
@@ -146,7 +159,7 @@ pub(crate) fn arguments<'t>(
     ensures arena { OnOk result (IsArena tree.new) }
     ensures shorter { IfOk result (λ p. length p.1.now < length tokens.now) }
 {
-    if let [Token::Fixed(Terminal::RightParen, _), rest @ ..] = tokens {
+    if let Some(rest) = no_arguments(tokens) {
         return Ok((ExprIds::new(alloc), rest));
     }
     let (several, rest) = closed_group(alloc, tree, Terminal::RightParen, tokens, room)?;
