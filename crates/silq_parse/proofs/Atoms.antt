@@ -26,6 +26,9 @@ use Rattle.silq_parse.specs.Reads.{IsBounded, ReadsExpr, ReadsPart}
 use Rattle.silq_parse.specs.Added.{IsAdded}
 use Rattle.silq_parse.specs.Groups.{ReadsGroup, group_ids, IsGrouped}
 use Rattle.silq_parse.specs.Targets.{ReadsTarget}
+use Rattle.silq_parse.specs.Scalars.{word_of, wide_node}
+use Rattle.silq_parse.specs.declared.scalar.Wide.{Wide}
+use Rattle.silq_parse.specs.declared.scalar.Wide.TheVariants as wides
 use Rattle.silq_parse.specs.declared.list.Group.{Group}
 use Rattle.silq_parse.specs.declared.list.Group.TheVariants as groups
 use Rattle.silq_parse.specs.declared.target.Target.{Target}
@@ -184,3 +187,9 @@ read_paren {old} {new} {ts} {rest} {l} {id} mid r (groups.Several es) a n = reco
     tuple_tree (g.last e) (x ∷ []) h k = absurd (omega arith)
     tuple_tree (g.last e) (x ∷ y ∷ ids) h k = cc
     tuple_tree (g.and_more e s d) ids h k = cc
+
+pub read_wide : {old new : Forest} {s l r : Spot} {tokens rest ts more after : List Token} {id : ExprId} (wide : Wide) → tokens ≡ Fixed (word_of (Some wide)) s ∷ rest → rest ≡ Fixed t.LeftBracket l ∷ ts
+    → ReadsExpr expr_text expr_tree old new ts id more → more ≡ Fixed t.RightBracket r ∷ after
+    → ReadsPart scalar_text scalar_tree old new tokens (scalar_of (expr_at new) (wide_node wide id)) (scalar_exprs (wide_node wide id)) [] after
+read_wide wides.UInt e f a g = rw (e, f) (read_uint (rw g at a))
+read_wide wides.Int e f a g = rw (e, f) (read_int (rw g at a))

@@ -6,5 +6,6 @@ pub mod Stops
 pub mod Grown
 pub mod Reads
 pub mod Added
+pub mod Scalars
 pub mod Groups
 pub mod Targets
