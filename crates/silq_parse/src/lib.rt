@@ -5,6 +5,7 @@ mod expr;
 pub mod fault;
 mod list;
 mod node;
+mod open;
 mod operator;
 mod scalar;
 mod sign;
