@@ -26,6 +26,7 @@ use Rattle.silq_parse.specs.Reads.{IsBounded, ReadsExpr, ReadsPart}
 use Rattle.silq_parse.specs.Added.{IsAdded}
 use Rattle.silq_parse.specs.Groups.{ReadsGroup, group_ids, IsGrouped}
 use Rattle.silq_parse.specs.Targets.{ReadsTarget}
+use Rattle.silq_parse.specs.Operands.{sign_of_unary, word_of_truth}
 use Rattle.silq_parse.specs.Scalars.{word_of, wide_node}
 use Rattle.silq_parse.specs.declared.scalar.Wide.{Wide}
 use Rattle.silq_parse.specs.declared.scalar.Wide.TheVariants as wides
@@ -56,14 +57,15 @@ read_true {old} {new} {id} {at} {rest} n = leaf _ id (g.true_ at) _ rest refl re
 pub read_false : {old new : Forest} {id : ExprId} {at : Spot} {rest : List Token} → IsAdded old new (exprs.Truth false at) id → ReadsExpr unary_text unary_tree old new (Fixed t.False at ∷ rest) id rest
 read_false {old} {new} {id} {at} {rest} n = leaf _ id (g.false_ at) _ rest refl refl refl n
 
+pub read_truth : {old new : Forest} {id : ExprId} {value : Bool} {at : Spot} {rest : List Token} → IsAdded old new (exprs.Truth value at) id
+    → ReadsExpr unary_text unary_tree old new (Fixed (word_of_truth value) at ∷ rest) id rest
+read_truth {value = true} n = read_true n
+read_truth {value = false} n = read_false n
+
 pub read_pi : {old new : Forest} {id : ExprId} {at : Spot} {rest : List Token} → IsAdded old new (exprs.Pi at) id → ReadsExpr unary_text unary_tree old new (Fixed t.Pi at ∷ rest) id rest
 read_pi {old} {new} {id} {at} {rest} n = leaf _ id (g.pi at) _ rest refl refl refl n
 
 -- a sign and its operand
-abbrev pub sign_of_unary : UnaryOp → Terminal
-sign_of_unary unaries.Not = t.Bang
-sign_of_unary unaries.Neg = t.Minus
-
 read_signed : {old mid new : Forest} {ts rest : List Token} {arg id : ExprId} {op : UnaryOp} {sign : Terminal} {at : Spot} (join : Spot → g.Unary → g.Unary)
     → ((u : g.Unary) → unary_text (join at u) ≡ Fixed sign at ∷ unary_text u) → ((u : g.Unary) → unary_tree (join at u) ≡ tree.unary op (unary_tree u) at)
     → ReadsExpr unary_text unary_tree old mid ts arg rest → IsAdded mid new (exprs.Unary op arg at) id → ReadsExpr unary_text unary_tree old new (Fixed sign at ∷ ts) id rest

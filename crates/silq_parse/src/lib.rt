@@ -6,6 +6,7 @@ pub mod fault;
 mod list;
 mod node;
 mod open;
+mod operand;
 mod operator;
 mod scalar;
 mod sign;
