@@ -26,6 +26,10 @@ use Rattle.silq_parse.specs.Reads.{IsBounded, ReadsExpr, ReadsPart}
 use Rattle.silq_parse.specs.Added.{IsAdded}
 use Rattle.silq_parse.specs.Groups.{ReadsGroup, group_ids, IsGrouped}
 use Rattle.silq_parse.specs.Targets.{ReadsTarget}
+use Rattle.silq_parse.specs.Operands.{sign_of_unary, word_of_truth}
+use Rattle.silq_parse.specs.Scalars.{word_of, wide_node}
+use Rattle.silq_parse.specs.declared.scalar.Wide.{Wide}
+use Rattle.silq_parse.specs.declared.scalar.Wide.TheVariants as wides
 use Rattle.silq_parse.specs.declared.list.Group.{Group}
 use Rattle.silq_parse.specs.declared.list.Group.TheVariants as groups
 use Rattle.silq_parse.specs.declared.target.Target.{Target}
@@ -53,14 +57,15 @@ read_true {old} {new} {id} {at} {rest} n = leaf _ id (g.true_ at) _ rest refl re
 pub read_false : {old new : Forest} {id : ExprId} {at : Spot} {rest : List Token} → IsAdded old new (exprs.Truth false at) id → ReadsExpr unary_text unary_tree old new (Fixed t.False at ∷ rest) id rest
 read_false {old} {new} {id} {at} {rest} n = leaf _ id (g.false_ at) _ rest refl refl refl n
 
+pub read_truth : {old new : Forest} {id : ExprId} {value : Bool} {at : Spot} {rest : List Token} → IsAdded old new (exprs.Truth value at) id
+    → ReadsExpr unary_text unary_tree old new (Fixed (word_of_truth value) at ∷ rest) id rest
+read_truth {value = true} n = read_true n
+read_truth {value = false} n = read_false n
+
 pub read_pi : {old new : Forest} {id : ExprId} {at : Spot} {rest : List Token} → IsAdded old new (exprs.Pi at) id → ReadsExpr unary_text unary_tree old new (Fixed t.Pi at ∷ rest) id rest
 read_pi {old} {new} {id} {at} {rest} n = leaf _ id (g.pi at) _ rest refl refl refl n
 
 -- a sign and its operand
-abbrev pub sign_of_unary : UnaryOp → Terminal
-sign_of_unary unaries.Not = t.Bang
-sign_of_unary unaries.Neg = t.Minus
-
 read_signed : {old mid new : Forest} {ts rest : List Token} {arg id : ExprId} {op : UnaryOp} {sign : Terminal} {at : Spot} (join : Spot → g.Unary → g.Unary)
     → ((u : g.Unary) → unary_text (join at u) ≡ Fixed sign at ∷ unary_text u) → ((u : g.Unary) → unary_tree (join at u) ≡ tree.unary op (unary_tree u) at)
     → ReadsExpr unary_text unary_tree old mid ts arg rest → IsAdded mid new (exprs.Unary op arg at) id → ReadsExpr unary_text unary_tree old new (Fixed sign at ∷ ts) id rest
@@ -184,3 +189,9 @@ read_paren {old} {new} {ts} {rest} {l} {id} mid r (groups.Several es) a n = reco
     tuple_tree (g.last e) (x ∷ []) h k = absurd (omega arith)
     tuple_tree (g.last e) (x ∷ y ∷ ids) h k = cc
     tuple_tree (g.and_more e s d) ids h k = cc
+
+pub read_wide : {old new : Forest} {s l r : Spot} {tokens rest ts more after : List Token} {id : ExprId} (wide : Wide) → tokens ≡ Fixed (word_of (Some wide)) s ∷ rest → rest ≡ Fixed t.LeftBracket l ∷ ts
+    → ReadsExpr expr_text expr_tree old new ts id more → more ≡ Fixed t.RightBracket r ∷ after
+    → ReadsPart scalar_text scalar_tree old new tokens (scalar_of (expr_at new) (wide_node wide id)) (scalar_exprs (wide_node wide id)) [] after
+read_wide wides.UInt e f a g = rw (e, f) (read_uint (rw g at a))
+read_wide wides.Int e f a g = rw (e, f) (read_int (rw g at a))

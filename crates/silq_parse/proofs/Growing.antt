@@ -218,3 +218,14 @@ statements_kept (id ∷ ids) k b = let e = k.stmts id b.0 in let f = statements_
 -- the roots so far may get a parent
 pub free : {old mid : Forest} {xs : List ExprId} {ss : List StmtId} → IsArena mid → Grew old mid xs ss → AreFree mid xs
 free a g = record { there = g.exprs_there; parents = may_name a g }
+
+-- those that were free, and new ones
+pub free_then : {old mid : Forest} {xs ys : List ExprId} {ss : List StmtId} → IsArena mid → AreFree old xs → Grew old mid ys ss → AreFree mid (xs ++ ys)
+free_then {old} {mid} {xs} {ys} a f g = record {
+  there = exprs_below-append _ xs ys (exprs_below_more _ _ xs g.more_exprs f.there) g.exprs_there;
+  parents = λ id. of id (split_at (length old.exprs) id.number);
+}
+  where
+    of : (id : ExprId) → (id.number < length old.exprs) ⊎ (length old.exprs ≤ id.number) → expr_parents mid id + expr_count id (xs ++ ys) ≤ 1
+    of id (inl l) = omega (arith, expr_count-append id xs ys, g.old_exprs id l, g.old_expr_parents id l, f.parents id)
+    of id (inr l) = omega (arith, expr_count-append id xs ys, expr_count_above _ id xs l f.there, may_name a g id)

@@ -9,13 +9,17 @@ ghost use Rattle.silq_grammar.specs.Trees.{expr_tree, and_tree, cmp_tree, sum_tr
 ghost use Rattle.silq_parse.specs.Stops.{StopsAt};
 ghost use Rattle.silq_parse.specs.Reads.{ReadsExpr};
 
-use crate::node::{add_binary, first_spot};
+use crate::list::closed_group;
+use crate::node::{add, add_binary, add_group, add_number, add_target, add_unary, first_spot};
+use crate::operand::{begun, colon, Operand};
 use crate::operator::{
     and_operator, comparison_operator, or_operator, prod_operator, sum_operator,
 };
 use crate::stop::{Stop, deeper};
-use silq_grammar::Token;
-use silq_tree::{ExprId, Tree};
+use crate::scalar::scalar;
+use crate::target::behind_name;
+use silq_grammar::{Terminal, Token};
+use silq_tree::{Expr, ExprId, Tree};
 use std::alloc::Global;
 
 /// An expression, where the nest may still grow by `room`.
@@ -151,6 +155,8 @@ fn prod<'t>(
     Ok((left, rest))
 }
 
+/// An operand with its signs, where the nest may still grow by `room`.
+#[tactic(auto, unfolding(silq_grammar::specs::Outcome::outcome))]
 fn unary<'t>(
     alloc: Global,
     tree: &mut Tree,
@@ -165,5 +171,29 @@ fn unary<'t>(
     ensures arena { OnOk result (IsArena tree.new) }
     ensures shorter { IfOk result (λ p. length p.1.now < length tokens.now) }
 {
-    Err(Stop::Memory)
+    match begun(tokens) {
+        Operand::Name(name, at, rest) => {
+            let (target, rest) = behind_name(alloc, tree, name, at, rest, room)?;
+            Ok((add_target(tree, target, at)?, rest))
+        }
+        Operand::Number(value, at, rest) => {
+            let Some(more) = colon(rest) else {
+                return Ok((add_number(tree, value, None, at)?, rest));
+            };
+            let (ty, rest) = scalar(alloc, tree, more, room)?;
+            Ok((add_number(tree, value, Some(ty), at)?, rest))
+        }
+        Operand::Truth(value, at, rest) => Ok((add(tree, Expr::Truth { value, at })?, rest)),
+        Operand::Pi(at, rest) => Ok((add(tree, Expr::Pi { at })?, rest)),
+        Operand::Paren(at, rest) => {
+            let inside = deeper(tokens, room)?;
+            let (group, rest) = closed_group(alloc, tree, Terminal::RightParen, rest, inside)?;
+            Ok((add_group(tree, group, at)?, rest))
+        }
+        Operand::Sign(op, at, rest) => {
+            let (arg, rest) = unary(alloc, tree, rest, deeper(tokens, room)?)?;
+            Ok((add_unary(tree, op, arg, at)?, rest))
+        }
+        Operand::Nothing => Err(Stop::Syntax(tokens)),
+    }
 }

@@ -10,12 +10,15 @@ mod header;
 mod list;
 
 mod node;
+mod open;
+mod operand;
 mod operator;
 mod scalar;
 mod sign;
 mod simple;
 mod statement;
 mod stop;
+mod stub;
 mod target;
 mod tokens;
 mod types;
