@@ -3,7 +3,6 @@ use Rattle.std.specs.Prelude.{ℕ, List, [], ◌∷◌, Option, Some, None, if�
 use Rattle.std.specs.Str.{chars}
 use Rattle.silq_lex.specs.Tokens.{Tokens, tokens_of, Ending, End, Fault}
 use Rattle.silq_tree.specs.declared.node.Spot.{Spot}
-use Rattle.silq_grammar.specs.declared.token.Token.{Token}
 use Rattle.silq_grammar.specs.Tokens.{spot_of}
 use Rattle.silq_grammar.specs.Outcome.{Outcome, program_outcome}
 use Rattle.silq_grammar.specs.Outcome as outcomes

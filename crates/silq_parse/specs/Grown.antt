@@ -1,5 +1,5 @@
 -- What new nodes do to an arena.
-use Rattle.std.specs.Prelude.{◌≡◌, ℕ, ◌+◌, ◌<◌, ◌≤◌, List, length}
+use Rattle.std.specs.Prelude.{◌≡◌, ◌+◌, ◌<◌, ◌≤◌, List, length}
 use Rattle.silq_tree.specs.declared.node.ExprId.{ExprId}
 use Rattle.silq_tree.specs.declared.node.StmtId.{StmtId}
 use Rattle.silq_tree.specs.Arena.{Forest, KeepsTrees, expr_parents, stmt_parents}

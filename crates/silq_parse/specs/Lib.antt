@@ -6,3 +6,12 @@ pub mod Stands
 pub mod Stops
 pub mod Grown
 pub mod Reads
+pub mod Added
+pub mod Operands
+pub mod Opens
+pub mod Scalars
+pub mod Groups
+pub mod Targets
+pub mod Parts
+pub mod AddedStatement
+pub mod Functions

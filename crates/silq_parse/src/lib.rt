@@ -1,12 +1,32 @@
 #![tactic(auto)]
 //! The parser of Silq: the program that a text is, or its first fault.
 
+mod assign;
+mod block;
+mod expr;
 pub mod fault;
 mod functions;
 mod lexed;
 mod source;
 mod stop;
 mod terminal;
+mod function;
+mod header;
+mod list;
+
+mod node;
+mod open;
+mod operand;
+mod operator;
+mod scalar;
+mod sign;
+mod simple;
+mod statement;
+mod stop;
+mod stub;
+mod target;
+mod tokens;
+mod types;
 
 pub use fault::ParseFault;
 pub use source::parse;
