@@ -11,7 +11,6 @@ mod operator;
 mod scalar;
 mod sign;
 mod stop;
-mod stub;
 mod target;
 
 pub use fault::ParseFault;
