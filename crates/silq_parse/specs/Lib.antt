@@ -2,7 +2,6 @@ pub mod Spelling
 pub mod Lexed
 pub mod Endings
 pub mod Faults
-pub mod Stands
 pub mod Stops
 pub mod Grown
 pub mod Reads
@@ -15,3 +14,4 @@ pub mod Targets
 pub mod Parts
 pub mod AddedStatement
 pub mod Functions
+pub mod Stands

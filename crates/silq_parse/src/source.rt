@@ -9,9 +9,9 @@ ghost use Rattle.silq_parse.specs.Stands.{StandsFor};
 ghost use Rattle.silq_parse.specs.Stops.{StopsAt};
 
 use crate::fault::ParseFault;
-use crate::functions::program;
 use crate::lexed::{Lexed, lex};
 use crate::stop::Stop;
+use crate::tokens::parse_tokens;
 use silq_grammar::Token;
 use silq_lex::{LexFault, Place};
 use silq_tree::{Program, Spot};
@@ -34,7 +34,7 @@ pub fn parse(alloc: Global, src: &str) -> Result<Program, ParseFault>
     let Ok(lexed) = lex(alloc, src) else {
         return Err(ParseFault::Memory);
     };
-    match program(alloc, lexed.tokens.as_slice()) {
+    match parse_tokens(alloc, lexed.tokens.as_slice()) {
         Err(stop) => Err(fault_of(stop, lexed.ending)),
         Ok((tree, funs)) => match lexed.ending {
             Err(fault) => Err(ParseFault::Lex(fault)),
