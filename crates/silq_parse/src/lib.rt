@@ -8,7 +8,6 @@ pub mod fault;
 mod function;
 mod header;
 mod list;
-
 mod node;
 mod open;
 mod operand;
