@@ -11,18 +11,19 @@ ghost use Rattle.silq_parse.specs.Reads.{ReadsExpr};
 
 use crate::list::closed_group;
 use crate::node::{add, add_binary, add_group, add_number, add_target, add_unary, first_spot};
-use crate::operand::{begun, colon, Operand};
+use crate::operand::{Operand, begun, colon};
 use crate::operator::{
     and_operator, comparison_operator, or_operator, prod_operator, sum_operator,
 };
-use crate::stop::{Stop, deeper};
 use crate::scalar::scalar;
+use crate::stop::{Stop, deeper};
 use crate::target::behind_name;
 use silq_grammar::{Terminal, Token};
 use silq_tree::{Expr, ExprId, Tree};
 use std::alloc::Global;
 
 /// An expression, where the nest may still grow by `room`.
+#[cycle(expression)]
 #[tactic(auto, unfolding(silq_grammar::specs::Outcome::outcome))]
 pub(crate) fn expr<'t>(
     alloc: Global,
@@ -50,6 +51,7 @@ pub(crate) fn expr<'t>(
 }
 
 /// What may stand on each side of `||`, where the nest may still grow by `room`.
+#[cycle(expression)]
 #[tactic(auto, unfolding(silq_grammar::specs::Outcome::outcome))]
 fn and<'t>(
     alloc: Global,
@@ -77,6 +79,7 @@ fn and<'t>(
 }
 
 /// What may stand on each side of `&&`: a sum, or two that are compared; where the nest may still grow by `room`.
+#[cycle(expression)]
 #[tactic(auto, unfolding(silq_grammar::specs::Outcome::outcome))]
 fn comparison<'t>(
     alloc: Global,
@@ -102,6 +105,7 @@ fn comparison<'t>(
 }
 
 /// A sum, where the nest may still grow by `room`.
+#[cycle(expression)]
 #[tactic(auto, unfolding(silq_grammar::specs::Outcome::outcome))]
 fn sum<'t>(
     alloc: Global,
@@ -129,6 +133,7 @@ fn sum<'t>(
 }
 
 /// A product, where the nest may still grow by `room`.
+#[cycle(expression)]
 #[tactic(auto, unfolding(silq_grammar::specs::Outcome::outcome))]
 fn prod<'t>(
     alloc: Global,
@@ -156,6 +161,7 @@ fn prod<'t>(
 }
 
 /// An operand with its signs, where the nest may still grow by `room`.
+#[cycle(expression)]
 #[tactic(auto, unfolding(silq_grammar::specs::Outcome::outcome))]
 fn unary<'t>(
     alloc: Global,

@@ -17,7 +17,6 @@ mod sign;
 mod simple;
 mod statement;
 mod stop;
-mod stub;
 mod target;
 mod tokens;
 mod types;

@@ -17,9 +17,9 @@ ghost use Rattle.silq_parse.specs.Reads.{ReadsPart};
 ghost use Rattle.silq_parse.specs.Groups.{group_ids, ReadsGroup, behind_bracket, start_bracket};
 ghost use Rattle.silq_parse.specs.declared.stop.Stop.TheVariants as stops;
 
+use crate::expr::expr;
 use crate::sign::sign;
 use crate::stop::Stop;
-use crate::stub::inner;
 use silq_grammar::{Terminal, Token};
 use silq_tree::{ExprId, ExprIds, Tree};
 use std::alloc::Global;
@@ -64,6 +64,7 @@ fn comma<'t>(tokens: &'t [Token]) -> Option<&'t [Token]>
 }
 
 /// Expressions between commas, behind the comma that follows those of the list; where the nest may still grow by `room`.
+#[cycle(expression)]
 #[tactic(auto, unfolding(silq_grammar::specs::Outcome::outcome))]
 fn exprs<'t>(
     alloc: Global,
@@ -85,7 +86,7 @@ fn exprs<'t>(
 {
     let mut rest = tokens;
     loop {
-        let (id, after) = inner(alloc, tree, rest, room)?;
+        let (id, after) = expr(alloc, tree, rest, room)?;
         ids.push(id)?;
         rest = match comma(after) {
             Some(more) => more,
@@ -95,6 +96,7 @@ fn exprs<'t>(
 }
 
 /// An expression, or several between commas, and the sign that closes them; where the nest may still grow by `room`.
+#[cycle(expression)]
 #[tactic(auto, unfolding(silq_grammar::specs::Outcome::outcome))]
 pub(crate) fn closed_group<'t>(
     alloc: Global,
@@ -118,7 +120,7 @@ pub(crate) fn closed_group<'t>(
     ensures arena { OnOk result (IsArena tree.new) }
     ensures shorter { IfOk result (λ p. length p.1.now < length tokens.now) }
 {
-    let (first, rest) = inner(alloc, tree, tokens, room)?;
+    let (first, rest) = expr(alloc, tree, tokens, room)?;
     let Some(more) = comma(rest) else {
         let (_, rest) = sign(rest, closing)?;
         return Ok((Group::One(first), rest));
@@ -144,6 +146,7 @@ fn no_arguments<'t>(tokens: &'t [Token]) -> Option<&'t [Token]>
 }
 
 /// Arguments and the parenthesis behind them, where the nest may still grow by `room`.
+#[cycle(expression)]
 #[tactic(auto, unfolding(silq_grammar::specs::Outcome::outcome))]
 pub(crate) fn arguments<'t>(
     alloc: Global,

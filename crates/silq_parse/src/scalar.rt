@@ -15,9 +15,9 @@ ghost use Rattle.silq_parse.specs.Stops.{StopsAt};
 ghost use Rattle.silq_parse.specs.Reads.{ReadsPart};
 ghost use Rattle.silq_parse.specs.Scalars.{word_of, behind_word, wide_node};
 
+use crate::expr::expr;
 use crate::sign::sign;
-use crate::stop::{deeper, Stop};
-use crate::stub::inner;
+use crate::stop::{Stop, deeper};
 use silq_grammar::{Terminal, Token};
 use silq_tree::{ExprId, ScalarNode, Tree};
 use std::alloc::Global;
@@ -69,6 +69,7 @@ fn width<'t>(tokens: &'t [Token]) -> Result<&'t [Token], Stop<'t>>
 }
 
 /// A scalar type, where the nest may still grow by `room`.
+#[cycle(expression)]
 #[tactic(auto, unfolding(silq_grammar::specs::Outcome::outcome))]
 pub(crate) fn scalar<'t>(
     alloc: Global,
@@ -89,7 +90,7 @@ pub(crate) fn scalar<'t>(
         return Ok((ScalarNode::Bit, rest));
     };
     let inner_tokens = width(rest)?;
-    let (id, rest) = inner(alloc, tree, inner_tokens, deeper(rest, room)?)?;
+    let (id, rest) = expr(alloc, tree, inner_tokens, deeper(rest, room)?)?;
     let (_, rest) = sign(rest, Terminal::RightBracket)?;
     Ok((node(wide, id), rest))
 }

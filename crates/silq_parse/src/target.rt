@@ -15,12 +15,12 @@ ghost use Rattle.silq_parse.specs.Reads.{ReadsExpr};
 ghost use Rattle.silq_parse.specs.Added.{AreFree};
 ghost use Rattle.silq_parse.specs.Targets.{ReadsTarget, behind_target};
 
-use crate::list::{arguments, closed_group, Group};
+use crate::expr::expr;
+use crate::list::{Group, arguments, closed_group};
 use crate::node::add_call;
-use crate::open::{call_paren, opened, Open};
+use crate::open::{Open, call_paren, opened};
 use crate::sign::sign;
-use crate::stop::{deeper, Stop};
-use crate::stub::inner;
+use crate::stop::{Stop, deeper};
 use silq_grammar::{Terminal, Token};
 use silq_tree::{ExprId, ExprIds, NameId, PlaceNode, Spot, Tree};
 use std::alloc::Global;
@@ -33,6 +33,7 @@ pub(crate) enum Target {
 }
 
 /// A place or a call behind its name and its first index, where the nest may still grow by `room` inside a bracket.
+#[cycle(expression)]
 #[tactic(auto, unfolding(silq_grammar::specs::Outcome::outcome))]
 fn indexed<'t>(
     alloc: Global,
@@ -65,7 +66,7 @@ fn indexed<'t>(
             Ok((Target::Place(place), tokens))
         }
         Open::Bracket(rest) => {
-            let (second, rest) = inner(alloc, tree, rest, room)?;
+            let (second, rest) = expr(alloc, tree, rest, room)?;
             let (_, rest) = sign(rest, Terminal::RightBracket)?;
             let place = PlaceNode {
                 name,
@@ -85,6 +86,7 @@ fn indexed<'t>(
 }
 
 /// A place or a call behind its name and a bracket, where the nest may still grow by `room` inside the bracket.
+#[cycle(expression)]
 #[tactic(auto, unfolding(silq_grammar::specs::Outcome::outcome))]
 fn bracketed<'t>(
     alloc: Global,
@@ -118,6 +120,7 @@ fn bracketed<'t>(
 }
 
 /// A place or a call whose name stands before these tokens, where the nest may still grow by `room`.
+#[cycle(expression)]
 #[tactic(auto, unfolding(silq_grammar::specs::Outcome::outcome))]
 pub(crate) fn behind_name<'t>(
     alloc: Global,
