@@ -106,6 +106,8 @@ call_reads {old} {mid} {new} {ts} {r} {rest} {c} {id} n at end x p a = record {
   grew = added_grew a x.grew;
   bounded =
       let y = one_more p in
-      record { exprs = let e : length new.exprs ≡ length mid.exprs = ap (λ w. length w.exprs) a.is in omega (arith, x.bounded.exprs);
-               stmts = let e : length new.stmts ≡ length mid.stmts + 1 = ap (λ w. length w.stmts) a.is ∙ length-append mid.stmts (stmts.Call c at ∷ []) in omega (arith, x.bounded.stmts) };
+      record {
+        exprs = let e : length new.exprs ≡ length mid.exprs = ap (λ w. length w.exprs) a.is in omega (arith, x.bounded.exprs);
+        stmts = let e : length new.stmts ≡ length mid.stmts + 1 = ap (λ w. length w.stmts) a.is ∙ length-append mid.stmts (stmts.Call c at ∷ []) in omega (arith, x.bounded.stmts);
+      };
 }

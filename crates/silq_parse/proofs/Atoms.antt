@@ -1,40 +1,33 @@
 -- What was read of an operand.
-use Rattle.std.proofs.Common.{◌≡◌, ℕ, ℤ, suc, ◌<◌, ◌≤◌, ◌+◌, Bool, true, false, List, [], ◌∷◌, ◌++◌, Option, Some, None, length, refl, sym, ◌∙◌, ap, arith, append_assoc, length-append}
+use Rattle.std.proofs.Common.{◌≡◌, ℤ, ◌≤◌, Bool, true, false, List, [], ◌∷◌, ◌++◌, Some, None, length, refl, sym, ◌∙◌, ap, arith, append_assoc}
 use Rattle.silq_tree.specs.declared.node.Spot.{Spot}
 use Rattle.silq_tree.specs.declared.node.ExprId.{ExprId}
-use Rattle.silq_tree.specs.declared.node.NameId.{NameId}
-use Rattle.silq_tree.specs.declared.node.PlaceNode.{PlaceNode}
 use Rattle.silq_tree.specs.declared.node.ScalarNode.{ScalarNode}
-use Rattle.silq_tree.specs.declared.node.ScalarNode.TheVariants as scalars
 use Rattle.silq_tree.specs.declared.node.UnaryOp.{UnaryOp}
 use Rattle.silq_tree.specs.declared.node.UnaryOp.TheVariants as unaries
 use Rattle.silq_tree.specs.declared.node.Expr.{Expr}
 use Rattle.silq_tree.specs.declared.node.Expr.TheVariants as exprs
 use Rattle.silq_tree.specs.Syntax as tree
-use Rattle.silq_tree.specs.Standing.{expr_grown, expressions_of, scalar_of, place_of}
-use Rattle.silq_tree.specs.Children.{expr_exprs, place_exprs, scalar_exprs, HasFirst}
-use Rattle.silq_tree.specs.Arena.{Forest, expr_at, with_expr, KeepsTrees}
+use Rattle.silq_tree.specs.Standing.{expr_grown, expressions_of, scalar_of}
+use Rattle.silq_tree.specs.Children.{expr_exprs, scalar_exprs}
+use Rattle.silq_tree.specs.Arena.{Forest, expr_at}
 use Rattle.silq_grammar.specs.declared.token.Token.{Token}
-use Rattle.silq_grammar.specs.declared.token.Token.TheVariants.{Name, Number, Fixed}
+use Rattle.silq_grammar.specs.declared.token.Token.TheVariants.{Number, Fixed}
 use Rattle.silq_grammar.specs.declared.token.Terminal.{Terminal}
 use Rattle.silq_grammar.specs.declared.token.Terminal.TheVariants as t
 use Rattle.silq_grammar.specs.Grammar as g
-use Rattle.silq_grammar.specs.Spelled.{expr_text, unary_text, scalar_text, place_text, call_text, args_text, exprs_text}
-use Rattle.silq_grammar.specs.Trees.{expr_tree, unary_tree, scalar_tree, place_tree, call_tree, args_tree, exprs_tree}
-use Rattle.silq_parse.specs.Grown.{Grew}
-use Rattle.silq_parse.specs.Reads.{IsBounded, ReadsExpr, ReadsPart}
+use Rattle.silq_grammar.specs.Spelled.{expr_text, unary_text, scalar_text, exprs_text}
+use Rattle.silq_grammar.specs.Trees.{expr_tree, unary_tree, scalar_tree, exprs_tree}
+use Rattle.silq_parse.specs.Reads.{ReadsExpr, ReadsPart}
 use Rattle.silq_parse.specs.Added.{IsAdded}
 use Rattle.silq_parse.specs.Groups.{ReadsGroup, group_ids, IsGrouped}
-use Rattle.silq_parse.specs.Targets.{ReadsTarget}
 use Rattle.silq_parse.specs.Operands.{sign_of_unary, word_of_truth}
 use Rattle.silq_parse.specs.Scalars.{word_of, wide_node}
 use Rattle.silq_parse.specs.declared.scalar.Wide.{Wide}
 use Rattle.silq_parse.specs.declared.scalar.Wide.TheVariants as wides
 use Rattle.silq_parse.specs.declared.list.Group.{Group}
 use Rattle.silq_parse.specs.declared.list.Group.TheVariants as groups
-use Rattle.silq_parse.specs.declared.target.Target.{Target}
-use Rattle.silq_parse.specs.declared.target.Target.TheVariants as targets
-use Rattle.silq_parse.proofs.Growing.{grew_nothing, grew_then, grew_expr, expressions_kept}
+use Rattle.silq_parse.proofs.Growing.{grew_nothing, grew_then, expressions_kept}
 use Rattle.silq_parse.proofs.Reading.{made, grew_by, one_more, same_stmts}
 
 -- a node without parts

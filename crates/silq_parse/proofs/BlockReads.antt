@@ -150,7 +150,7 @@ choice_reads {old} {m1} {m2} {m3} {new} {e} {then_} {other} {ts} {r1} {r2} {rest
       let p : expr_at m3 e ≡ expr_tree x.derivation = z.grew.trees.exprs e (omega (arith, y.grew.more_exprs, x.grew.exprs_there.0)) ∙ y.grew.trees.exprs e x.grew.exprs_there.0 ∙ x.stands in
       let q : block_of (expr_at m3) (stmt_at m3) then_ ≡ block_tree y.derivation = ap (λ w. tree.block w then_.end) (statements_kept then_.items z.grew.trees y.grew.stmts_there) ∙ y.stands in
       let s : otherwise_of (expr_at m3) (stmt_at m3) other ≡ rest_tree (block_end y.derivation) z.derivation =
-          z.stands ∙ ap (λ w. rest_tree w z.derivation) (sym (end_same y.derivation (statements_of (expr_at m2) (stmt_at m2) then_.items) then_.end y.stands)) in
+      z.stands ∙ ap (λ w. rest_tree w z.derivation) (sym (end_same y.derivation (statements_of (expr_at m2) (stmt_at m2) then_.items) then_.end y.stands)) in
       added_stands a ∙ ap (λ w. tree.choice w (block_of (expr_at m3) (stmt_at m3) then_) (otherwise_of (expr_at m3) (stmt_at m3) other) at) p
       ∙ ap (λ w. tree.choice (expr_tree x.derivation) w (otherwise_of (expr_at m3) (stmt_at m3) other) at) q ∙ ap (λ w. tree.choice (expr_tree x.derivation) (block_tree y.derivation) w at) s
       ∙ sym (choice_of_tree at x.derivation y.derivation z.derivation);

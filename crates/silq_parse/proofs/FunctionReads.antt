@@ -44,6 +44,7 @@ owned {old} {mid} {new} f id x a o = subst AreOwned (sym a.is) (record { exprs =
     of_expr : (e : ExprId) → e.number < length mid.exprs → (e.number < length old.exprs) ⊎ (length old.exprs ≤ e.number) → expr_parents (with_fun mid f) e ≡ 1
     of_expr e l (inl p) = let u = expr_parents-with_fun mid f e in let v = x.old_expr_parents e p in let w = x.old_exprs e p in let y = o.exprs e p in omega arith
     of_expr e l (inr p) = let u = expr_parents-with_fun mid f e in let v = x.new_exprs e p l in omega arith
+
     of_stmt : (s : StmtId) → s.number < length mid.stmts → (s.number < length old.stmts) ⊎ (length old.stmts ≤ s.number) → stmt_parents (with_fun mid f) s ≡ 1
     of_stmt s l (inl p) = let u = stmt_parents-with_fun mid f s in let v = x.old_stmt_parents s p in let w = x.old_stmts s p in let y = o.stmts s p in omega arith
     of_stmt s l (inr p) = let u = stmt_parents-with_fun mid f s in let v = x.new_stmts s p l in omega arith

@@ -1,14 +1,11 @@
 -- What was read behind a name.
-use Rattle.std.proofs.Common.{◌≡◌, ℕ, suc, ◌<◌, ◌≤◌, ◌+◌, List, [], ◌∷◌, ◌++◌, Option, Some, None, length, refl, sym, ◌∙◌, ap, arith, append_assoc, length-append}
+use Rattle.std.proofs.Common.{◌≡◌, ◌≤◌, ◌+◌, List, [], ◌∷◌, ◌++◌, Some, None, length, refl, sym, ◌∙◌, ap, arith, append_assoc}
 use Rattle.silq_tree.specs.declared.node.Spot.{Spot}
 use Rattle.silq_tree.specs.declared.node.ExprId.{ExprId}
 use Rattle.silq_tree.specs.declared.node.NameId.{NameId}
-use Rattle.silq_tree.specs.declared.node.PlaceNode.{PlaceNode}
-use Rattle.silq_tree.specs.declared.node.Expr.{Expr}
 use Rattle.silq_tree.specs.declared.node.Expr.TheVariants as exprs
 use Rattle.silq_tree.specs.Syntax as tree
-use Rattle.silq_tree.specs.Standing.{expressions_of, place_of}
-use Rattle.silq_tree.specs.Children.{place_exprs, HasFirst}
+use Rattle.silq_tree.specs.Standing.{expressions_of}
 use Rattle.silq_tree.specs.Arena.{Forest, IsArena, expr_at}
 use Rattle.silq_grammar.specs.declared.token.Token.{Token}
 use Rattle.silq_grammar.specs.declared.token.Token.TheVariants.{Name, Fixed}
@@ -16,9 +13,8 @@ use Rattle.silq_grammar.specs.declared.token.Terminal.TheVariants as t
 use Rattle.silq_grammar.specs.Tokens.{first_spot}
 use Rattle.silq_grammar.specs.Grammar as g
 use Rattle.silq_grammar.specs.Spelled.{expr_text, unary_text, place_text, call_text, args_text, exprs_text}
-use Rattle.silq_grammar.specs.Trees.{expr_tree, unary_tree, place_tree, call_tree, args_tree, exprs_tree}
-use Rattle.silq_parse.specs.Grown.{Grew}
-use Rattle.silq_parse.specs.Reads.{IsBounded, ReadsExpr, ReadsPart}
+use Rattle.silq_grammar.specs.Trees.{expr_tree, unary_tree, call_tree, args_tree, exprs_tree}
+use Rattle.silq_parse.specs.Reads.{ReadsExpr, ReadsPart}
 use Rattle.silq_parse.specs.Added.{IsAdded, AreFree}
 use Rattle.silq_parse.specs.Groups.{ReadsGroup, group_ids}
 use Rattle.silq_parse.specs.Targets.{ReadsTarget, IsMade, target_ids, TargetHasFirst}

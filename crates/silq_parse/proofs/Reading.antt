@@ -1,29 +1,27 @@
 -- What was read with one more token or node.
-use Rattle.std.proofs.Common.{◌≡◌, ℕ, ℤ, suc, ◌<◌, ◌≤◌, ◌+◌, ◌⊎◌, inl, inr, Bool, true, false, List, [], ◌∷◌, ◌++◌, Option, Some, None, length, refl, sym, ◌∙◌, ap, arith, append_assoc, length-append}
+use Rattle.std.proofs.Common.{◌≡◌, ◌+◌, ◌⊎◌, inl, inr, List, [], ◌∷◌, ◌++◌, length, refl, sym, ◌∙◌, ap, arith, append_assoc, length-append}
 use Rattle.silq_tree.specs.declared.node.Spot.{Spot}
 use Rattle.silq_tree.specs.declared.node.ExprId.{ExprId}
-use Rattle.silq_tree.specs.declared.node.NameId.{NameId}
 use Rattle.silq_tree.specs.declared.node.Expr.{Expr}
 use Rattle.silq_tree.specs.declared.node.Expr.TheVariants as exprs
 use Rattle.silq_tree.specs.declared.node.BinaryOp.{BinaryOp}
 use Rattle.silq_tree.specs.declared.node.BinaryOp.TheVariants as ops
 use Rattle.silq_tree.specs.Syntax as tree
-use Rattle.silq_tree.specs.Standing.{expr_grown, expressions_of, scalar_of, place_of}
-use Rattle.silq_tree.specs.Children.{expr_exprs, place_exprs, scalar_exprs}
-use Rattle.silq_tree.specs.Arena.{Forest, expr_at, with_expr, KeepsTrees}
-use Rattle.silq_tree.proofs.Arenas.{expr_made, kept_with_expr}
+use Rattle.silq_tree.specs.Standing.{expr_grown}
+use Rattle.silq_tree.specs.Children.{expr_exprs}
+use Rattle.silq_tree.specs.Arena.{Forest, expr_at}
+use Rattle.silq_tree.proofs.Arenas.{expr_made}
 use Rattle.silq_grammar.specs.declared.token.Token.{Token}
-use Rattle.silq_grammar.specs.declared.token.Token.TheVariants.{Name, Number, Fixed}
-use Rattle.silq_grammar.specs.declared.token.Terminal.TheVariants as t
+use Rattle.silq_grammar.specs.declared.token.Token.TheVariants.{Fixed}
 use Rattle.silq_grammar.specs.Tokens.{first_spot}
 use Rattle.silq_grammar.specs.Grammar as g
-use Rattle.silq_grammar.specs.Spelled.{expr_text, and_text, cmp_text, sum_text, prod_text, unary_text, scalar_text, place_text, call_text, args_text, exprs_text, comparison_sign}
-use Rattle.silq_grammar.specs.Trees.{expr_tree, and_tree, cmp_tree, sum_tree, prod_tree, unary_tree, scalar_tree, place_tree, call_tree, args_tree, exprs_tree, comparison_op}
+use Rattle.silq_grammar.specs.Spelled.{expr_text, and_text, cmp_text, sum_text, prod_text, unary_text, comparison_sign}
+use Rattle.silq_grammar.specs.Trees.{expr_tree, and_tree, cmp_tree, sum_tree, prod_tree, unary_tree, comparison_op}
 use Rattle.silq_parse.specs.Grown.{Grew}
-use Rattle.silq_parse.specs.Reads.{IsBounded, ReadsExpr, ReadsPart}
+use Rattle.silq_parse.specs.Reads.{ReadsExpr}
 use Rattle.silq_parse.specs.Added.{IsAdded, sign_of}
-use Rattle.silq_parse.proofs.Growing.{grew_nothing, grew_then, grew_expr, expressions_kept}
-use Rattle.silq_parse.proofs.Firsts.{Begins, same_first, prod_begins, sum_begins, cmp_begins, and_begins, expr_begins}
+use Rattle.silq_parse.proofs.Growing.{grew_then, grew_expr}
+use Rattle.silq_parse.proofs.Firsts.{Begins, same_first, prod_begins, sum_begins, and_begins, expr_begins}
 
 -- the tree of a node that was added
 pub made : {old new : Forest} (e : Expr) (id : ExprId) → IsAdded old new e id → expr_at new id ≡ expr_grown (expr_at old) e

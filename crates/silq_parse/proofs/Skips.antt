@@ -281,4 +281,3 @@ params_there k (Fixed t.Star s ∷ ts) e = refl
 params_there k (Fixed t.Slash s ∷ ts) e = refl
 params_there k (Fixed t.Caret s ∷ ts) e = refl
 params_there k (Fixed t.Times s ∷ ts) e = refl
-

@@ -1,5 +1,5 @@
 -- One more expression.
-use Rattle.std.specs.Prelude.{◌≡◌, ℕ, ◌+◌, ◌≤◌, List, length}
+use Rattle.std.specs.Prelude.{◌≡◌, ◌+◌, ◌≤◌, List, length}
 use Rattle.silq_tree.specs.declared.node.ExprId.{ExprId}
 use Rattle.silq_tree.specs.declared.node.Expr.{Expr}
 use Rattle.silq_tree.specs.declared.node.BinaryOp.{BinaryOp}

@@ -1,5 +1,5 @@
 -- The first token of an operand.
-use Rattle.std.specs.Prelude.{◌≡◌, Bool, true, false, List, [], ◌∷◌, Some}
+use Rattle.std.specs.Prelude.{◌≡◌, Bool, true, false, List, ◌∷◌, Some}
 use Rattle.silq_tree.specs.declared.node.UnaryOp.{UnaryOp}
 use Rattle.silq_tree.specs.declared.node.UnaryOp.TheVariants as unaries
 use Rattle.silq_grammar.specs.declared.token.Token.{Token}

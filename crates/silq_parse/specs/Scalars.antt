@@ -1,5 +1,5 @@
 -- The words of scalar types.
-use Rattle.std.specs.Prelude.{List, [], ◌∷◌, Option, Some, None}
+use Rattle.std.specs.Prelude.{List, ◌∷◌, Option, Some, None}
 use Rattle.silq_tree.specs.declared.node.ExprId.{ExprId}
 use Rattle.silq_tree.specs.declared.node.ScalarNode.{ScalarNode}
 use Rattle.silq_tree.specs.declared.node.ScalarNode.TheVariants as scalars

@@ -18,7 +18,7 @@ use crate::expr::expr;
 use crate::sign::sign;
 use crate::statement::add_statement;
 use crate::stop::Stop;
-use crate::target::{behind_name, Target};
+use crate::target::{Target, behind_name};
 use silq_grammar::{Terminal, Token};
 use silq_tree::{ExprId, NameId, PlaceNode, Spot, Stmt, StmtId, Tree, UpdateOp};
 use std::alloc::Global;
@@ -33,7 +33,11 @@ fn change_sign<'t>(tokens: &'t [Token]) -> Result<(Option<UpdateOp>, Spot, &'t [
     match tokens {
         [Token::Fixed(Terminal::Becomes, at), rest @ ..] => Ok((None, *at, rest)),
         [Token::Fixed(Terminal::AddTo, at), rest @ ..] => Ok((Some(UpdateOp::Add), *at, rest)),
-        [Token::Fixed(Terminal::SubtractFrom, at), rest @ ..] => Ok((Some(UpdateOp::Sub), *at, rest)),
+        [Token::Fixed(Terminal::SubtractFrom, at), rest @ ..] => Ok((
+            Some(UpdateOp::Sub),
+            *at,
+            rest,
+        )),
         [Token::Fixed(Terminal::XorTo, at), rest @ ..] => Ok((Some(UpdateOp::Xor), *at, rest)),
         _ => Err(Stop::Syntax(tokens)),
     }
@@ -62,12 +66,7 @@ fn change<'t>(
 }
 
 /// The node of an assignment, or of an update.
-fn changed(
-    target: PlaceNode,
-    op: Option<UpdateOp>,
-    value: ExprId,
-    at: Spot,
-) -> Stmt
+fn changed(target: PlaceNode, op: Option<UpdateOp>, value: ExprId, at: Spot) -> Stmt
     ensures { result ≡ changed_node target op value at }
 {
     match op {
@@ -114,4 +113,3 @@ pub(crate) fn named<'t>(
         }
     }
 }
-

@@ -15,12 +15,12 @@ ghost use Rattle.silq_parse.specs.Stops.{StopsAt};
 ghost use Rattle.silq_parse.specs.Parts.{Between, between_text, between_tree, rest_text, rest_tree};
 ghost use Rattle.silq_parse.specs.Reads.{ReadsExpr, ReadsStmt, ReadsPart};
 
-use crate::expr::expr;
 use crate::assign::named;
+use crate::expr::expr;
 use crate::sign::{name, sign};
 use crate::simple::{forget, phase, return_rest, spread};
 use crate::statement::add_statement;
-use crate::stop::{deeper, Stop};
+use crate::stop::{Stop, deeper};
 use silq_grammar::{Terminal, Token};
 use silq_tree::{Block, Else, ExprId, Spot, Stmt, StmtId, StmtIds, Tree};
 use std::alloc::Global;
@@ -206,7 +206,9 @@ fn else_rest<'t>(
     ensures no_longer { IfOk result (λ p. length p.1.now ≤ length tokens.now) }
 {
     match tokens {
-        [Token::Fixed(Terminal::Else, at), rest @ ..] => else_body(alloc, tree, rest, *at, end, room),
+        [Token::Fixed(Terminal::Else, at), rest @ ..] => else_body(
+            alloc, tree, rest, *at, end, room,
+        ),
         _ => {
             let items = StmtIds::new(alloc);
             Ok((Else::Block(Block { items, end }), tokens))
@@ -311,4 +313,3 @@ fn loop_rest<'t>(
     )?;
     Ok((id, rest))
 }
-

@@ -11,12 +11,12 @@ ghost use Rattle.silq_parse.specs.Reads.{ReadsExpr};
 
 use crate::list::closed_group;
 use crate::node::{add, add_binary, add_group, add_number, add_target, add_unary, first_spot};
-use crate::operand::{begun, colon, Operand};
+use crate::operand::{Operand, begun, colon};
 use crate::operator::{
     and_operator, comparison_operator, or_operator, prod_operator, sum_operator,
 };
-use crate::stop::{Stop, deeper};
 use crate::scalar::scalar;
+use crate::stop::{Stop, deeper};
 use crate::target::behind_name;
 use silq_grammar::{Terminal, Token};
 use silq_tree::{Expr, ExprId, Tree};

@@ -16,7 +16,7 @@ ghost use Rattle.silq_parse.specs.Parts.{SpellsStatic, SpellsStatics, SpellsStat
 ghost use Rattle.silq_parse.specs.Reads.{ReadsPart};
 
 use crate::sign::{name, optional, sign};
-use crate::stop::{deeper, Stop};
+use crate::stop::{Stop, deeper};
 use crate::types::{results, written_type};
 use silq_grammar::{Terminal, Token};
 use silq_tree::{Mark, NameId, NameIds, ParamNode, ParamNodes, Spot, Tree, TypeNodes};
@@ -24,9 +24,7 @@ use std::alloc::Global;
 
 /// A static parameter.
 #[tactic(auto, unfolding(silq_grammar::specs::Outcome::outcome))]
-fn static_param<'t>(
-    tokens: &'t [Token],
-) -> Result<(NameId, &'t [Token]), Stop<'t>>
+fn static_param<'t>(tokens: &'t [Token]) -> Result<(NameId, &'t [Token]), Stop<'t>>
     ensures machine { (k : List Symbol) → nest k ≤ 64 → MatchResult result (λ p. outcome (AnyName ∷ Expect t.Colon ∷ Expect t.Bang ∷ Expect t.Natural ∷ k) tokens.now ≡ outcome k p.1.now)
         (λ stop. StopsAt (outcome (AnyName ∷ Expect t.Colon ∷ Expect t.Bang ∷ Expect t.Natural ∷ k) tokens.now) stop) }
     ensures reads { IfOk result (λ p. SpellsStatic p.0 tokens.now p.1.now) }
@@ -41,10 +39,7 @@ fn static_param<'t>(
 
 /// Static parameters between commas.
 #[tactic(auto, unfolding(silq_grammar::specs::Outcome::outcome))]
-fn static_params<'t>(
-    alloc: Global,
-    tokens: &'t [Token],
-) -> Result<(NameIds, &'t [Token]), Stop<'t>>
+fn static_params<'t>(alloc: Global, tokens: &'t [Token]) -> Result<(NameIds, &'t [Token]), Stop<'t>>
     ensures machine { (k : List Symbol) → nest k ≤ 64 → MatchResult result (λ p. outcome (AnyName ∷ Expect t.Colon ∷ Expect t.Bang ∷ Expect t.Natural ∷ MoreStatics ∷ k) tokens.now ≡ outcome k p.1.now)
         (λ stop. StopsAt (outcome (AnyName ∷ Expect t.Colon ∷ Expect t.Bang ∷ Expect t.Natural ∷ MoreStatics ∷ k) tokens.now) stop) }
     ensures reads { IfOk result (λ p. SpellsStatics p.0 tokens.now p.1.now) }
@@ -226,9 +221,7 @@ pub(crate) fn param_part<'t>(
 
 /// The mark of a function, or none.
 #[tactic(auto, unfolding(silq_grammar::specs::Outcome::outcome))]
-pub(crate) fn mark<'t>(
-    tokens: &'t [Token],
-) -> (Mark, &'t [Token])
+pub(crate) fn mark<'t>(tokens: &'t [Token]) -> (Mark, &'t [Token])
     ensures machine { (k : List Symbol) → nest k ≤ 64 → outcome (MarkPart ∷ k) tokens.now ≡ outcome k result.1.now }
     ensures reads { SpellsMark result.0 tokens.now result.1.now }
     ensures no_longer { length result.1.now ≤ length tokens.now }
@@ -268,4 +261,3 @@ pub(crate) fn result_part<'t>(
         }
     }
 }
-

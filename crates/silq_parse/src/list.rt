@@ -17,9 +17,9 @@ ghost use Rattle.silq_parse.specs.Reads.{ReadsPart};
 ghost use Rattle.silq_parse.specs.Groups.{group_ids, ReadsGroup, behind_bracket, start_bracket};
 ghost use Rattle.silq_parse.specs.declared.stop.Stop.TheVariants as stops;
 
+use crate::expr::expr;
 use crate::sign::sign;
 use crate::stop::Stop;
-use crate::expr::expr;
 use silq_grammar::{Terminal, Token};
 use silq_tree::{ExprId, ExprIds, Tree};
 use std::alloc::Global;

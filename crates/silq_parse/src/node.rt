@@ -116,11 +116,7 @@ pub(crate) fn add_call<'t>(
 }
 
 /// The expression that a place, or a call, is.
-pub(crate) fn add_target<'t>(
-    tree: &mut Tree,
-    target: Target,
-    at: Spot,
-) -> Result<ExprId, Stop<'t>>
+pub(crate) fn add_target<'t>(tree: &mut Tree, target: Target, at: Spot) -> Result<ExprId, Stop<'t>>
     requires arena { IsArena tree.old }
     requires free { AreFree tree.old (target_ids target) }
     requires first { TargetHasFirst target }
@@ -136,11 +132,7 @@ pub(crate) fn add_target<'t>(
 }
 
 /// One expression in parentheses, or the tuple of several.
-pub(crate) fn add_group<'t>(
-    tree: &mut Tree,
-    group: Group,
-    at: Spot,
-) -> Result<ExprId, Stop<'t>>
+pub(crate) fn add_group<'t>(tree: &mut Tree, group: Group, at: Spot) -> Result<ExprId, Stop<'t>>
     requires arena { IsArena tree.old }
     requires free { AreFree tree.old (group_ids group) }
     requires room { length tree.old.exprs < 2 ^ 32 - 1 }

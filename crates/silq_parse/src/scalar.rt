@@ -15,9 +15,9 @@ ghost use Rattle.silq_parse.specs.Stops.{StopsAt};
 ghost use Rattle.silq_parse.specs.Reads.{ReadsPart};
 ghost use Rattle.silq_parse.specs.Scalars.{word_of, behind_word, wide_node};
 
-use crate::sign::sign;
-use crate::stop::{deeper, Stop};
 use crate::expr::expr;
+use crate::sign::sign;
+use crate::stop::{Stop, deeper};
 use silq_grammar::{Terminal, Token};
 use silq_tree::{ExprId, ScalarNode, Tree};
 use std::alloc::Global;

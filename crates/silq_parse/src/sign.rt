@@ -31,10 +31,7 @@ pub(crate) fn begins(tokens: &[Token], wanted: Terminal) -> bool
 
 /// Takes a word or a sign, if it is the first token.
 #[tactic(auto, using(crate::proofs::Signs::are_same))]
-pub(crate) fn optional<'t>(
-    tokens: &'t [Token],
-    wanted: Terminal,
-) -> Option<(Spot, &'t [Token])>
+pub(crate) fn optional<'t>(tokens: &'t [Token], wanted: Terminal) -> Option<(Spot, &'t [Token])>
     ensures { MatchOption result (begins_with wanted tokens.now ≡ false) (λ p. tokens.now ≡ Fixed wanted p.0 ∷ p.1.now) }
 {
     let [Token::Fixed(found, at), rest @ ..] = tokens else {

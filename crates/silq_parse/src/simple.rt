@@ -16,17 +16,14 @@ ghost use Rattle.silq_parse.specs.Reads.{ReadsExpr, ReadsStmt, ReadsPart};
 use crate::expr::expr;
 use crate::sign::{begins, name, sign};
 use crate::statement::add_statement;
-use crate::stop::{deeper, Stop};
+use crate::stop::{Stop, deeper};
 use silq_grammar::{Terminal, Token};
 use silq_tree::{ExprId, NameId, NameIds, Spot, Stmt, StmtId, Tree};
 use std::alloc::Global;
 
 /// The names of a tuple from behind its parenthesis, which is closed behind them.
 #[tactic(auto, unfolding(silq_grammar::specs::Outcome::outcome))]
-fn tuple_names<'t>(
-    alloc: Global,
-    tokens: &'t [Token],
-) -> Result<(NameIds, &'t [Token]), Stop<'t>>
+fn tuple_names<'t>(alloc: Global, tokens: &'t [Token]) -> Result<(NameIds, &'t [Token]), Stop<'t>>
     ensures machine { (k : List Symbol) → nest k ≤ 63 → MatchResult result (λ p. outcome (AnyName ∷ Expect t.Comma ∷ AnyName ∷ MoreNames ∷ Closing t.RightParen ∷ k) tokens.now ≡ outcome k p.1.now)
         (λ stop. StopsAt (outcome (AnyName ∷ Expect t.Comma ∷ AnyName ∷ MoreNames ∷ Closing t.RightParen ∷ k) tokens.now) stop) }
     ensures reads { IfOk result (λ p. SpellsTuple p.0 tokens.now p.1.now) }
@@ -205,4 +202,3 @@ pub(crate) fn return_rest<'t>(
     let id = add_statement(tree, Stmt::Return { value, at })?;
     Ok((id, rest))
 }
-

@@ -15,12 +15,12 @@ ghost use Rattle.silq_parse.specs.Reads.{ReadsExpr};
 ghost use Rattle.silq_parse.specs.Added.{AreFree};
 ghost use Rattle.silq_parse.specs.Targets.{ReadsTarget, behind_target};
 
-use crate::list::{arguments, closed_group, Group};
-use crate::node::add_call;
-use crate::open::{call_paren, opened, Open};
-use crate::sign::sign;
-use crate::stop::{deeper, Stop};
 use crate::expr::expr;
+use crate::list::{Group, arguments, closed_group};
+use crate::node::add_call;
+use crate::open::{Open, call_paren, opened};
+use crate::sign::sign;
+use crate::stop::{Stop, deeper};
 use silq_grammar::{Terminal, Token};
 use silq_tree::{ExprId, ExprIds, NameId, PlaceNode, Spot, Tree};
 use std::alloc::Global;

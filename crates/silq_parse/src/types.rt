@@ -20,7 +20,7 @@ use crate::expr::expr;
 use crate::node::{add, first_spot};
 use crate::scalar::scalar;
 use crate::sign::{optional, sign};
-use crate::stop::{deeper, Stop};
+use crate::stop::{Stop, deeper};
 use silq_grammar::{Terminal, Token};
 use silq_tree::{Expr, ExprId, PlaceNode, ScalarNode, Spot, Tree, TypeNode, TypeNodes};
 use std::alloc::Global;
@@ -43,12 +43,23 @@ fn size_value<'t>(
 {
     match tokens {
         [Token::Name(name, at), rest @ ..] => {
-            let place = PlaceNode { name: *name, first: None, second: None };
+            let place = PlaceNode {
+                name: *name,
+                first: None,
+                second: None,
+            };
             let id = add(tree, Expr::Place { place, at: *at })?;
             Ok((id, rest))
         }
         [Token::Number(value, at), rest @ ..] => {
-            let id = add(tree, Expr::Number { value: *value, ty: None, at: *at })?;
+            let id = add(
+                tree,
+                Expr::Number {
+                    value: *value,
+                    ty: None,
+                    at: *at,
+                },
+            )?;
             Ok((id, rest))
         }
         [Token::Fixed(Terminal::LeftParen, _open), rest @ ..] => {
@@ -173,4 +184,3 @@ pub(crate) fn results<'t>(
     }
     Ok((types, rest))
 }
-
