@@ -7,6 +7,7 @@
 pub mod items;
 pub mod names;
 pub mod node;
+pub mod program;
 #[cfg(test)]
 mod tests;
 pub mod tree;
@@ -17,4 +18,5 @@ pub use node::{
     BinaryOp, Block, Else, Expr, ExprId, Fun, FunId, Mark, NameId, ParamNode, PlaceNode,
     ScalarNode, Spot, Stmt, StmtId, TypeNode, UnaryOp, UpdateOp,
 };
+pub use program::Program;
 pub use tree::Tree;

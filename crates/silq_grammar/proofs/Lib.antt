@@ -1,0 +1,13 @@
+pub mod Reach
+pub mod Tested
+pub mod Pieces
+pub mod TakenExpr
+pub mod Taken
+pub mod Built
+pub mod Accepted
+pub mod Passed
+pub mod Exact
+pub mod Rows
+pub mod NestsExpr
+pub mod Nests
+pub mod DeepPlaces

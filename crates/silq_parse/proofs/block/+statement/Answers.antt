@@ -1,0 +1,199 @@
+use Rattle.std.proofs.Common.{rules, ◌≡◌, ◌+◌, ◌-◌, ◌^◌, ◌<◌, ◌≤◌, ℕ, List, [], ◌∷◌, ◌++◌, Option, Some, None, length, map, flat_map, refl, sym, ap, ◌∙◌, arith, IfOk, MatchResult}
+use Rattle.std.proofs.lemmas.Grind.{common_steps}
+use Rattle.silq_tree.specs.Arena.{expr_at, stmt_at}
+use Rattle.silq_tree.specs.Standing.{expressions_of, place_of, statements_of, scalar_of, type_of}
+use Rattle.silq_grammar.specs.Outcome.{outcome}
+use Rattle.silq_grammar.specs.Machine.{Symbol, Expect, AnyName, Closing, Ends, Functions, StaticPart, MoreStatics, ParamPart, Params, OneParam, MoreParams, MarkPart, ResultPart, MoreResults, AType, AScalar, Width, SizePart, ASize, ABlock, Statements, MoreNames, ForgetPart, PhasePart, ForgetValue, Bounds, ReturnValue, ElseRest, ElseBody, StartName, StartBracket, StartIndex, Assigns, MoreExprs, CallPart, Arguments, value, an_expr, exprs, nest}
+use Rattle.silq_grammar.specs.declared.token.Terminal.TheVariants as t
+use Rattle.silq_grammar.specs.declared.token.Token.TheVariants.{Name, Number, Fixed}
+use Rattle.silq_parse.proofs.Exits.{stops, stops_behind, behind}
+use Rattle.silq_parse.proofs.BlockReads.{no_statement, no_items, next_statement, one_statement, closed_block, part_of, stmt_of, no_else, else_block, else_choice, chosen, choice_free, choice_reads, between_reads, loop_reads}
+use Rattle.silq_parse.proofs.Opened.{bounds_open, block_open, else_block_open, else_choice_open, name_begins, spread_begins, forget_begins, phase_begins, choice_begins, loop_begins, return_begins}
+use Rattle.silq_parse.proofs.AddedStatements.{free_stmts}
+use Rattle.silq_parse.proofs.Growing.{grew_then}
+use Rattle.silq_parse.proofs.Passed.{ends_passed}
+use Rattle.silq_parse.proofs.block.+statement.Goals as goal
+
+pub inner-returns-in_err-items-clause-machine : goal.inner-returns-in_err-items-clause-machine
+inner-returns-in_err-items-clause-machine n c = λ k h.
+    stops _ _ _ _ _ c.from_residual.ensures.1 (refl) (c.in_err-items.ensures.machine (Closing t.RightBrace ∷ k) (omega arith))
+
+pub inner-returns-in_err-end-clause-machine : goal.inner-returns-in_err-end-clause-machine
+inner-returns-in_err-end-clause-machine n c = λ k h.
+    stops _ _ _ _ _ c.from_residual-in_err-end.ensures.1 ((c.in_ok-items.ensures.machine (Closing t.RightBrace ∷ k) (omega arith))) (c.in_err-end.ensures.closing (k) (omega arith))
+
+pub inner-returns-clause-machine : goal.inner-returns-clause-machine
+inner-returns-clause-machine n c = λ k h.
+    (c.in_ok-items.ensures.machine (Closing t.RightBrace ∷ k) (omega arith)) ∙ (c.in_ok-end.ensures.closing (k) (omega arith))
+
+pub inner-returns-clause-reads : goal.inner-returns-clause-reads
+inner-returns-clause-reads n c = λ l. closed_block _ l c.in_ok-items.ensures.reads c.in_ok-end.ensures.token
+
+pub choice-returns-in_err-cond-clause-machine : goal.choice-returns-in_err-cond-clause-machine
+choice-returns-in_err-cond-clause-machine n c = λ k h.
+    stops _ _ _ _ _ c.from_residual.ensures.1 (refl) (c.in_err-cond.ensures.machine (ABlock ∷ ElseRest ∷ k) (omega arith))
+
+pub choice-returns-in_err-then-clause-machine : goal.choice-returns-in_err-then-clause-machine
+choice-returns-in_err-then-clause-machine n c = λ k h.
+    stops _ _ _ _ _ c.from_residual-in_err-then.ensures.1 ((c.in_ok-cond.ensures.machine (ABlock ∷ ElseRest ∷ k) (omega arith))) (c.in_err-then.ensures.machine (ElseRest ∷ k) (omega arith))
+
+pub choice-returns-in_err-other-clause-machine : goal.choice-returns-in_err-other-clause-machine
+choice-returns-in_err-other-clause-machine n c = λ k h.
+    stops _ _ _ _ _ c.from_residual-in_err-other.ensures.1 ((c.in_ok-cond.ensures.machine (ABlock ∷ ElseRest ∷ k) (omega arith)) ∙ (c.in_ok-then.ensures.machine (ElseRest ∷ k) (omega arith))) (c.in_err-other.ensures.machine (k) (omega arith))
+
+pub choice-returns-clause-machine : goal.choice-returns-clause-machine
+choice-returns-clause-machine n c = λ k h.
+    (c.in_ok-cond.ensures.machine (ABlock ∷ ElseRest ∷ k) (omega arith)) ∙ (c.in_ok-then.ensures.machine (ElseRest ∷ k) (omega arith)) ∙ (c.in_ok-other.ensures.machine (k) (omega arith))
+
+pub choice-returns-clause-reads : goal.choice-returns-clause-reads
+choice-returns-clause-reads n c = choice_reads c.args.at c.in_ok-cond.ensures.reads c.in_ok-then.ensures.reads c.in_ok-other.ensures.reads c.in_ok-id.ensures.added
+
+pub choice-add_statement-requires-clause-exprs : goal.choice-add_statement-requires-clause-exprs
+choice-add_statement-requires-clause-exprs n c = (choice_free c.in_ok-other.ensures.arena c.in_ok-cond.ensures.reads.grew c.in_ok-then.ensures.reads.grew c.in_ok-other.ensures.reads.grew).0
+
+pub choice-add_statement-requires-clause-stmts : goal.choice-add_statement-requires-clause-stmts
+choice-add_statement-requires-clause-stmts n c = (choice_free c.in_ok-other.ensures.arena c.in_ok-cond.ensures.reads.grew c.in_ok-then.ensures.reads.grew c.in_ok-other.ensures.reads.grew).1
+
+pub loop_rest-returns-in_err-name-clause-machine : goal.loop_rest-returns-in_err-name-clause-machine
+loop_rest-returns-in_err-name-clause-machine n c = λ k h.
+    stops _ _ _ _ _ c.from_residual.ensures.1 (refl) (c.in_err-name.ensures.machine (Expect t.In ∷ Bounds ∷ ABlock ∷ k) (omega arith))
+
+pub loop_rest-returns-in_err-rest-clause-machine : goal.loop_rest-returns-in_err-rest-clause-machine
+loop_rest-returns-in_err-rest-clause-machine n c = λ k h.
+    stops _ _ _ _ _ c.from_residual-in_err-rest.ensures.1 ((c.in_ok-name.ensures.machine (Expect t.In ∷ Bounds ∷ ABlock ∷ k) (omega arith))) (c.in_err-rest.ensures.machine (Bounds ∷ ABlock ∷ k) (omega arith))
+
+pub loop_rest-returns-in_err-low-clause-machine : goal.loop_rest-returns-in_err-low-clause-machine
+loop_rest-returns-in_err-low-clause-machine n c = λ k h.
+    stops _ _ _ _ _ c.from_residual-in_err-low.ensures.1 ((c.in_ok-name.ensures.machine (Expect t.In ∷ Bounds ∷ ABlock ∷ k) (omega arith)) ∙ (c.in_ok-rest.ensures.machine (Bounds ∷ ABlock ∷ k) (omega arith))) (c.in_err-low.ensures.machine (ABlock ∷ k) (omega arith))
+
+pub loop_rest-returns-in_err-body-clause-machine : goal.loop_rest-returns-in_err-body-clause-machine
+loop_rest-returns-in_err-body-clause-machine n c = λ k h.
+    stops _ _ _ _ _ c.from_residual-in_err-body.ensures.1 ((c.in_ok-name.ensures.machine (Expect t.In ∷ Bounds ∷ ABlock ∷ k) (omega arith)) ∙ (c.in_ok-rest.ensures.machine (Bounds ∷ ABlock ∷ k) (omega arith)) ∙ (c.in_ok-low.ensures.machine (ABlock ∷ k) (omega arith))) (c.in_err-body.ensures.machine (k) (omega arith))
+
+pub loop_rest-returns-clause-machine : goal.loop_rest-returns-clause-machine
+loop_rest-returns-clause-machine n c = λ k h.
+    (c.in_ok-name.ensures.machine (Expect t.In ∷ Bounds ∷ ABlock ∷ k) (omega arith)) ∙ (c.in_ok-rest.ensures.machine (Bounds ∷ ABlock ∷ k) (omega arith)) ∙ (c.in_ok-low.ensures.machine (ABlock ∷ k) (omega arith)) ∙ (c.in_ok-body.ensures.machine (k) (omega arith))
+
+pub loop_rest-returns-clause-reads : goal.loop_rest-returns-clause-reads
+loop_rest-returns-clause-reads n c = loop_reads c.args.at _ _ c.in_ok-name.ensures.token c.in_ok-rest.ensures.token c.in_ok-low.ensures.reads c.in_ok-body.ensures.reads c.in_ok-id.ensures.added
+
+pub loop_rest-add_statement-requires-clause-stmts : goal.loop_rest-add_statement-requires-clause-stmts
+loop_rest-add_statement-requires-clause-stmts n c = free_stmts c.in_ok-body.ensures.arena (grew_then c.in_ok-low.ensures.reads.grew c.in_ok-body.ensures.reads.grew)
+
+pub statements-loop-items-init : goal.statements-loop-items-init
+statements-loop-items-init n c = (c.requires.arena, (λ k h. refl), no_items _ _ _ c.new-items.ensures, omega arith)
+
+pub statements-loop-items-preserved : goal.statements-loop-items-preserved
+statements-loop-items-preserved n c = (
+  c.in_ok-id.ensures.arena,
+  (λ k h. c.loop-items.invariant.1 k h ∙ (rw c.in-Some.is at (c.in_ok-id.ensures.machine k h))),
+  next_statement c.in_ok-push.ensures.ok c.loop-items.invariant.2 (rw c.in-Some.is at c.in_ok-id.ensures.reads),
+  (let s = rw c.in-Some.is at c.in_ok-id.ensures.shorter in omega (arith, s, c.loop-items.invariant.3)),
+)
+
+pub else_body-returns-in_err-id-in-Fixed-2-clause-machine : goal.else_body-returns-in_err-id-in-Fixed-2-clause-machine
+unfolding outcome
+else_body-returns-in_err-id-in-Fixed-2-clause-machine n c = λ k h.
+    stops_behind _ _ _ _ _ _ c.from_residual-in_err-id-in-Fixed-2.ensures.1 (refl) (c.in_err-id-in-Fixed-2.ensures.machine (Ends ∷ k) (omega arith)) (else_choice_open k _ _ c.in-Fixed-2.at (grind (arith, common_steps)) (omega arith))
+
+pub else_body-returns-in_ok-id-in-Fixed-2-clause-machine : goal.else_body-returns-in_ok-id-in-Fixed-2-clause-machine
+unfolding outcome
+else_body-returns-in_ok-id-in-Fixed-2-clause-machine n c = λ k h.
+    behind ((c.in_ok-id-in-Fixed-2.ensures.machine (Ends ∷ k) (omega arith)) ∙ (ends_passed k _)) (else_choice_open k _ _ c.in-Fixed-2.at (grind (arith, common_steps)) (omega arith))
+
+pub else_body-returns-in_ok-id-in-Fixed-2-clause-reads : goal.else_body-returns-in_ok-id-in-Fixed-2-clause-reads
+else_body-returns-in_ok-id-in-Fixed-2-clause-reads n c = else_choice c.args.at c.args.end (stmt_of c.in_ok-id-in-Fixed-2.ensures.reads (grind (arith, common_steps)))
+
+pub else_body-returns-in_ok-body-in-Fixed-clause-reads : goal.else_body-returns-in_ok-body-in-Fixed-clause-reads
+else_body-returns-in_ok-body-in-Fixed-clause-reads n c = else_block c.args.at c.args.end (part_of (c.in_ok-body-in-Fixed.ensures.reads c.in-Fixed._open) (grind (arith, common_steps)))
+
+pub statement-returns-in_err-p-in-Name-clause-machine : goal.statement-returns-in_err-p-in-Name-clause-machine
+unfolding outcome
+statement-returns-in_err-p-in-Name-clause-machine n c = λ k h.
+    stops_behind _ _ _ _ _ _ c.from_residual.ensures.1 (refl) (c.in_err-p-in-Name.ensures.machine (Statements ∷ k) (omega arith)) (name_begins k _ _ c.in-Name.name c.in-Name.at (grind (arith, common_steps)) (omega arith))
+
+pub statement-returns-in_ok-p-in-Name-clause-machine : goal.statement-returns-in_ok-p-in-Name-clause-machine
+unfolding outcome
+statement-returns-in_ok-p-in-Name-clause-machine n c = λ k h.
+    behind ((c.in_ok-p-in-Name.ensures.machine (Statements ∷ k) (omega arith))) (name_begins k _ _ c.in-Name.name c.in-Name.at (grind (arith, common_steps)) (omega arith))
+
+pub statement-returns-in_ok-p-in-Name-clause-reads : goal.statement-returns-in_ok-p-in-Name-clause-reads
+statement-returns-in_ok-p-in-Name-clause-reads n c = stmt_of c.in_ok-p-in-Name.ensures.reads (grind (arith, common_steps))
+
+pub statement-returns-in_err-p-in-Fixed-clause-machine : goal.statement-returns-in_err-p-in-Fixed-clause-machine
+unfolding outcome
+statement-returns-in_err-p-in-Fixed-clause-machine n c = λ k h.
+    stops_behind _ _ _ _ _ _ c.from_residual-in_err-p-in-Fixed.ensures.1 (refl) (c.in_err-p-in-Fixed.ensures.machine (Statements ∷ k) (omega arith)) (spread_begins k _ _ c.in-Fixed.at (grind (arith, common_steps)) (omega arith))
+
+pub statement-returns-in_ok-p-in-Fixed-clause-machine : goal.statement-returns-in_ok-p-in-Fixed-clause-machine
+unfolding outcome
+statement-returns-in_ok-p-in-Fixed-clause-machine n c = λ k h.
+    behind ((c.in_ok-p-in-Fixed.ensures.machine (Statements ∷ k) (omega arith))) (spread_begins k _ _ c.in-Fixed.at (grind (arith, common_steps)) (omega arith))
+
+pub statement-returns-in_ok-p-in-Fixed-clause-reads : goal.statement-returns-in_ok-p-in-Fixed-clause-reads
+statement-returns-in_ok-p-in-Fixed-clause-reads n c = stmt_of c.in_ok-p-in-Fixed.ensures.reads (grind (arith, common_steps))
+
+pub statement-returns-in_err-p-in-Fixed-2-clause-machine : goal.statement-returns-in_err-p-in-Fixed-2-clause-machine
+unfolding outcome
+statement-returns-in_err-p-in-Fixed-2-clause-machine n c = λ k h.
+    stops_behind _ _ _ _ _ _ c.from_residual-in_err-p-in-Fixed-2.ensures.1 (refl) (c.in_err-p-in-Fixed-2.ensures.machine (Statements ∷ k) (omega arith)) (forget_begins k _ _ c.in-Fixed-2.at (grind (arith, common_steps)) (omega arith))
+
+pub statement-returns-in_ok-p-in-Fixed-2-clause-machine : goal.statement-returns-in_ok-p-in-Fixed-2-clause-machine
+unfolding outcome
+statement-returns-in_ok-p-in-Fixed-2-clause-machine n c = λ k h.
+    behind ((c.in_ok-p-in-Fixed-2.ensures.machine (Statements ∷ k) (omega arith))) (forget_begins k _ _ c.in-Fixed-2.at (grind (arith, common_steps)) (omega arith))
+
+pub statement-returns-in_ok-p-in-Fixed-2-clause-reads : goal.statement-returns-in_ok-p-in-Fixed-2-clause-reads
+statement-returns-in_ok-p-in-Fixed-2-clause-reads n c = stmt_of c.in_ok-p-in-Fixed-2.ensures.reads (grind (arith, common_steps))
+
+pub statement-returns-in_err-p-in-Fixed-3-clause-machine : goal.statement-returns-in_err-p-in-Fixed-3-clause-machine
+unfolding outcome
+statement-returns-in_err-p-in-Fixed-3-clause-machine n c = λ k h.
+    stops_behind _ _ _ _ _ _ c.from_residual-in_err-p-in-Fixed-3.ensures.1 (refl) (c.in_err-p-in-Fixed-3.ensures.machine (Statements ∷ k) (omega arith)) (phase_begins k _ _ c.in-Fixed-3.at (grind (arith, common_steps)) (omega arith))
+
+pub statement-returns-in_ok-p-in-Fixed-3-clause-machine : goal.statement-returns-in_ok-p-in-Fixed-3-clause-machine
+unfolding outcome
+statement-returns-in_ok-p-in-Fixed-3-clause-machine n c = λ k h.
+    behind ((c.in_ok-p-in-Fixed-3.ensures.machine (Statements ∷ k) (omega arith))) (phase_begins k _ _ c.in-Fixed-3.at (grind (arith, common_steps)) (omega arith))
+
+pub statement-returns-in_ok-p-in-Fixed-3-clause-reads : goal.statement-returns-in_ok-p-in-Fixed-3-clause-reads
+statement-returns-in_ok-p-in-Fixed-3-clause-reads n c = stmt_of c.in_ok-p-in-Fixed-3.ensures.reads (grind (arith, common_steps))
+
+pub statement-returns-in_err-p-in-Fixed-4-clause-machine : goal.statement-returns-in_err-p-in-Fixed-4-clause-machine
+unfolding outcome
+statement-returns-in_err-p-in-Fixed-4-clause-machine n c = λ k h.
+    stops_behind _ _ _ _ _ _ c.from_residual-in_err-p-in-Fixed-4.ensures.1 (refl) (c.in_err-p-in-Fixed-4.ensures.machine (Statements ∷ k) (omega arith)) (choice_begins k _ _ c.in-Fixed-4.at (grind (arith, common_steps)) (omega arith))
+
+pub statement-returns-in_ok-p-in-Fixed-4-clause-machine : goal.statement-returns-in_ok-p-in-Fixed-4-clause-machine
+unfolding outcome
+statement-returns-in_ok-p-in-Fixed-4-clause-machine n c = λ k h.
+    behind ((c.in_ok-p-in-Fixed-4.ensures.machine (Statements ∷ k) (omega arith))) (choice_begins k _ _ c.in-Fixed-4.at (grind (arith, common_steps)) (omega arith))
+
+pub statement-returns-in_ok-p-in-Fixed-4-clause-reads : goal.statement-returns-in_ok-p-in-Fixed-4-clause-reads
+statement-returns-in_ok-p-in-Fixed-4-clause-reads n c = stmt_of (chosen c.in_ok-p-in-Fixed-4.ensures.reads) (grind (arith, common_steps))
+
+pub statement-returns-in_err-p-in-Fixed-5-clause-machine : goal.statement-returns-in_err-p-in-Fixed-5-clause-machine
+unfolding outcome
+statement-returns-in_err-p-in-Fixed-5-clause-machine n c = λ k h.
+    stops_behind _ _ _ _ _ _ c.from_residual-in_err-p-in-Fixed-5.ensures.1 (refl) (c.in_err-p-in-Fixed-5.ensures.machine (Statements ∷ k) (omega arith)) (loop_begins k _ _ c.in-Fixed-5.at (grind (arith, common_steps)) (omega arith))
+
+pub statement-returns-in_ok-p-in-Fixed-5-clause-machine : goal.statement-returns-in_ok-p-in-Fixed-5-clause-machine
+unfolding outcome
+statement-returns-in_ok-p-in-Fixed-5-clause-machine n c = λ k h.
+    behind ((c.in_ok-p-in-Fixed-5.ensures.machine (Statements ∷ k) (omega arith))) (loop_begins k _ _ c.in-Fixed-5.at (grind (arith, common_steps)) (omega arith))
+
+pub statement-returns-in_ok-p-in-Fixed-5-clause-reads : goal.statement-returns-in_ok-p-in-Fixed-5-clause-reads
+statement-returns-in_ok-p-in-Fixed-5-clause-reads n c = stmt_of c.in_ok-p-in-Fixed-5.ensures.reads (grind (arith, common_steps))
+
+pub statement-returns-in_err-p-in-Fixed-6-clause-machine : goal.statement-returns-in_err-p-in-Fixed-6-clause-machine
+unfolding outcome
+statement-returns-in_err-p-in-Fixed-6-clause-machine n c = λ k h.
+    stops_behind _ _ _ _ _ _ c.from_residual-in_err-p-in-Fixed-6.ensures.1 (refl) (c.in_err-p-in-Fixed-6.ensures.machine (Statements ∷ k) (omega arith)) (return_begins k _ _ c.in-Fixed-6.at (grind (arith, common_steps)) (omega arith))
+
+pub statement-returns-in_ok-p-in-Fixed-6-clause-machine : goal.statement-returns-in_ok-p-in-Fixed-6-clause-machine
+unfolding outcome
+statement-returns-in_ok-p-in-Fixed-6-clause-machine n c = λ k h.
+    behind ((c.in_ok-p-in-Fixed-6.ensures.machine (Statements ∷ k) (omega arith))) (return_begins k _ _ c.in-Fixed-6.at (grind (arith, common_steps)) (omega arith))
+
+pub statement-returns-in_ok-p-in-Fixed-6-clause-reads : goal.statement-returns-in_ok-p-in-Fixed-6-clause-reads
+statement-returns-in_ok-p-in-Fixed-6-clause-reads n c = stmt_of c.in_ok-p-in-Fixed-6.ensures.reads (grind (arith, common_steps))

@@ -1,0 +1,39 @@
+use Rattle.std.proofs.Common.{rules, ◌≡◌, ◌+◌, ◌-◌, ◌^◌, ◌<◌, ◌≤◌, ℕ, List, [], ◌∷◌, ◌++◌, Option, Some, None, length, map, flat_map, refl, sym, ap, ◌∙◌, arith, IfOk, MatchResult}
+use Rattle.std.proofs.lemmas.Grind.{common_steps}
+use Rattle.silq_tree.specs.Arena.{expr_at, stmt_at}
+use Rattle.silq_tree.specs.Standing.{expressions_of, place_of, statements_of, scalar_of, type_of}
+use Rattle.silq_grammar.specs.Outcome.{outcome}
+use Rattle.silq_grammar.specs.Machine.{Symbol, Expect, AnyName, Closing, Ends, Functions, StaticPart, MoreStatics, ParamPart, Params, OneParam, MoreParams, MarkPart, ResultPart, MoreResults, AType, AScalar, Width, SizePart, ASize, ABlock, Statements, MoreNames, ForgetPart, PhasePart, ForgetValue, Bounds, ReturnValue, ElseRest, ElseBody, StartName, StartBracket, StartIndex, Assigns, MoreExprs, CallPart, Arguments, value, an_expr, exprs, nest}
+use Rattle.silq_grammar.specs.declared.token.Terminal.TheVariants as t
+use Rattle.silq_grammar.specs.declared.token.Token.TheVariants.{Name, Number, Fixed}
+use Rattle.silq_parse.proofs.Exits.{stops, stops_behind, behind}
+use Rattle.silq_grammar.specs.Grammar.{no_mark, lifted, qfree, mfree}
+use Rattle.silq_parse.proofs.HeaderReads.{one_static, first_static, next_static, static_part, no_statics, typed_reads, moved_reads, held_reads, first_params, next_params, param_part, no_params, result_part, no_result}
+use Rattle.silq_parse.proofs.BlockReads.{part_of}
+use Rattle.silq_parse.proofs.Opened.{params_open, statics_open, more_statics_open, results_open, more_params_open, moved_open, held_open, params_end}
+use Rattle.silq_parse.proofs.Skips.{params_there}
+use Rattle.silq_parse.proofs.header.params.Goals as goal
+
+pub returns-in_err-first-clause-machine : goal.returns-in_err-first-clause-machine
+returns-in_err-first-clause-machine c = λ k h.
+    stops _ _ _ _ _ c.from_residual.ensures.1 (refl) (c.in_err-first.ensures.machine (MoreParams ∷ k) (omega arith))
+
+pub returns-in_err-next-clause-machine : goal.returns-in_err-next-clause-machine
+returns-in_err-next-clause-machine c = λ k h.
+    stops_behind _ _ _ _ _ _ c.from_residual-in_err-next.ensures.1 (refl) (c.in_err-next.ensures.machine (MoreParams ∷ k) (omega arith)) (c.loop-rest.invariant.1 k h ∙ more_params_open k _ _ c.in-Fixed._comma (grind (arith, common_steps)) (omega arith))
+
+pub loop-rest-init : goal.loop-rest-init
+loop-rest-init c = (
+  c.in_ok-first.ensures.arena,
+  (λ k h. c.in_ok-first.ensures.machine (MoreParams ∷ k) (omega arith)),
+  first_params _ _ (c.in_ok-push.ensures.ok ∙ ap (λ w. w ++ c.in_ok-first.first ∷ []) c.new-params.ensures) c.in_ok-first.ensures.reads,
+  c.in_ok-first.ensures.shorter,
+)
+
+pub loop-rest-preserved : goal.loop-rest-preserved
+loop-rest-preserved c = (
+  c.in_ok-next.ensures.arena,
+  (λ k h. behind (c.in_ok-next.ensures.machine (MoreParams ∷ k) (omega arith)) (c.loop-rest.invariant.1 k h ∙ more_params_open k _ _ c.in-Fixed._comma (grind (arith, common_steps)) (omega arith))),
+  next_params _ _ _ c.in-Fixed._comma c.in_ok-push-2.ensures.ok c.loop-rest.invariant.2 (grind (arith, common_steps)) c.in_ok-next.ensures.reads,
+  grind (arith, common_steps),
+)

@@ -1,0 +1,34 @@
+use Rattle.std.proofs.Common.{rules, ◌≡◌, ◌+◌, ◌-◌, ◌^◌, ◌<◌, ◌≤◌, ℕ, List, [], ◌∷◌, ◌++◌, Option, Some, None, length, map, flat_map, refl, sym, ap, ◌∙◌, arith, IfOk, MatchResult}
+use Rattle.std.proofs.lemmas.Grind.{common_steps}
+use Rattle.silq_tree.specs.Arena.{expr_at, stmt_at}
+use Rattle.silq_tree.specs.Standing.{expressions_of, place_of, statements_of, scalar_of, type_of}
+use Rattle.silq_grammar.specs.Outcome.{outcome}
+use Rattle.silq_grammar.specs.Machine.{Symbol, Expect, AnyName, Closing, Ends, Functions, StaticPart, MoreStatics, ParamPart, Params, OneParam, MoreParams, MarkPart, ResultPart, MoreResults, AType, AScalar, Width, SizePart, ASize, ABlock, Statements, MoreNames, ForgetPart, PhasePart, ForgetValue, Bounds, ReturnValue, ElseRest, ElseBody, StartName, StartBracket, StartIndex, Assigns, MoreExprs, CallPart, Arguments, value, an_expr, exprs, nest}
+use Rattle.silq_grammar.specs.declared.token.Terminal.TheVariants as t
+use Rattle.silq_grammar.specs.declared.token.Token.TheVariants.{Name, Number, Fixed}
+use Rattle.silq_parse.proofs.Exits.{stops, stops_behind, behind}
+use Rattle.silq_parse.proofs.SimpleReads.{change_reads, forget_value_reads, no_value_reads, phase_reads, something_reads, nothing_reads, return_reads, spread_reads, forget_reads}
+use Rattle.silq_parse.proofs.simple.spread.Goals as goal
+
+pub returns-in_err-names-clause-machine : goal.returns-in_err-names-clause-machine
+returns-in_err-names-clause-machine c = λ k h.
+    stops _ _ _ _ _ c.from_residual.ensures.1 (refl) (c.in_err-names.ensures.machine (Expect t.Becomes ∷ value k) (omega arith))
+
+pub returns-in_err-rest-clause-machine : goal.returns-in_err-rest-clause-machine
+returns-in_err-rest-clause-machine c = λ k h.
+    stops _ _ _ _ _ c.from_residual-in_err-rest.ensures.1 ((c.in_ok-names.ensures.machine (Expect t.Becomes ∷ value k) (omega arith))) (c.in_err-rest.ensures.machine (value k) (omega arith))
+
+pub returns-in_err-value-clause-machine : goal.returns-in_err-value-clause-machine
+returns-in_err-value-clause-machine c = λ k h.
+    stops _ _ _ _ _ c.from_residual-in_err-value.ensures.1 ((c.in_ok-names.ensures.machine (Expect t.Becomes ∷ value k) (omega arith)) ∙ (c.in_ok-rest.ensures.machine (value k) (omega arith))) (c.in_err-value.ensures.machine (Expect t.Semicolon ∷ k) (omega arith))
+
+pub returns-in_err-rest-2-clause-machine : goal.returns-in_err-rest-2-clause-machine
+returns-in_err-rest-2-clause-machine c = λ k h.
+    stops _ _ _ _ _ c.from_residual-in_err-rest-2.ensures.1 ((c.in_ok-names.ensures.machine (Expect t.Becomes ∷ value k) (omega arith)) ∙ (c.in_ok-rest.ensures.machine (value k) (omega arith)) ∙ (c.in_ok-value.ensures.machine (Expect t.Semicolon ∷ k) (omega arith))) (c.in_err-rest-2.ensures.machine (k) (omega arith))
+
+pub returns-clause-machine : goal.returns-clause-machine
+returns-clause-machine c = λ k h.
+    (c.in_ok-names.ensures.machine (Expect t.Becomes ∷ value k) (omega arith)) ∙ (c.in_ok-rest.ensures.machine (value k) (omega arith)) ∙ (c.in_ok-value.ensures.machine (Expect t.Semicolon ∷ k) (omega arith)) ∙ (c.in_ok-rest-2.ensures.machine (k) (omega arith))
+
+pub returns-clause-reads : goal.returns-clause-reads
+returns-clause-reads c = spread_reads c.args.at _ _ c.in_ok-names.ensures.reads c.in_ok-rest.ensures.token c.in_ok-value.ensures.reads c.in_ok-rest-2.ensures.token c.in_ok-id.ensures.added
