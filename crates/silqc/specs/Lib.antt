@@ -1,5 +1,6 @@
 pub mod Job
 pub mod Form
+pub mod Program
 pub mod Source
 pub mod Headline
 pub mod Note

@@ -1,14 +1,19 @@
 -- The line of a refusal.
-use Rattle.std.specs.Prelude.{ℕ, ◌⊎◌, List, [], codes, Option}
+use Rattle.std.specs.Prelude.{ℕ, ◌⊎◌, List, [], ◌++◌, codes, decimal, Option}
 use Rattle.silq_io.specs.Counts.{Rose}
 use Rattle.silq_io.specs.Sinks.{Adds, Breaks}
+use Rattle.silq_io.specs.Names.{cause_name}
 use Rattle.silqc.specs.declared.status.Status.{Status}
-use Rattle.silqc.specs.declared.status.Status.TheVariants.{Done, Words, ReadFault, WriteFault, Memory, Unbuilt}
+use Rattle.silqc.specs.declared.status.Status.TheVariants.{Done, Words, ReadFault, Syntax, OverBudget, WriteFault, Memory, Unbuilt}
 
 abbrev pub note_of : Status → List ℕ
 note_of Done = []
 note_of Words = codes "silqc: the words are not a job\n"
 note_of ReadFault = codes "silqc: reading failed\n"
+note_of (Syntax cause line col) =
+    codes "silqc: " ++ (decimal line ++ (codes ":" ++ (decimal col ++ (codes ": syntax: " ++ (cause_name cause ++ codes "\n")))))
+note_of (OverBudget least budget) =
+    codes "silqc: over budget: least " ++ (decimal least ++ (codes ", budget " ++ (decimal budget ++ codes "\n")))
 note_of WriteFault = codes "silqc: writing failed\n"
 note_of Memory = codes "silqc: no memory\n"
 note_of Unbuilt = codes "silqc: not built yet\n"
@@ -18,6 +23,8 @@ abbrev pub code_of : Status → ℕ
 code_of Done = 0
 code_of Words = 2
 code_of ReadFault = 3
+code_of (Syntax cause line col) = 4
+code_of (OverBudget least budget) = 10
 code_of WriteFault = 11
 code_of Memory = 12
 code_of Unbuilt = 15

@@ -3,7 +3,7 @@
 ghost use Rattle.std.specs.Prelude.{◌≡◌, ℕ, ◌≤◌};
 ghost use Rattle.silqc.specs.Note.{note_of, code_of, Noted};
 
-use silq_io::{Sink, put_all};
+use silq_io::{Sink, SyntaxCause, put_all};
 
 /// How a command ends.
 #[derive(Debug, PartialEq, Eq, Drop)]
@@ -14,6 +14,16 @@ pub enum Status {
     Words,
     /// The file was not read.
     ReadFault,
+    /// The file is no program.
+    Syntax {
+        cause: SyntaxCause,
+        /// The line of the first fault, from 1.
+        line: u32,
+        /// Its column, from 1, in characters.
+        col: u32,
+    },
+    /// The program needs more qubits than the budget has.
+    OverBudget { least: usize, budget: usize },
     /// The text was not written whole.
     WriteFault,
     /// There was no memory.
@@ -31,6 +41,8 @@ impl Status {
             Status::Done => 0,
             Status::Words => 2,
             Status::ReadFault => 3,
+            Status::Syntax { .. } => 4,
+            Status::OverBudget { .. } => 10,
             Status::WriteFault => 11,
             Status::Memory => 12,
             Status::Unbuilt => 15,
