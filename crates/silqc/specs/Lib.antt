@@ -4,6 +4,5 @@ pub mod Program
 pub mod Source
 pub mod Headline
 pub mod Note
-pub mod Parts
 pub mod Reading
 pub mod Text

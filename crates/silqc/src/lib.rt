@@ -12,7 +12,6 @@ ghost use Rattle.silqc.specs.Note.{note_of, Noted};
 mod form;
 mod input;
 mod job;
-
 mod source;
 pub mod status;
 mod write;
@@ -20,12 +19,9 @@ mod write;
 use input::ReadError;
 use silq_io::{Files, Sink, Words};
 use silq_parse::ParseFault;
-use source::FileFault;
+use source::{FileFault, SOURCE_LIMIT};
 use status::Status;
 use std::alloc::Global;
-
-// How many bytes a source may have.
-const SOURCE_LIMIT: usize = 1_048_576;
 
 /// Carries out the command of these words: `compile FILE ENTRY --budget N` reads the file from `files`, and puts the
 /// OpenQASM text of the function ENTRY to `out`. A refusal puts one line to `notes`.
@@ -117,7 +113,7 @@ fn compile<F: Files, S: Sink>(
         Err(ReadError::Memory) => return Status::Memory,
         Err(ReadError::Failed) => return Status::ReadFault,
     };
-    let text = match source::text(&bytes, SOURCE_LIMIT) {
+    let text = match source::text(&bytes) {
         Ok(text) => text,
         Err(fault) => return fault.status(),
     };
