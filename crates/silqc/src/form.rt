@@ -40,5 +40,5 @@ pub fn read_form(
         ((form : FormOf) → IsForm entry.now program.now.names (program_at program.now.tree program.now.funs) form → ⊥)
         (λ form. IsForm entry.now program.now.names (program_at program.now.tree program.now.funs) (record { bits = form.bits; steps = form.steps.items }))) }
 {
-    Ok(None)
+    Err(AllocError)
 }

@@ -1,6 +1,6 @@
 //! The bytes of a file as a text, and why they are none.
 
-ghost use Rattle.std.specs.Prelude.{◌≡◌, ◌≤◌, ℕ, Some, length, IfOk, OnOk, IfErr};
+ghost use Rattle.std.specs.Prelude.{◌≡◌, ◌≤◌, ℕ, true, Some, length, IfOk, OnOk, IfErr};
 ghost use Rattle.std.specs.Str.{chars, is_utf8};
 ghost use Rattle.silq_io.specs.declared.fault.SyntaxCause.TheVariants as causes;
 ghost use Rattle.silqc.specs.Program.{first_file_fault, file_fault, lex_cause, line_behind, col_behind};
