@@ -1,6 +1,6 @@
 -- The grammar: a data type for each nonterminal, with one constructor for each alternative. A constructor holds, for each of its
 -- tokens, the place of that token, and for a name or a number also which one it is.
-use Rattle.std.specs.Prelude.{ℤ, List}
+use Rattle.std.specs.Prelude.{ℤ}
 use Rattle.silq_tree.specs.declared.node.NameId.{NameId}
 use Rattle.silq_tree.specs.declared.node.Spot.{Spot}
 use Rattle.silq_tree.specs.declared.node.UpdateOp.{UpdateOp}

@@ -6,3 +6,4 @@ pub mod Trees
 pub mod Machine
 pub mod Outcome
 pub mod Place
+pub mod Laws

@@ -1,5 +1,5 @@
 -- The grammar as a table: a stack of what is expected, and what each symbol on it does at a token.
-use Rattle.std.specs.Prelude.{ℕ, ◌+◌, Bool, true, false, ◌||◌, cond, List, [], ◌∷◌, ◌++◌, Option, Some, None}
+use Rattle.std.specs.Prelude.{ℕ, ◌+◌, Bool, true, false, cond, List, [], ◌∷◌, Option, Some, None}
 use Rattle.grammar_core.specs.Table.{Grammar}
 use Rattle.silq_grammar.specs.Tokens.{Kind, AName, ANumber, A, Terminal}
 use Rattle.silq_grammar.specs.Terminals.{same_terminal}

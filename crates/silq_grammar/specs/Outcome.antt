@@ -1,5 +1,5 @@
 -- Where tokens first go wrong.
-use Rattle.std.specs.Prelude.{Bool, nat_lt, cond, List, [], ◌∷◌, Option, Some, None}
+use Rattle.std.specs.Prelude.{nat_lt, cond, List, [], ◌∷◌, Option, Some, None}
 use Rattle.grammar_core.specs.Table.{advance, may_stop}
 use Rattle.silq_grammar.specs.Tokens.{Token, kind}
 use Rattle.silq_grammar.specs.Machine.{Symbol, Functions, table, nest}

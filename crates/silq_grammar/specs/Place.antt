@@ -1,5 +1,5 @@
 -- Where tokens that are no program first go wrong, told by the grammar alone.
-use Rattle.std.specs.Prelude.{◌≡◌, List, [], ◌∷◌, ◌++◌}
+use Rattle.std.specs.Prelude.{◌≡◌, ◌⊎◌, List, [], ◌∷◌, ◌++◌}
 use Rattle.silq_grammar.specs.Tokens.{Token}
 use Rattle.silq_grammar.specs.Grammar.{Program}
 use Rattle.silq_grammar.specs.Spelled.{program_text}
@@ -31,3 +31,7 @@ pub record TableFollowsGrammar : Type 0 where
   pub fine : (ts : List Token) → program_outcome ts ≡ Fine → IsProgram ts
   pub syntax : (ts rest : List Token) → program_outcome ts ≡ Syntax rest → IsFirstFault ts rest
   pub deep : (ts rest : List Token) → program_outcome ts ≡ Deep rest → (front : List Token) × (t : Token) × (more : List Token) × (rest ≡ t ∷ more) × (ts ≡ front ++ rest) × BeginsProgram (front ++ t ∷ [])
+
+-- the tokens of a program are fine, or too deep: never is a Syntax answered for them
+abbrev pub ProgramsAreFine : Type 0
+ProgramsAreFine = (p : Program) → (program_outcome (program_text p) ≡ Fine) ⊎ ((rest : List Token) × (program_outcome (program_text p) ≡ Deep rest))
