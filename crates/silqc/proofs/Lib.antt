@@ -5,3 +5,5 @@ pub mod Steps
 pub mod Meaning
 pub mod Lines
 pub mod Places
+pub mod Faults
+pub mod Ends
