@@ -6,4 +6,5 @@ pub mod Meaning
 pub mod Lines
 pub mod Places
 pub mod Faults
+pub mod Programs
 pub mod Ends

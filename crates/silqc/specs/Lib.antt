@@ -5,4 +5,5 @@ pub mod Source
 pub mod Headline
 pub mod Note
 pub mod Reading
+pub mod Refusal
 pub mod Text

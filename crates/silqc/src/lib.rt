@@ -12,14 +12,15 @@ ghost use Rattle.silqc.specs.Note.{note_of, Noted};
 mod form;
 mod input;
 mod job;
+mod program;
 mod source;
 pub mod status;
 mod write;
 
 use input::ReadError;
+use program::{Refusal, read_program};
 use silq_io::{Files, Sink, Words};
-use silq_parse::ParseFault;
-use source::{FileFault, SOURCE_LIMIT};
+use source::SOURCE_LIMIT;
 use status::Status;
 use std::alloc::Global;
 
@@ -117,15 +118,11 @@ fn compile<F: Files, S: Sink>(
         Ok(text) => text,
         Err(fault) => return fault.status(),
     };
-    let program = match silq_parse::parse(alloc, text) {
-        Ok(program) => program,
-        Err(ParseFault::Memory) => return Status::Memory,
-        Err(fault) => return FileFault::of(fault).status(),
-    };
-    let form = match form::read_form(alloc, &program, entry) {
-        Err(_) => return Status::Memory,
-        Ok(None) => return Status::Unbuilt,
-        Ok(Some(form)) => form,
+    let form = match read_program(alloc, text, entry) {
+        Ok(form) => form,
+        Err(Refusal::Memory) => return Status::Memory,
+        Err(Refusal::Fault(fault)) => return fault.status(),
+        Err(Refusal::OtherForm) => return Status::Unbuilt,
     };
     if form.bits > budget {
         return Status::OverBudget {

@@ -3,12 +3,10 @@
 ghost use Rattle.std.specs.Prelude.{◌≡◌, ◌≤◌, ℕ, true, Some, length, IfOk, OnOk, IfErr};
 ghost use Rattle.std.specs.Str.{chars, is_utf8};
 ghost use Rattle.silq_io.specs.declared.fault.SyntaxCause.TheVariants as causes;
-ghost use Rattle.silqc.specs.Program.{first_file_fault, file_fault, lex_cause, line_behind, col_behind};
+ghost use Rattle.silqc.specs.Program.{first_file_fault, line_behind, col_behind};
 
 use crate::status::Status;
 use silq_io::SyntaxCause;
-use silq_lex::LexCause;
-use silq_parse::ParseFault;
 use std::str;
 
 /// How many bytes a file may have.
@@ -24,7 +22,7 @@ pub struct FileFault {
 
 impl FileFault {
     // A text that is too long, told at its first character.
-    fn long() -> FileFault
+    pub(crate) fn long() -> FileFault
         ensures cause { result.cause ≡ causes.Long }
         ensures line { result.line ≡ 1 }
         ensures col { result.col ≡ 1 }
@@ -60,32 +58,6 @@ impl FileFault {
         }
     }
 
-    /// The fault of the parser. Want of memory is no fault of a text: it has no place.
-    pub fn of(fault: ParseFault) -> FileFault
-        ensures cause { result.cause ≡ (file_fault fault).cause }
-        ensures line { result.line ≡ (file_fault fault).line }
-        ensures col { result.col ≡ (file_fault fault).col }
-    {
-        match fault {
-            ParseFault::Memory | ParseFault::Long => FileFault::long(),
-            ParseFault::Lex(fault) => FileFault {
-                cause: cause_of(fault.cause),
-                line: fault.line,
-                col: fault.col,
-            },
-            ParseFault::Syntax { line, col } => FileFault {
-                cause: SyntaxCause::Form,
-                line,
-                col,
-            },
-            ParseFault::Deep { line, col } => FileFault {
-                cause: SyntaxCause::Deep,
-                line,
-                col,
-            },
-        }
-    }
-
     /// How the command ends.
     pub fn status(&self) -> Status
         ensures { result ≡ Status.Syntax self.now.cause self.now.line self.now.col }
@@ -95,16 +67,6 @@ impl FileFault {
             line: self.line,
             col: self.col,
         }
-    }
-}
-
-fn cause_of(cause: LexCause) -> SyntaxCause
-    ensures { result ≡ lex_cause cause }
-{
-    match cause {
-        LexCause::Character => SyntaxCause::Character,
-        LexCause::Number => SyntaxCause::Number,
-        LexCause::Comment => SyntaxCause::Comment,
     }
 }
 
