@@ -1,6 +1,7 @@
 -- How a command ends.
 use Rattle.std.proofs.Common.{◌≡◌, ℕ, ◌<◌, ◌≤◌, List, length, Option, Some, None, IfSome, refl, ap, subst, sym, ◌∙◌}
 use Rattle.silq_io.specs.Sinks.{Adds, Breaks}
+use Rattle.silqc.specs.declared.status.Status.TheVariants.{OverBudget}
 use Rattle.silqc.specs.Job.{Job, IsJob}
 use Rattle.silqc.specs.Reading.{AreRead}
 use Rattle.silqc.specs.Form.{Form}
@@ -30,7 +31,7 @@ module _ (job : Job) (held left : Option (List ℕ)) (bytes : List ℕ) (read : 
           let same : all ≡ bytes = whole all bytes 1048576 r.0 short in
           subst (HasOtherForm job) (sym same) h
 
-  pub needs_more : (form : Form) → IsProgram job.entry bytes form → job.budget < form.bits → IfSome held (NeedsMore form.bits job.budget job)
+  needs_more : (form : Form) → IsProgram job.entry bytes form → job.budget < form.bits → IfSome held (NeedsMore form.bits job.budget job)
   needs_more form f l = by held read
     where
       by : (told : Option (List ℕ)) → AreRead 1048576 told left bytes → IfSome told (NeedsMore form.bits job.budget job)
@@ -38,6 +39,13 @@ module _ (job : Job) (held left : Option (List ℕ)) (bytes : List ℕ) (read : 
       by (Some all) r =
           let same : all ≡ bytes = whole all bytes 1048576 r.0 short in
           subst (NeedsMore form.bits job.budget job) (sym same) (form, f, refl, refl, l)
+
+  pub budget_told : (form : Form) → IsProgram job.entry bytes form → job.budget < form.bits
+      → (least most : ℕ) → OverBudget form.bits job.budget ≡ OverBudget least most → IfSome held (NeedsMore least most job)
+  budget_told form f l least most is =
+      let a : form.bits ≡ least = cc in
+      let b : job.budget ≡ most = cc in
+      subst (λ n. IfSome held (NeedsMore n most job)) a (subst (λ m. IfSome held (NeedsMore form.bits m job)) b (needs_more form f l))
 
   pub text_put : (form : Form) (old new : Option (List ℕ)) → IsProgram job.entry bytes form → form.bits ≤ job.budget → Adds old new (text_of form)
       → IfSome held (λ all. PutsText job all old new)

@@ -13,6 +13,9 @@ use Rattle.silqc.specs.Program.{FileFault, file_fault, first_file_fault, utf8_fa
 use Rattle.silqc.specs.Job.{Job}
 use Rattle.silqc.specs.Reading.{AreRead}
 use Rattle.silqc.specs.Headline.{HasFault}
+use Rattle.silq_io.specs.declared.fault.SyntaxCause.{SyntaxCause}
+use Rattle.silqc.specs.declared.status.Status.{Status}
+use Rattle.silqc.specs.declared.status.Status.TheVariants.{Syntax}
 
 -- the order of the tests
 abbrev first_of : Bool → Bool → Option ParseFault → FileFault → Option FileFault
@@ -77,3 +80,14 @@ pub has_fault : (fault : FileFault) (job : Job) (held left : Option (List ℕ)) 
     → first_file_fault bytes ≡ Some fault → IfSome held (HasFault fault job)
 has_fault fault job None left bytes r e = tt
 has_fault fault job (Some all) left bytes r e = same_fault all bytes r.0 ∙ e
+
+-- the status that tells it
+pub syntax_told : (kept : FileFault) (status : Status) (job : Job) (held left : Option (List ℕ)) (bytes : List ℕ) → AreRead 1048576 held left bytes
+    → status ≡ Syntax kept.cause kept.line kept.col → first_file_fault bytes ≡ Some kept
+    → (cause : SyntaxCause) (line col : ℕ) → status ≡ Syntax cause line col → IfSome held (HasFault (record { cause = cause; line = line; col = col }) job)
+syntax_told kept status job held left bytes r s e cause line col is =
+    let causes_are : kept.cause ≡ cause = cc in
+    let lines_are : kept.line ≡ line = cc in
+    let cols_are : kept.col ≡ col = cc in
+    has_fault (record { cause = cause; line = line; col = col }) job held left bytes r
+    (e ∙ ap Some (by_parts kept (record { cause = cause; line = line; col = col }) causes_are lines_are cols_are))
