@@ -1,5 +1,5 @@
 -- How a command ends.
-use Rattle.std.proofs.Common.{◌≡◌, ℕ, ◌<◌, ◌≤◌, List, length, Option, Some, None, IfSome, refl, ap, subst, sym, ◌∙◌}
+use Rattle.std.proofs.Common.{◌≡◌, ℕ, ◌<◌, ◌≤◌, List, length, Option, Some, None, IfSome, refl, subst, sym, ◌∙◌}
 use Rattle.silq_io.specs.Sinks.{Adds, Breaks}
 use Rattle.silqc.specs.declared.status.Status.TheVariants.{OverBudget}
 use Rattle.silqc.specs.Job.{Job, IsJob}
@@ -8,7 +8,7 @@ use Rattle.silqc.specs.Form.{Form}
 use Rattle.silqc.specs.Program.{first_file_fault, IsProgram}
 use Rattle.silqc.specs.Headline.{PutsText, BreaksText, HasOtherForm, NeedsMore}
 use Rattle.silqc.specs.Text.{text_of}
-use Rattle.silqc.proofs.Faults.{same_fault, whole}
+use Rattle.silqc.proofs.Faults.{whole}
 use Rattle.silqc.proofs.Meaning.{compiles}
 
 -- the words are one job

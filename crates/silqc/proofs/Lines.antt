@@ -1,5 +1,5 @@
 -- The lines of the gates of steps.
-use Rattle.std.proofs.Common.{◌≡◌, ℕ, suc, ◌+◌, ◌<◌, List, [], ◌∷◌, ◌++◌, drop, length, get_or, ap, ◌∙◌, sym, add-one, drop-cons, arith}
+use Rattle.std.proofs.Common.{◌≡◌, ℕ, ◌+◌, ◌<◌, List, [], ◌∷◌, ◌++◌, drop, length, get_or, ap, ◌∙◌, sym, add-one, drop-cons, arith}
 use Rattle.silqc.specs.declared.form.Step.{Step}
 use Rattle.qasm_write.specs.Written.{gate_line, gate_lines}
 use Rattle.silqc.specs.Text.{gate_of, gates_of, lists_from}

@@ -3,7 +3,7 @@ use Rattle.std.specs.List.{AllByRecursion}
 use Rattle.std.proofs.lemmas.List.Elements.{All-from_recursion}
 use Rattle.std.proofs.lemmas.List.{map-set}
 use Rattle.std.proofs.Math.ListN.{get_or-map}
-use Rattle.std.proofs.Common.{◌≡◌, ℕ, zero, suc, ◌+◌, ◌-◌, ◌*◌, ◌<◌, ◌≤◌, Bool, true, false, not, cond, nat_eq, List, [], ◌∷◌, ◌++◌, map, length, get_or, set, refl, ap, subst, sym, ◌∙◌, arith, lit<}
+use Rattle.std.proofs.Common.{◌≡◌, ℕ, zero, suc, ◌-◌, ◌*◌, ◌<◌, ◌≤◌, Bool, true, false, not, cond, nat_eq, List, [], ◌∷◌, map, length, get_or, set, refl, ap, subst, sym, ◌∙◌, arith, lit<}
 use Rattle.amp_core.specs.declared.Amp.{Amp}
 use Rattle.amp_core.specs.Amplitude.{one, none, times, Same}
 use Rattle.amp_core.proofs.Amplitudes.{times_zero, Same-equal}
@@ -19,7 +19,7 @@ use Rattle.silqc.specs.declared.form.Operation.{Operation}
 use Rattle.silqc.specs.declared.form.Operation.TheVariants.{Hadamard, Not}
 use Rattle.silqc.specs.declared.form.Step.{Step}
 use Rattle.silqc.specs.Source.{Values, all_after, run_source, as_bits, number_of, source_amplitude}
-use Rattle.silqc.specs.Text.{gate_by, gate_of, gates_of, lists_from, lists_of, text_of}
+use Rattle.silqc.specs.Text.{gate_by, gates_of, lists_from, lists_of, text_of}
 use Rattle.silqc.proofs.Qubits.{placed_all, pick_all, one_each, differ, below, length-joined, not_absent}
 use Rattle.silqc.proofs.Steps.{AreBelow, steps_below}
 

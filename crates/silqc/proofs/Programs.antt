@@ -1,5 +1,5 @@
 -- A text whose parts are known is a program of the form by these parts alone.
-use Rattle.std.proofs.Common.{◌≡◌, ◌⊎◌, inl, inr, ℕ, ◌≤◌, List, length, Some, None, true, refl, ap, subst, sym, ◌∙◌, arith}
+use Rattle.std.proofs.Common.{◌≡◌, ◌⊎◌, inl, inr, ℕ, ◌≤◌, List, length, Some, None, subst, sym, ◌∙◌, arith}
 use Rattle.std.proofs.lemmas.Str.{is_utf8-from_IsUtf8}
 use Rattle.std.specs.Str.{IsUtf8}
 use Rattle.silq_tree.specs.declared.node.FunId.{FunId}
@@ -29,7 +29,7 @@ refuses entry text (Deep line col) short utf8 (inl e) = absurd (grind (arith, e)
 refuses entry text (Deep line col) short utf8 (inr e) = of_text text (Some (Deep line col)) short (is_utf8-from_IsUtf8 text utf8) e
 
 module _ (entry text : List ℕ) (nodes : Forest) (names : List (List ℕ)) (funs : List FunId) (short : length text ≤ 1048576) (utf8 : IsUtf8 text)
-  (fine : first_fault text ≡ None) (stands : StandsFor text nodes names funs) where
+    (fine : first_fault text ≡ None) (stands : StandsFor text nodes names funs) where
   pub no_fault : first_file_fault text ≡ None
   no_fault = of_text text None short (is_utf8-from_IsUtf8 text utf8) fine
 

@@ -1,8 +1,8 @@
 -- The steps of a program of the form are on its bits.
-use Rattle.std.proofs.Common.{◌≡◌, ℕ, ◌<◌, List, [], ◌∷◌, length, Some, arith}
+use Rattle.std.proofs.Common.{ℕ, ◌<◌, List, [], ◌∷◌, length}
 use Rattle.std.proofs.lemmas.Option.{slice_get_within}
 use Rattle.silq_tree.specs.declared.node.NameId.{NameId}
-use Rattle.silq_tree.specs.Syntax.{Expression, place, called, whole, none, more, Statement, assign, return_value, Statements, done, next}
+use Rattle.silq_tree.specs.Syntax.{place, called, whole, none, more, Statement, assign, return_value, Statements, done, next}
 use Rattle.silqc.specs.declared.form.Step.{Step}
 use Rattle.silqc.specs.Form.{IsStep, AreSteps}
 

@@ -1,6 +1,6 @@
 -- The form of the programs that are compiled: `def ENTRY(x1:B, .., xn:B):B×..×B { S return (x1, .., xn); }`, where each
 -- statement of S is `x := H(x);` or `x := X(x);` with a parameter x. For one parameter the returned value is `x1`.
-use Rattle.std.specs.Prelude.{◌≡◌, ◌≢◌, ℕ, ◌<◌, Bool, true, false, List, [], ◌∷◌, Some, length, slice_get, codes}
+use Rattle.std.specs.Prelude.{◌≡◌, ◌≢◌, ℕ, ◌<◌, false, List, [], ◌∷◌, Some, length, slice_get, codes}
 use Rattle.silq_tree.specs.declared.node.NameId.{NameId}
 use Rattle.silq_tree.specs.declared.node.Mark.TheVariants.{Plain}
 use Rattle.silq_tree.specs.Syntax.{Expression, place, called, tuple, whole, Expressions, none, more, Statement, assign, return_value, Block, block, Statements, done, next, WrittenType, scalar, bit, Parameter, Function, Program}

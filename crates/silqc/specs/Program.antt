@@ -1,5 +1,5 @@
 -- The first fault of a file, and what it is for its bytes to be a program of the form.
-use Rattle.std.specs.Prelude.{◌≡◌, ℕ, ◌+◌, Bool, true, nat_lt, nat_eq, List, [], ◌∷◌, Option, Some, None, if◌then◌else◌, option_map, length, take}
+use Rattle.std.specs.Prelude.{◌≡◌, ℕ, ◌+◌, nat_lt, nat_eq, List, [], ◌∷◌, Option, Some, None, if◌then◌else◌, option_map, length, take}
 use Rattle.std.specs.Str.{chars, is_utf8}
 use Rattle.std.specs.Str.Lossy.{utf8_valid_len}
 use Rattle.silq_io.specs.declared.fault.SyntaxCause.{SyntaxCause}

@@ -1,5 +1,5 @@
 -- The circuit of a program of the form: a qubit for each parameter, and a gate for each step.
-use Rattle.std.specs.Prelude.{ℕ, zero, suc, List, [], ◌∷◌, ◌++◌, map}
+use Rattle.std.specs.Prelude.{ℕ, zero, suc, List, [], ◌∷◌}
 use Rattle.gate_core.specs.declared.gate.OneKind.TheVariants.{X, H}
 use Rattle.gate_core.specs.declared.gate.Gate.{Gate}
 use Rattle.gate_core.specs.declared.gate.Gate.TheVariants.{One}
@@ -7,7 +7,7 @@ use Rattle.silqc.specs.declared.form.Operation.{Operation}
 use Rattle.silqc.specs.declared.form.Operation.TheVariants.{Hadamard, Not}
 use Rattle.silqc.specs.declared.form.Step.{Step}
 use Rattle.silqc.specs.Form.{Form}
-use Rattle.qasm_write.specs.Written.{written_text, gate_lines}
+use Rattle.qasm_write.specs.Written.{written_text}
 
 abbrev pub gate_by : Operation → ℕ → Gate
 gate_by Hadamard q = One H q

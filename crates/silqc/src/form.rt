@@ -1,11 +1,11 @@
 //! Programs of the form that is compiled: bits, and the operations H and X on them.
 
-use std::alloc::{AllocError, Global};
-use silq_tree::Program;
-
 ghost use Rattle.std.specs.Prelude.{IfOk, MatchOption};
 ghost use Rattle.silq_tree.specs.Arena.{program_at};
 ghost use Rattle.silqc.specs.Form.{Form as FormOf, IsForm};
+
+use silq_tree::Program;
+use std::alloc::{AllocError, Global};
 
 /// What a statement does to a bit.
 #[derive(Clone, Copy, Debug, PartialEq, Eq)]
@@ -31,11 +31,7 @@ pub struct Form {
 }
 
 /// A program as one of the form with this entry, or None where it is of no such form.
-pub fn read_form(
-    alloc: Global,
-    program: &Program,
-    entry: &str,
-) -> Result<Option<Form>, AllocError>
+pub fn read_form(alloc: Global, program: &Program, entry: &str) -> Result<Option<Form>, AllocError>
     ensures { IfOk result (λ found. MatchOption found
         ((form : FormOf) → IsForm entry.now program.now.names (program_at program.now.tree program.now.funs) form → ⊥)
         (λ form. IsForm entry.now program.now.names (program_at program.now.tree program.now.funs) (record { bits = form.bits; steps = form.steps.items }))) }

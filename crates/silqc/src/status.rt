@@ -26,7 +26,10 @@ pub enum Status {
         col: u32,
     },
     /// The program needs more qubits than the budget has.
-    OverBudget { least: usize, budget: usize },
+    OverBudget {
+        least: usize,
+        budget: usize,
+    },
     /// The text was not written whole.
     WriteFault,
     /// There was no memory.

@@ -73,10 +73,7 @@ fn file_of(alloc: Global, bytes: &[u8], fails: &[u64]) -> Result<MemFiles, Alloc
 #[test]
 fn one_byte_at_a_time(rt: HostRuntime) -> Result<(), Fail> {
     let alloc = rt.alloc();
-    let words = words_of(
-        alloc,
-        &["compile", "one.slq", "main", "--budget", "000001"],
-    )?;
+    let words = words_of(alloc, &["compile", "one.slq", "main", "--budget", "000001"])?;
     let mut files = Slow {
         inner: file_of(alloc, ONE, &[])?,
     };
@@ -183,7 +180,11 @@ fn rows(rt: HostRuntime) -> Result<(), Fail> {
             b"silqc: 1:19: syntax: form\n",
         ),
         refused(b"def \xc3", 4, b"silqc: 1:5: syntax: utf8\n"),
-        refused(b"\xf0\x9d\x94\xb9\n\xc3\x97\xff", 4, b"silqc: 2:2: syntax: utf8\n"),
+        refused(
+            b"\xf0\x9d\x94\xb9\n\xc3\x97\xff",
+            4,
+            b"silqc: 2:2: syntax: utf8\n",
+        ),
         refused(
             b"def main(x:B):B {\n x /* ",
             4,
@@ -222,6 +223,9 @@ fn the_longest_text(rt: HostRuntime) -> Result<(), Fail> {
     let mut files = file_of(alloc, &blanks, &[])?;
     let status = silqc(alloc, &words, &mut files, &mut out, &mut notes);
     assert_eq!(rt; status.code(), 4);
-    assert_eq!(rt; notes.bytes(), b"silqc: not built yet\nsilqc: 1:1: syntax: long\n".as_slice());
+    assert_eq!(rt;
+        notes.bytes(),
+        b"silqc: not built yet\nsilqc: 1:1: syntax: long\n".as_slice()
+    );
     Ok(())
 }

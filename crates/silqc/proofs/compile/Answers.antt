@@ -1,4 +1,4 @@
-use Rattle.std.proofs.Common.{◌≡◌, ◌∙◌, ◌≤◌, length, subst, arith}
+use Rattle.std.proofs.Common.{◌≡◌, ◌∙◌, subst, arith}
 use Rattle.silqc.specs.declared.program.Refusal.TheVariants.{Fault, OtherForm}
 use Rattle.silqc.specs.declared.status.Status.TheVariants.{Syntax}
 use Rattle.silqc.specs.Program.{IsProgram}

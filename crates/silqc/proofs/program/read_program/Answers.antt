@@ -1,5 +1,3 @@
-use Rattle.std.proofs.Common.{◌∙◌}
-use Rattle.silqc.specs.Refusal.{Refuses}
 use Rattle.silqc.proofs.Programs.{no_fault, is_program, of_form, refuses}
 use Rattle.silqc.proofs.program.read_program.Goals as goal
 
@@ -15,7 +13,8 @@ returns-in-Ok-Some-clause-program c =
     (rw c.in-Ok-Some.field-0-is at c.in-Ok-Some.ensures)
 
 pub returns-in-Ok-None-clause-refused : goal.returns-in-Ok-None-clause-refused
-returns-in-Ok-None-clause-refused c =
-    (no_fault c.args.entry.now c.args.text.now _ _ _ c.requires c.utf8.text c.in-Ok.ensures.fine c.in-Ok.ensures.program,
-    λ form p. (rw c.in-Ok-None.field-0-is at c.in-Ok-None.ensures) form
-    (of_form c.args.entry.now c.args.text.now _ _ _ c.requires c.utf8.text c.in-Ok.ensures.fine c.in-Ok.ensures.program form p))
+returns-in-Ok-None-clause-refused c = (
+  no_fault c.args.entry.now c.args.text.now _ _ _ c.requires c.utf8.text c.in-Ok.ensures.fine c.in-Ok.ensures.program,
+  λ form p. (rw c.in-Ok-None.field-0-is at c.in-Ok-None.ensures) form
+      (of_form c.args.entry.now c.args.text.now _ _ _ c.requires c.utf8.text c.in-Ok.ensures.fine c.in-Ok.ensures.program form p),
+)

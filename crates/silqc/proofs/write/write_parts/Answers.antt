@@ -1,5 +1,5 @@
 use Rattle.std.proofs.lemmas.Result.{on_err_weaker, on_ok_weaker}
-use Rattle.std.proofs.Common.{[], ◌∷◌, ◌++◌, refl}
+use Rattle.std.proofs.Common.{◌++◌, refl}
 use Rattle.silq_io.proofs.Added.{on_err_from, adds_more, breaks_front, breaks_rest}
 use Rattle.qasm_write.specs.Written.{head_text, gate_lines, out_text}
 use Rattle.qasm_write.proofs.Parts.{broke_first, broke_second, put_both}

@@ -1,8 +1,7 @@
-use Rattle.std.proofs.Common.{◌≡◌, ◌+◌, ◌<◌, ◌≤◌, length, ap, ◌∙◌, sym, arith}
+use Rattle.std.proofs.Common.{◌+◌, ap, ◌∙◌, sym, arith}
 use Rattle.std.proofs.lemmas.Iterator.{YieldsList-from_chars}
 use Rattle.std.proofs.lemmas.Iterator.Consumers.{YieldsList-turn, YieldsList-end}
 use Rattle.std.proofs.lemmas.List.{length_push}
-use Rattle.std.specs.Str.{chars}
 use Rattle.silqc.specs.Program.{line_behind, col_behind}
 use Rattle.silqc.proofs.Places.{few_chars, mapped, line_feed, col_feed, line_same, col_next}
 use Rattle.silqc.proofs.source.FileFault.utf8.Goals as goal
