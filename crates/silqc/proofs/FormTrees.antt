@@ -1,0 +1,181 @@
+-- Trees of programs of the form, part by part.
+use Rattle.std.proofs.Common.{◌≡◌, ◌≢◌, ℕ, zero, suc, ◌+◌, ◌<◌, ◌≤◌, ◌⊎◌, inl, inr, Bool, true, false, ◌||◌, List, [], ◌∷◌, ◌++◌, Some, None, map, take, drop, slice_get, length, refl, sym, ◌∙◌, ap, subst, arith}
+use Rattle.std.specs.List.{list_any}
+use Rattle.silq_tree.specs.declared.node.NameId.{NameId}
+use Rattle.silq_tree.specs.declared.node.ExprId.{ExprId}
+use Rattle.silq_tree.specs.declared.node.StmtId.{StmtId}
+use Rattle.silq_tree.specs.Syntax.{Expression, number, typed_number, truth, pi, place, called, tuple, unary, binary, whole, part, part_of_part, Expressions, none, more, Statement, assign, spread, update, forget, forget_value, phase, choice, loop, return_nothing, return_value, call, Statements, done, next, WrittenType, Parameter}
+use Rattle.silq_tree.specs.Standing.{expressions_of, statements_of}
+use Rattle.silqc.specs.declared.form.Operation.{Operation}
+use Rattle.silqc.specs.declared.form.Step.{Step}
+use Rattle.silqc.specs.Form.{IsNone, AllDiffer, AreFree, IsStep, AreNames, AreSteps, IsBit, AreBits, AreParams}
+use Rattle.silqc.specs.FormParts.{IsWhole, IsReturn, IsFree, IsCall, AreEachSteps, AreBitParams}
+
+-- types
+
+pub bits_all : {N : Type 0} (f : N → WrittenType) (ts : List N) → ((k : ℕ) (t : N) → slice_get ts k ≡ Some t → IsBit (f t)) → AreBits (map f ts) (length ts)
+bits_all f [] h = (refl, tt)
+bits_all f (t ∷ ts) h = let b = bits_all f ts (λ k u e. h (suc k) u e) in (ap suc b.0, (h zero t refl, b.1))
+
+pub bits_at : {N : Type 0} (f : N → WrittenType) (ts : List N) (n k : ℕ) (t : N) → AreBits (map f ts) n → slice_get ts k ≡ Some t → IsBit (f t)
+bits_at f [] n k t b e = absurd (by k e)
+  where
+    by : (k : ℕ) → slice_get [] k ≡ Some t → ⊥
+    by k e = cc
+bits_at f (u ∷ ts) n zero t b e = let same : u ≡ t = cc in subst (λ v. IsBit (f v)) same b.1.0
+bits_at f (u ∷ ts) n (suc k) t b e = bits_at f ts (length (map f ts)) k t (refl, b.1.1) e
+
+-- names
+
+pub name_head : (texts : List (List ℕ)) (x : NameId) (xs : List NameId) (es : Expressions) (e : Expression) → AreNames texts (x ∷ xs) (more e es) → IsWhole x e × AreNames texts xs es
+name_head texts x xs es (place (whole y) a) h = h
+name_head texts x xs es _ h = absurd h
+
+pub name_cons : (texts : List (List ℕ)) (x : NameId) (xs : List NameId) (es : Expressions) (e : Expression) → IsWhole x e → AreNames texts xs es → AreNames texts (x ∷ xs) (more e es)
+name_cons texts x xs es (place (whole y) a) w h = (w, h)
+name_cons texts x xs es _ w h = absurd w
+
+pub names_all : (texts : List (List ℕ)) (at : ExprId → Expression) (xs : List NameId) (ids : List ExprId) → length ids ≡ length xs → ((k : ℕ) (x : NameId) (id : ExprId) → slice_get xs k ≡ Some x → slice_get ids k ≡ Some id → IsWhole x (at id)) → AreNames texts xs (expressions_of at ids)
+names_all texts at [] [] e h = tt
+names_all texts at [] (id ∷ ids) e h = absurd (grind (arith, e))
+names_all texts at (x ∷ xs) [] e h = absurd (grind (arith, e))
+names_all texts at (x ∷ xs) (id ∷ ids) e h =
+    name_cons texts x xs (expressions_of at ids) (at id) (h zero x id refl refl) (names_all texts at xs ids (omega (arith, e)) (λ k y i f g. h (suc k) y i f g))
+
+pub names_length : (texts : List (List ℕ)) (at : ExprId → Expression) (xs : List NameId) (ids : List ExprId) → AreNames texts xs (expressions_of at ids) → length ids ≡ length xs
+names_length texts at [] [] h = refl
+names_length texts at [] (id ∷ ids) h = absurd h
+names_length texts at (x ∷ xs) [] h = absurd h
+names_length texts at (x ∷ xs) (id ∷ ids) h = ap suc (names_length texts at xs ids (name_head texts x xs (expressions_of at ids) (at id) h).1)
+
+pub names_at : (texts : List (List ℕ)) (at : ExprId → Expression) (xs : List NameId) (ids : List ExprId) (k : ℕ) (x : NameId) (id : ExprId) → AreNames texts xs (expressions_of at ids) → slice_get xs k ≡ Some x → slice_get ids k ≡ Some id → IsWhole x (at id)
+names_at texts at [] ids k x id h f g = absurd (by k f)
+  where
+    by : (k : ℕ) → slice_get [] k ≡ Some x → ⊥
+    by k f = cc
+names_at texts at (y ∷ ys) [] k x id h f g = absurd h
+names_at texts at (y ∷ ys) (i ∷ ids) zero x id h f g =
+    let p : y ≡ x = cc in
+    let q : i ≡ id = cc in
+    let w = (name_head texts y ys (expressions_of at ids) (at i) h).0 in
+    subst (λ z. IsWhole z (at id)) p (subst (λ j. IsWhole y (at j)) q w)
+names_at texts at (y ∷ ys) (i ∷ ids) (suc k) x id h f g = names_at texts at ys ids k x id (name_head texts y ys (expressions_of at ids) (at i) h).1 f g
+
+-- steps
+
+module _ (names : List (List ℕ)) (bits : List NameId) where
+  pub step_of : (x : NameId) (e : Expression) (s : Step) (a : _) → slice_get bits s.bit ≡ Some x → IsCall names x e s.operation → IsStep names bits (assign (whole x) e a) s
+  step_of x (called f none (more (place (whole y) b) none) c) s a g h = (g, h.0, h.1)
+  step_of x _ s a g h = absurd h
+
+  pub step_parts : (x : NameId) (e : Expression) (s : Step) (a : _) → IsStep names bits (assign (whole x) e a) s → (slice_get bits s.bit ≡ Some x) × IsCall names x e s.operation
+  step_parts x (called f none (more (place (whole y) b) none) c) s a h = (h.0, (h.1, h.2))
+  step_parts x _ s a h = absurd h
+
+  pub each_push : (ss : List Statement) (ts : List Step) (s : Statement) (t : Step) → AreEachSteps names bits ss ts → IsStep names bits s t → AreEachSteps names bits (ss ++ s ∷ []) (ts ++ t ∷ [])
+  each_push [] [] s t h k = (k, tt)
+  each_push [] (u ∷ ts) s t h k = absurd h
+  each_push (r ∷ ss) [] s t h k = absurd h
+  each_push (r ∷ ss) (u ∷ ts) s t h k = (h.0, each_push ss ts s t h.1 k)
+
+  pub each_at : (ss : List Statement) (ts : List Step) (k : ℕ) (s : Statement) → AreEachSteps names bits ss ts → slice_get ss k ≡ Some s → (t : Step) × IsStep names bits s t
+  each_at [] ts k s h e = absurd (by k e)
+    where
+      by : (k : ℕ) → slice_get [] k ≡ Some s → ⊥
+      by k e = cc
+  each_at (r ∷ ss) [] k s h e = absurd h
+  each_at (r ∷ ss) (u ∷ ts) zero s h e = let p : r ≡ s = cc in (u, subst (λ q. IsStep names bits q u) p h.0)
+  each_at (r ∷ ss) (u ∷ ts) (suc k) s h e = each_at ss ts k s h.1 e
+
+  -- the first of several statements
+  pub step_first : (s q : Statement) (ss : Statements) (ts : List Step) → AreSteps names bits (next s (next q ss)) ts → (t : Step) × (us : List Step) × (ts ≡ t ∷ us) × IsStep names bits s t × AreSteps names bits (next q ss) us
+  step_first (return_value e a) q ss [] h = absurd h
+  step_first (return_value e a) q ss (t ∷ ts) h = (t, ts, refl, h.0, h.1)
+  step_first (assign p e a) q ss [] h = absurd h
+  step_first (assign p e a) q ss (t ∷ ts) h = (t, ts, refl, h.0, h.1)
+  step_first _ q ss [] h = absurd h
+  step_first _ q ss (t ∷ ts) h = (t, ts, refl, h.0, h.1)
+
+  pub step_next : (s q : Statement) (ss : Statements) (t : Step) (us : List Step) → IsStep names bits s t → AreSteps names bits (next q ss) us → AreSteps names bits (next s (next q ss)) (t ∷ us)
+  step_next (return_value e a) q ss t us k h = (k, h)
+  step_next (assign p e a) q ss t us k h = (k, h)
+  step_next _ q ss t us k h = (k, h)
+
+  -- the last statement
+  pub last_parts : (s : Statement) (ts : List Step) → AreSteps names bits (next s done) ts → (ts ≡ []) × IsReturn names bits s
+  last_parts (return_value e a) [] h = (refl, h)
+  last_parts (return_value e a) (t ∷ ts) h = absurd h.1
+  last_parts _ [] h = absurd h
+  last_parts _ (t ∷ ts) h = absurd h.1
+
+  pub last_of : (s : Statement) → IsReturn names bits s → AreSteps names bits (next s done) []
+  last_of (return_value e a) h = h
+  last_of _ h = absurd h
+
+  module _ (at : ExprId → Expression) (stmt : StmtId → Statement) where
+    -- statements before the last one are steps, and the last one returns
+    pub body_parts : (ids : List StmtId) (last : StmtId) (ts : List Step) → AreSteps names bits (statements_of at stmt (ids ++ last ∷ [])) ts → AreEachSteps names bits (map stmt ids) ts × IsReturn names bits (stmt last)
+    body_parts [] last ts h = let k = last_parts (stmt last) ts h in (subst (λ us. AreEachSteps names bits [] us) (sym k.0) tt, k.1)
+    body_parts (i ∷ []) last ts h = by (step_first (stmt i) (stmt last) done ts h) (λ us k. body_parts [] last us k)
+      where
+        by : ((t : Step) × (us : List Step) × (ts ≡ t ∷ us) × IsStep names bits (stmt i) t × AreSteps names bits (next (stmt last) done) us)
+          → ((us : List Step) → AreSteps names bits (next (stmt last) done) us → AreEachSteps names bits [] us × IsReturn names bits (stmt last))
+          → AreEachSteps names bits (stmt i ∷ []) ts × IsReturn names bits (stmt last)
+        by (t, us, e, s, k) f = let r = f us k in (subst (λ vs. AreEachSteps names bits (stmt i ∷ []) vs) (sym e) (s, r.0), r.1)
+    body_parts (i ∷ j ∷ ids) last ts h = by (step_first (stmt i) (stmt j) (statements_of at stmt (ids ++ last ∷ [])) ts h) (λ us k. body_parts (j ∷ ids) last us k)
+      where
+        by : ((t : Step) × (us : List Step) × (ts ≡ t ∷ us) × IsStep names bits (stmt i) t × AreSteps names bits (next (stmt j) (statements_of at stmt (ids ++ last ∷ []))) us)
+          → ((us : List Step) → AreSteps names bits (next (stmt j) (statements_of at stmt (ids ++ last ∷ []))) us → AreEachSteps names bits (stmt j ∷ map stmt ids) us × IsReturn names bits (stmt last))
+          → AreEachSteps names bits (stmt i ∷ stmt j ∷ map stmt ids) ts × IsReturn names bits (stmt last)
+        by (t, us, e, s, k) f = let r = f us k in (subst (λ vs. AreEachSteps names bits (stmt i ∷ stmt j ∷ map stmt ids) vs) (sym e) (s, r.0), r.1)
+
+    pub body_of : (ids : List StmtId) (last : StmtId) (ts : List Step) → AreEachSteps names bits (map stmt ids) ts → IsReturn names bits (stmt last) → AreSteps names bits (statements_of at stmt (ids ++ last ∷ [])) ts
+    body_of [] last [] h r = last_of (stmt last) r
+    body_of [] last (t ∷ ts) h r = absurd h
+    body_of (i ∷ ids) last [] h r = absurd h
+    body_of (i ∷ []) last (t ∷ ts) h r = step_next (stmt i) (stmt last) done t ts h.0 (body_of [] last ts h.1 r)
+    body_of (i ∷ j ∷ ids) last (t ∷ ts) h r = step_next (stmt i) (stmt j) (statements_of at stmt (ids ++ last ∷ [])) t ts h.0 (body_of (j ∷ ids) last ts h.1 r)
+
+-- parameters
+
+pub params_push : (xs : List NameId) (ps : List Parameter) (p : Parameter) → AreParams xs ps → p.held ≡ false → IsBit p.ty → AreParams (xs ++ p.name ∷ []) (ps ++ p ∷ [])
+params_push [] [] p h e b = (e, refl, b, tt)
+params_push [] (q ∷ ps) p h e b = absurd h
+params_push (x ∷ xs) [] p h e b = absurd h
+params_push (x ∷ xs) (q ∷ ps) p h e b = (h.0, h.1, h.2, params_push xs ps p h.3 e b)
+
+pub params_at : (xs : List NameId) (ps : List Parameter) (k : ℕ) (p : Parameter) → AreParams xs ps → slice_get ps k ≡ Some p → (slice_get xs k ≡ Some p.name) × (p.held ≡ false) × IsBit p.ty
+params_at xs [] k p h e = absurd (by k e)
+  where
+    by : (k : ℕ) → slice_get [] k ≡ Some p → ⊥
+    by k e = cc
+params_at [] (q ∷ ps) k p h e = absurd h
+params_at (x ∷ xs) (q ∷ ps) zero p h e =
+    let s : q ≡ p = cc in subst (λ r. (Some x ≡ Some r.name) × (r.held ≡ false) × IsBit r.ty) s (ap Some (sym h.1), h.0, h.2)
+params_at (x ∷ xs) (q ∷ ps) (suc k) p h e = params_at xs ps k p h.3 e
+
+pub params_names : (xs : List NameId) (ps : List Parameter) → AreParams xs ps → xs ≡ map (λ (p : Parameter). p.name) ps
+params_names [] [] h = refl
+params_names [] (p ∷ ps) h = absurd h
+params_names (x ∷ xs) [] h = absurd h
+params_names (x ∷ xs) (p ∷ ps) h = let e = params_names xs ps h.3 in λ i. sym h.1 i ∷ e i
+
+pub none_push : (y : NameId) (xs : List NameId) (x : NameId) → IsNone y xs → y ≢ x → IsNone y (xs ++ x ∷ [])
+none_push y [] x h e = (e, tt)
+none_push y (z ∷ xs) x h e = (h.0, none_push y xs x h.1 e)
+
+pub none_middle : (y : NameId) (xs ys : List NameId) (x : NameId) → IsNone y (xs ++ x ∷ ys) → y ≢ x
+none_middle y [] ys x h = h.0
+none_middle y (z ∷ xs) ys x h = none_middle y xs ys x h.1
+
+pub free_push : (names : List (List ℕ)) (xs : List NameId) (x : NameId) → AreFree names xs → IsFree names x → AreFree names (xs ++ x ∷ [])
+free_push names [] x h f = (f, tt)
+free_push names (z ∷ xs) x h f = (h.0, free_push names xs x h.1 f)
+
+pub free_at : (names : List (List ℕ)) (xs : List NameId) (k : ℕ) (x : NameId) → AreFree names xs → slice_get xs k ≡ Some x → IsFree names x
+free_at names [] k x h e = absurd (by k e)
+  where
+    by : (k : ℕ) → slice_get [] k ≡ Some x → ⊥
+    by k e = cc
+free_at names (z ∷ xs) zero x h e = let s : z ≡ x = cc in subst (λ w. IsFree names w) s h.0
+free_at names (z ∷ xs) (suc k) x h e = free_at names xs k x h.1 e
