@@ -1,6 +1,11 @@
 -- Trees of programs of the form, part by part.
-use Rattle.std.proofs.Common.{◌≡◌, ◌≢◌, ℕ, zero, suc, ◌+◌, ◌<◌, ◌≤◌, ◌⊎◌, inl, inr, Bool, true, false, ◌||◌, List, [], ◌∷◌, ◌++◌, Some, None, map, take, drop, slice_get, length, refl, sym, ◌∙◌, ap, subst, arith}
+use Rattle.std.proofs.Common.{◌≡◌, ◌≢◌, ℕ, zero, suc, ◌+◌, ◌<◌, ◌≤◌, ◌⊎◌, inl, inr, Bool, true, false, ◌||◌, List, [], ◌∷◌, ◌++◌, Some, None, map, take, drop, slice_get, length, get_or, nat_eq, below_more, refl, sym, ◌∙◌, ap, subst, arith}
 use Rattle.std.specs.List.{list_any}
+use Rattle.std.specs.Prelude.{IsTrue, ◌↔◌}
+use Rattle.std.proofs.lemmas.Option.{get_or_from_slice_get, slice_get-get_or, slice_get_within}
+use Rattle.std.proofs.lemmas.List.{length-map}
+use Rattle.std.proofs.lemmas.Bool.{eq-eqb}
+use Rattle.silq_tree.specs.Children.{AreExprsBelow, AreStmtsBelow}
 use Rattle.silq_tree.specs.declared.node.NameId.{NameId}
 use Rattle.silq_tree.specs.declared.node.ExprId.{ExprId}
 use Rattle.silq_tree.specs.declared.node.StmtId.{StmtId}
@@ -8,8 +13,26 @@ use Rattle.silq_tree.specs.Syntax.{Expression, number, typed_number, truth, pi, 
 use Rattle.silq_tree.specs.Standing.{expressions_of, statements_of}
 use Rattle.silqc.specs.declared.form.Operation.{Operation}
 use Rattle.silqc.specs.declared.form.Step.{Step}
-use Rattle.silqc.specs.Form.{IsNone, AllDiffer, AreFree, IsStep, AreNames, AreSteps, IsBit, AreBits, AreParams}
+use Rattle.silqc.specs.Form.{IsNone, AllDiffer, AreFree, IsStep, AreNames, IsReturned, Spells, function_name, AreSteps, IsBit, AreBits, AreParams}
 use Rattle.silqc.specs.FormParts.{IsWhole, IsReturn, IsFree, IsCall, AreEachSteps, AreBitParams}
+
+pub no : {A : Type 0} → (A → ⊥) → IsTrue false ↔ A
+no f = ((λ t. cc), (λ a. absurd (f a)))
+
+pub yes : {A : Type 0} → A → IsTrue true ↔ A
+yes a = ((λ t. a), (λ b. refl))
+
+pub wrong : (b : Bool) → b ≡ false → IsTrue b → ⊥
+wrong b e t = cc
+
+-- what holds of the items before one, and of that one, holds of those before the next
+pub item_more : {N : Type 0} (P : N → Type 0) (ts : List N) (i : ℕ) (d : N) → ((k : ℕ) (t : N) → k < i → slice_get ts k ≡ Some t → P t) → P (get_or ts i d) → (k : ℕ) (t : N) → k < i + 1 → slice_get ts k ≡ Some t → P t
+item_more P ts i d h p k t l e =
+    below_more (λ j. (u : _) → slice_get ts j ≡ Some u → P u) i (λ j m u f. h j u m f) (λ u f. subst P (get_or_from_slice_get ts i u d f) p) k l t e
+
+pub exprs_weaker : (m n : ℕ) (ids : List ExprId) → m ≤ n → AreExprsBelow m ids → AreExprsBelow n ids
+exprs_weaker m n [] le h = tt
+exprs_weaker m n (id ∷ ids) le h = let l = h.0 in (omega arith, exprs_weaker m n ids le h.1)
 
 -- types
 
@@ -24,6 +47,14 @@ bits_at f [] n k t b e = absurd (by k e)
     by k e = cc
 bits_at f (u ∷ ts) n zero t b e = let same : u ≡ t = cc in subst (λ v. IsBit (f v)) same b.1.0
 bits_at f (u ∷ ts) n (suc k) t b e = bits_at f ts (length (map f ts)) k t (refl, b.1.1) e
+
+pub bits_item : {N : Type 0} (f : N → WrittenType) (ts : List N) (n k : ℕ) (d : N) → AreBits (map f ts) n → k < length ts → IsBit (f (get_or ts k d))
+bits_item f ts n k d b l = bits_at f ts n k (get_or ts k d) b (slice_get-get_or ts k d l)
+
+pub bits_done : {N : Type 0} (f : N → WrittenType) (ts : List N) (n i : ℕ) → length ts ≤ i → ((k : ℕ) (t : N) → k < i → slice_get ts k ≡ Some t → IsBit (f t)) → IsTrue (nat_eq (length ts) n) ↔ AreBits (map f ts) n
+bits_done f ts n i l h =
+    (λ t. let e : length ts ≡ n = grind (arith, t) in subst (λ m. AreBits (map f ts) m) e (bits_all f ts (λ k t e. h k t (let w = slice_get_within ts k t e in omega arith) e))
+    , λ b. let e : length ts ≡ n = sym (length-map ts f) ∙ b.0 in eq-eqb (length ts) n e)
 
 -- names
 
@@ -60,6 +91,54 @@ names_at texts at (y ∷ ys) (i ∷ ids) zero x id h f g =
     let w = (name_head texts y ys (expressions_of at ids) (at i) h).0 in
     subst (λ z. IsWhole z (at id)) p (subst (λ j. IsWhole y (at j)) q w)
 names_at texts at (y ∷ ys) (i ∷ ids) (suc k) x id h f g = names_at texts at ys ids k x id (name_head texts y ys (expressions_of at ids) (at i) h).1 f g
+
+pub names_done : (texts : List (List ℕ)) (at : ExprId → Expression) (xs : List NameId) (ids : List ExprId) (i : ℕ) → length ids ≡ length xs → length ids ≤ i
+  → ((k : ℕ) (x : NameId) (id : ExprId) → k < i → slice_get xs k ≡ Some x → slice_get ids k ≡ Some id → IsWhole x (at id)) → AreNames texts xs (expressions_of at ids)
+names_done texts at xs ids i e l h = names_all texts at xs ids e (λ k x id f g. h k x id (let w = slice_get_within ids k id g in omega arith) f g)
+
+pub names_item : (texts : List (List ℕ)) (at : ExprId → Expression) (xs : List NameId) (ids : List ExprId) (k : ℕ) (c : NameId) (d : ExprId) → AreNames texts xs (expressions_of at ids) → k < length xs → k < length ids → IsWhole (get_or xs k c) (at (get_or ids k d))
+names_item texts at xs ids k c d h l m = names_at texts at xs ids k (get_or xs k c) (get_or ids k d) h (slice_get-get_or xs k c l) (slice_get-get_or ids k d m)
+
+pub names_more : (at : ExprId → Expression) (xs : List NameId) (ids : List ExprId) (i : ℕ) (c : NameId) (d : ExprId)
+  → ((k : ℕ) (x : NameId) (id : ExprId) → k < i → slice_get xs k ≡ Some x → slice_get ids k ≡ Some id → IsWhole x (at id))
+  → IsWhole (get_or xs i c) (at (get_or ids i d))
+  → (k : ℕ) (x : NameId) (id : ExprId) → k < i + 1 → slice_get xs k ≡ Some x → slice_get ids k ≡ Some id → IsWhole x (at id)
+names_more at xs ids i c d h w k x id l f g =
+    below_more (λ j. (y : NameId) (m : ExprId) → slice_get xs j ≡ Some y → slice_get ids j ≡ Some m → IsWhole y (at m)) i (λ j b y m p q. h j y m b p q)
+    (λ y m p q. subst (λ z. IsWhole z (at m)) (get_or_from_slice_get xs i y c p) (subst (λ n. IsWhole (get_or xs i c) (at n)) (get_or_from_slice_get ids i m d q) w))
+    k l x id f g
+
+-- several bits are returned as a tuple
+pub returned_tuple : (texts : List (List ℕ)) (bits : List NameId) (es : Expressions) (a : _) (b : Bool) → 2 ≤ length bits → (IsTrue b ↔ AreNames texts bits es) → IsTrue b ↔ IsReturned texts bits (tuple es a)
+returned_tuple texts [] es a b l h = absurd (let m : 2 ≤ 0 = l in omega arith)
+returned_tuple texts (x ∷ []) es a b l h = absurd (let m : 2 ≤ 1 = l in omega arith)
+returned_tuple texts (x ∷ y ∷ xs) es a b l h = h
+
+-- calls
+
+module _ (names : List (List ℕ)) (x : NameId) (at : ExprId → Expression) where
+  pub call_parts : (f : NameId) (statics args : List ExprId) (a : _) (o : Operation) → IsCall names x (called f (expressions_of at statics) (expressions_of at args) a) o
+    → (length statics ≡ 0) × (length args ≡ 1) × ((i : ExprId) → args ≡ i ∷ [] → IsWhole x (at i)) × Spells names f (function_name o)
+  call_parts f [] [] a o h = absurd h
+  call_parts f [] (i ∷ []) a o h = by (at i) refl h
+    where
+      by : (e : Expression) → at i ≡ e → IsCall names x (called f none (more e none) a) o
+        → (length {A = ExprId} [] ≡ 0) × (length (i ∷ []) ≡ 1) × ((j : ExprId) → i ∷ [] ≡ j ∷ [] → IsWhole x (at j)) × Spells names f (function_name o)
+      by (place (whole y) b) e h = (refl, refl, (λ j k. let m : i ≡ j = cc in subst (λ n. IsWhole x (at n)) m (rw e h.0)), h.1)
+      by _ e h = absurd h
+  call_parts f [] (i ∷ j ∷ args) a o h = absurd (by (at i) h)
+    where
+      by : (e : Expression) → IsCall names x (called f none (more e (more (at j) (expressions_of at args))) a) o → ⊥
+      by (place (whole y) b) h = h
+      by _ h = h
+  call_parts f (s ∷ statics) args a o h = absurd h
+
+  pub call_of : (f : NameId) (i : ExprId) (a : _) (o : Operation) → IsWhole x (at i) → Spells names f (function_name o) → IsCall names x (called f none (more (at i) none) a) o
+  call_of f i a o w s = by (at i) w
+    where
+      by : (e : Expression) → IsWhole x e → IsCall names x (called f none (more e none) a) o
+      by (place (whole y) b) w = (w, s)
+      by _ w = absurd w
 
 -- steps
 

@@ -169,9 +169,16 @@ fn read_call(tree: &Tree, names: &Names, id: ExprId, name: NameId) -> Option<Ope
     else {
         return None;
     };
-    match (statics.as_slice(), args.as_slice()) {
-        ([], [arg]) if is_whole(tree, *arg, name) => read_operation(names, *fun),
-        _ => None,
+    if statics.len() != 0 {
+        return None;
+    }
+    let [arg] = args.as_slice() else {
+        return None;
+    };
+    if is_whole(tree, *arg, name) {
+        read_operation(names, *fun)
+    } else {
+        None
     }
 }
 
@@ -234,6 +241,13 @@ fn read_body(
     read_steps(alloc, &program.tree, &program.names, bits, first)
 }
 
+// Whether a parameter is a bit that is not const, with a name that is not built in.
+fn is_bit_param(names: &Names, param: &ParamNode) -> bool
+    ensures { (at : ExprId → Expression) → IsTrue result ↔ ((param.now.held ≡ false) × IsBit (type_of at param.now.ty) × IsFree names.now param.now.name) }
+{
+    !param.held && is_bit(&param.ty) && is_free(names, param.name)
+}
+
 // The names of parameters that are bits.
 fn read_bits(
     alloc: Global,
@@ -244,7 +258,7 @@ fn read_bits(
 {
     let mut bits = IndexSet::new(alloc);
     for param in params {
-        if param.held || !is_bit(&param.ty) || !is_free(names, param.name) {
+        if !is_bit_param(names, param) {
             return Ok(None);
         }
         let (_, added) = bits.insert_full(param.name)?;
@@ -265,15 +279,29 @@ fn is_entry(names: &Names, fun: &Fun, entry: &str) -> bool
         && is_free(names, fun.name)
 }
 
+// Whether a function has bits, with no name that is its own, and a result for each of them.
+fn fits_bits(fun: &Fun, bits: &IndexSet<NameId>) -> bool
+    ensures { (at : ExprId → Expression) → IsTrue result ↔ ((0 < length bits.now.keys) × IsNone fun.now.name bits.now.keys × AreBits (map (type_of at) fun.now.results) (length bits.now.keys)) }
+{
+    if bits.is_empty() || bits.contains(&fun.name) {
+        return false;
+    }
+    are_bits(fun.results.as_slice(), bits.len())
+}
+
 // The function of a program of one; of a program of several, or one that has no parameters, it may be none.
 fn only_function(program: &Program) -> Option<&Fun>
     ensures { MatchOption result
         ((function : Function) → program_at program.now.tree program.now.funs ≡ function ∷ [] → function.params ≡ [])
         (λ fun. (program_at program.now.tree program.now.funs ≡ fun_grown (expr_at program.now.tree) (stmt_at program.now.tree) fun.now ∷ []) × AreStmtsBelow (length program.now.tree.stmts) fun.now.body.items) }
 {
-    match program.funs.as_slice() {
-        [id] if (id.number as usize) < program.tree.funs() => Some(program.tree.fun(*id)),
-        _ => None,
+    let [id] = program.funs.as_slice() else {
+        return None;
+    };
+    if (id.number as usize) < program.tree.funs() {
+        Some(program.tree.fun(*id))
+    } else {
+        None
     }
 }
 
@@ -296,7 +324,7 @@ pub fn read_form(
     let Some(bits) = read_bits(alloc, &program.names, fun.params.as_slice())? else {
         return Ok(None);
     };
-    if bits.is_empty() || bits.contains(&fun.name) || !are_bits(fun.results.as_slice(), bits.len()) {
+    if !fits_bits(fun, &bits) {
         return Ok(None);
     }
     let Ok(count) = u32::try_from(bits.len()) else {
