@@ -1,15 +1,19 @@
 -- Trees of programs of the form, part by part.
-use Rattle.std.proofs.Common.{◌≡◌, ◌≢◌, ℕ, zero, suc, ◌+◌, ◌<◌, ◌≤◌, ◌⊎◌, inl, inr, Bool, true, false, ◌||◌, List, [], ◌∷◌, ◌++◌, Some, None, map, take, drop, slice_get, length, get_or, nat_eq, below_more, refl, sym, ◌∙◌, ap, subst, arith}
+use Rattle.std.proofs.Common.{◌≡◌, ◌≢◌, ℕ, zero, suc, ◌+◌, ◌-◌, ◌<◌, ◌≤◌, ◌⊎◌, inl, inr, Bool, true, false, ◌||◌, List, [], ◌∷◌, ◌++◌, Option, Some, None, MatchOption, map, take, drop, slice_get, length, get_or, nat_eq, below_more, refl, sym, ◌∙◌, ap, subst, arith, add-one}
 use Rattle.std.specs.List.{list_any}
 use Rattle.std.specs.Prelude.{IsTrue, ◌↔◌}
-use Rattle.std.proofs.lemmas.Option.{get_or_from_slice_get, slice_get-get_or, slice_get_within}
-use Rattle.std.proofs.lemmas.List.{length-map}
+use Rattle.std.proofs.lemmas.Option.{get_or_from_slice_get, slice_get-get_or, slice_get_within, slice_get_past, slice_get-map}
+use Rattle.std.specs.Option.{option_map}
+use Rattle.std.proofs.Math.Seq.{take-suc, take-length}
+use Rattle.silq_tree.specs.declared.node.FunId.{FunId}
+use Rattle.silq_tree.specs.Arena.{Forest, fun_at, grown_or, nothing, program_at}
+use Rattle.std.proofs.lemmas.List.{length-map, map-append}
 use Rattle.std.proofs.lemmas.Bool.{eq-eqb}
 use Rattle.silq_tree.specs.Children.{AreExprsBelow, AreStmtsBelow}
 use Rattle.silq_tree.specs.declared.node.NameId.{NameId}
 use Rattle.silq_tree.specs.declared.node.ExprId.{ExprId}
 use Rattle.silq_tree.specs.declared.node.StmtId.{StmtId}
-use Rattle.silq_tree.specs.Syntax.{Expression, number, typed_number, truth, pi, place, called, tuple, unary, binary, whole, part, part_of_part, Expressions, none, more, Statement, assign, spread, update, forget, forget_value, phase, choice, loop, return_nothing, return_value, call, Statements, done, next, WrittenType, Parameter}
+use Rattle.silq_tree.specs.Syntax.{Expression, number, typed_number, truth, pi, place, called, tuple, unary, binary, whole, part, part_of_part, Expressions, none, more, Statement, assign, spread, update, forget, forget_value, phase, choice, loop, return_nothing, return_value, call, Statements, done, next, WrittenType, Parameter, Function}
 use Rattle.silq_tree.specs.Standing.{expressions_of, statements_of}
 use Rattle.silqc.specs.declared.form.Operation.{Operation}
 use Rattle.silqc.specs.declared.form.Step.{Step}
@@ -29,6 +33,29 @@ wrong b e t = cc
 pub item_more : {N : Type 0} (P : N → Type 0) (ts : List N) (i : ℕ) (d : N) → ((k : ℕ) (t : N) → k < i → slice_get ts k ≡ Some t → P t) → P (get_or ts i d) → (k : ℕ) (t : N) → k < i + 1 → slice_get ts k ≡ Some t → P t
 item_more P ts i d h p k t l e =
     below_more (λ j. (u : _) → slice_get ts j ≡ Some u → P u) i (λ j m u f. h j u m f) (λ u f. subst P (get_or_from_slice_get ts i u d f) p) k l t e
+
+pub map_take_more : {N X : Type 0} (f : N → X) (ns : List N) (i : ℕ) (d : N) → i < length ns → map f (take (i + 1) ns) ≡ map f (take i ns) ++ f (get_or ns i d) ∷ []
+map_take_more f ns i d l = ap (λ n. map f (take n ns)) (add-one i) ∙ ap (map f) (take-suc ns i d l) ∙ map-append f (take i ns) (get_or ns i d ∷ [])
+
+pub last_view : {N : Type 0} (ns : List N) (d : N) → 1 ≤ length ns → ns ≡ take (length ns - 1) ns ++ get_or ns (length ns - 1) d ∷ []
+last_view ns d l =
+    let e : suc (length ns - 1) ≡ length ns = omega arith in
+    let m : length ns - 1 < length ns = omega arith in
+    sym (take-length ns) ∙ ap (λ n. take n ns) (sym e) ∙ take-suc ns (length ns - 1) d m
+
+pub stmts_take : (n : ℕ) (ids : List StmtId) (k : ℕ) → AreStmtsBelow n ids → AreStmtsBelow n (take k ids)
+stmts_take n ids zero h = tt
+stmts_take n [] (suc k) h = tt
+stmts_take n (id ∷ ids) (suc k) h = (h.0, stmts_take n ids k h.1)
+
+-- a function that is not there has no parameters
+pub missing : (f : Forest) (ids : List FunId) (d : FunId) (g : Function) → 1 ≤ length ids → length ids < 2 → length f.funs ≤ (get_or ids 0 d).number → program_at f ids ≡ g ∷ [] → g.params ≡ []
+missing f [] d g a b l e = absurd (let m : 1 ≤ 0 = a in omega arith)
+missing f (i ∷ j ∷ ids) d g a b l e = absurd (let m : suc (suc (length ids)) < 2 = b in omega arith)
+missing f (i ∷ []) d g a b l e =
+    let h : fun_at f i ≡ g = cc in
+    let k : fun_at f i ≡ nothing = ap (grown_or f) (slice_get_past f.funs i.number l) in
+    subst (λ (u : Function). u.params ≡ []) (sym k ∙ h) refl
 
 pub exprs_weaker : (m n : ℕ) (ids : List ExprId) → m ≤ n → AreExprsBelow m ids → AreExprsBelow n ids
 exprs_weaker m n [] le h = tt
@@ -140,6 +167,17 @@ module _ (names : List (List ℕ)) (x : NameId) (at : ExprId → Expression) whe
       by (place (whole y) b) w = (w, s)
       by _ w = absurd w
 
+  pub call_match : (f : NameId) (statics args items : List ExprId) (a : _) (d : ExprId) (r : Option Operation)
+    → length statics ≡ 0 → items ≡ args → 1 ≤ length items → length items < 2 → IsWhole x (at (get_or items 0 d))
+    → MatchOption r ((o : Operation) → Spells names f (function_name o) → ⊥) (λ o. Spells names f (function_name o))
+    → MatchOption r ((o : Operation) → IsCall names x (called f (expressions_of at statics) (expressions_of at args) a) o → ⊥) (IsCall names x (called f (expressions_of at statics) (expressions_of at args) a))
+  call_match f (s ∷ statics) args items a d r l e b t w m = absurd (grind (arith, l))
+  call_match f [] [] items a d r l e b t w m = absurd (let k : length items ≡ 0 = ap length e in omega arith)
+  call_match f [] (i ∷ j ∷ args) items a d r l e b t w m = absurd (let k : length items ≡ suc (suc (length args)) = ap length e in omega arith)
+  call_match f [] (i ∷ []) items a d None l e b t w m = λ o h. m o (call_parts f [] (i ∷ []) a o h).3
+  call_match f [] (i ∷ []) items a d (Some o) l e b t w m =
+      let k : IsWhole x (at i) = subst (λ (us : List ExprId). IsWhole x (at (get_or us 0 d))) e w in call_of f i a o k m
+
 -- steps
 
 module _ (names : List (List ℕ)) (bits : List NameId) where
@@ -165,6 +203,14 @@ module _ (names : List (List ℕ)) (bits : List NameId) where
   each_at (r ∷ ss) [] k s h e = absurd h
   each_at (r ∷ ss) (u ∷ ts) zero s h e = let p : r ≡ s = cc in (u, subst (λ q. IsStep names bits q u) p h.0)
   each_at (r ∷ ss) (u ∷ ts) (suc k) s h e = each_at ss ts k s h.1 e
+
+  pub each_item : {N : Type 0} (f : N → Statement) (ids : List N) (ts : List Step) (k : ℕ) (d : N) → AreEachSteps names bits (map f ids) ts → k < length ids → (t : Step) × IsStep names bits (f (get_or ids k d)) t
+  each_item f ids ts k d h l = each_at (map f ids) ts k (f (get_or ids k d)) h (slice_get-map f ids k ∙ ap (option_map f) (slice_get-get_or ids k d l))
+
+  pub each_more : {N : Type 0} (f : N → Statement) (ids : List N) (ts us : List Step) (t : Step) (i : ℕ) (d : N) → AreEachSteps names bits (map f (take i ids)) ts → IsStep names bits (f (get_or ids i d)) t → i < length ids → us ≡ ts ++ t ∷ []
+    → AreEachSteps names bits (map f (take (i + 1) ids)) us
+  each_more f ids ts us t i d h k l e =
+      subst (λ ss. AreEachSteps names bits ss us) (sym (map_take_more f ids i d l)) (subst (λ vs. AreEachSteps names bits (map f (take i ids) ++ f (get_or ids i d) ∷ []) vs) (sym e) (each_push (map f (take i ids)) ts (f (get_or ids i d)) t h k))
 
   -- the first of several statements
   pub step_first : (s q : Statement) (ss : Statements) (ts : List Step) → AreSteps names bits (next s (next q ss)) ts → (t : Step) × (us : List Step) × (ts ≡ t ∷ us) × IsStep names bits s t × AreSteps names bits (next q ss) us
@@ -214,6 +260,14 @@ module _ (names : List (List ℕ)) (bits : List NameId) where
     body_of (i ∷ ids) last [] h r = absurd h
     body_of (i ∷ []) last (t ∷ ts) h r = step_next (stmt i) (stmt last) done t ts h.0 (body_of [] last ts h.1 r)
     body_of (i ∷ j ∷ ids) last (t ∷ ts) h r = step_next (stmt i) (stmt j) (statements_of at stmt (ids ++ last ∷ [])) t ts h.0 (body_of (j ∷ ids) last ts h.1 r)
+
+    pub body_view : (ids : List StmtId) (d : StmtId) (ts : List Step) → 1 ≤ length ids → AreSteps names bits (statements_of at stmt ids) ts
+      → AreEachSteps names bits (map stmt (take (length ids - 1) ids)) ts × IsReturn names bits (stmt (get_or ids (length ids - 1) d))
+    body_view ids d ts l h = body_parts (take (length ids - 1) ids) (get_or ids (length ids - 1) d) ts (subst (λ us. AreSteps names bits (statements_of at stmt us) ts) (last_view ids d l) h)
+
+    pub body_back : (ids : List StmtId) (d : StmtId) (ts : List Step) → 1 ≤ length ids → AreEachSteps names bits (map stmt (take (length ids - 1) ids)) ts → IsReturn names bits (stmt (get_or ids (length ids - 1) d))
+      → AreSteps names bits (statements_of at stmt ids) ts
+    body_back ids d ts l h r = subst (λ us. AreSteps names bits (statements_of at stmt us) ts) (sym (last_view ids d l)) (body_of (take (length ids - 1) ids) (get_or ids (length ids - 1) d) ts h r)
 
 -- parameters
 

@@ -1,9 +1,6 @@
-use Rattle.std.proofs.Common.{◌≡◌, ◌≤◌, length, ap, ◌∙◌, subst, arith}
+use Rattle.silqc.proofs.FormTrees.{missing}
 use Rattle.silqc.proofs.form.only_function.Goals as goal
 
 pub returns-else-id-funs : goal.returns-else-id-funs
 returns-else-id-funs c =
-   let a = c.as_slice.ensures in
-   let b = c.funs.ensures in
-   let d = c.if-id-funs.false in
-   let e = c.in-len1 in ?
+    rw (← c.as_slice.ensures) (λ function e. missing c.args.program.now.tree c.as_slice.result.now (record { number = 0 }) function c.in-len1.len_at_least c.in-len1.len_below (rw c.funs.ensures at c.if-id-funs.false) e)
