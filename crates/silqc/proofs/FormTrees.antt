@@ -1,9 +1,9 @@
 -- Trees of programs of the form, part by part.
-use Rattle.std.proofs.Common.{◌≡◌, ◌≢◌, ℕ, zero, suc, ◌+◌, ◌-◌, ◌<◌, ◌≤◌, ◌⊎◌, inl, inr, Bool, true, false, ◌||◌, List, [], ◌∷◌, ◌++◌, Option, Some, None, MatchOption, map, take, drop, slice_get, length, get_or, nat_eq, below_more, refl, sym, ◌∙◌, ap, subst, arith, add-one}
+use Rattle.std.proofs.Common.{◌≡◌, ◌≢◌, ℕ, zero, suc, ◌+◌, ◌-◌, ◌<◌, ◌≤◌, ◌⊎◌, inl, inr, Bool, true, false, ◌||◌, List, [], ◌∷◌, ◌++◌, Option, Some, None, Result, Ok, Err, IfOk, MatchOption, map, take, drop, slice_get, length, get_or, nat_eq, below_more, not, refl, sym, ◌∙◌, ap, subst, arith, add-one}
 use Rattle.std.specs.List.{list_any}
 use Rattle.std.specs.Prelude.{IsTrue, ◌↔◌}
 use Rattle.std.proofs.lemmas.Option.{get_or_from_slice_get, slice_get-get_or, slice_get_within, slice_get_past, slice_get-map}
-use Rattle.std.specs.Option.{option_map}
+use Rattle.std.specs.Option.{option_map, is_some}
 use Rattle.std.proofs.Math.Seq.{take-suc, take-length}
 use Rattle.silq_tree.specs.declared.node.FunId.{FunId}
 use Rattle.silq_tree.specs.Arena.{Forest, fun_at, grown_or, nothing, program_at}
@@ -28,6 +28,25 @@ yes a = ((λ t. a), (λ b. refl))
 
 pub wrong : (b : Bool) → b ≡ false → IsTrue b → ⊥
 wrong b e t = cc
+
+pub not_true : (b : Bool) → not b ≡ true → b ≡ false
+not_true true e = cc
+not_true false e = refl
+
+pub not_false : (b : Bool) → not b ≡ false → b ≡ true
+not_false true e = refl
+not_false false e = cc
+
+pub is_none : {A : Type 0} (o : Option A) → is_some o ≡ false → o ≡ None
+is_none None e = refl
+is_none (Some a) e = cc
+
+pub positive : (b : Bool) (n : ℕ) → b ≡ false → (IsTrue b ↔ (n ≡ 0)) → 0 < n
+positive b zero e h = absurd (wrong b e (h.1 refl))
+positive b (suc n) e h = zero_lt n
+  where
+    zero_lt : (n : ℕ) → 0 < suc n
+    zero_lt n = omega arith
 
 -- what holds of the items before one, and of that one, holds of those before the next
 pub item_more : {N : Type 0} (P : N → Type 0) (ts : List N) (i : ℕ) (d : N) → ((k : ℕ) (t : N) → k < i → slice_get ts k ≡ Some t → P t) → P (get_or ts i d) → (k : ℕ) (t : N) → k < i + 1 → slice_get ts k ≡ Some t → P t
@@ -268,6 +287,13 @@ module _ (names : List (List ℕ)) (bits : List NameId) where
     pub body_back : (ids : List StmtId) (d : StmtId) (ts : List Step) → 1 ≤ length ids → AreEachSteps names bits (map stmt (take (length ids - 1) ids)) ts → IsReturn names bits (stmt (get_or ids (length ids - 1) d))
       → AreSteps names bits (statements_of at stmt ids) ts
     body_back ids d ts l h r = subst (λ us. AreSteps names bits (statements_of at stmt us) ts) (sym (last_view ids d l)) (body_of (take (length ids - 1) ids) (get_or ids (length ids - 1) d) ts h r)
+
+    pub body_match : {V E : Type 0} (items : V → List Step) (ids : List StmtId) (d : StmtId) (r : Result (Option V) E) → 1 ≤ length ids → IsReturn names bits (stmt (get_or ids (length ids - 1) d))
+      → IfOk r (λ found. MatchOption found ((ts : List Step) → AreEachSteps names bits (map stmt (take (length ids - 1) ids)) ts → ⊥) (λ v. AreEachSteps names bits (map stmt (take (length ids - 1) ids)) (items v)))
+      → IfOk r (λ found. MatchOption found ((ts : List Step) → AreSteps names bits (statements_of at stmt ids) ts → ⊥) (λ v. AreSteps names bits (statements_of at stmt ids) (items v)))
+    body_match items ids d (Ok None) l k h = λ ts s. h ts (body_view ids d ts l s).0
+    body_match items ids d (Ok (Some v)) l k h = body_back ids d (items v) l h k
+    body_match items ids d (Err e) l k h = h
 
 -- parameters
 
