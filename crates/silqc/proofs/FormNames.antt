@@ -1,9 +1,12 @@
 -- Names of parameters, and the names among them.
-use Rattle.std.proofs.Common.{◌≡◌, ◌≢◌, ℕ, zero, suc, ◌+◌, ◌<◌, ◌≤◌, Bool, true, false, ◌||◌, List, [], ◌∷◌, ◌++◌, Some, None, map, take, drop, slice_get, length, get_or, position, not, if◌then◌else◌, refl, sym, ◌∙◌, ap, subst, arith}
-use Rattle.std.specs.Prelude.{IsTrue, ◌↔◌}
-use Rattle.std.specs.List.{list_any}
+use Rattle.std.proofs.Common.{◌≡◌, ℕ, zero, suc, ◌+◌, ◌<◌, ◌≤◌, Bool, true, false, ◌||◌, List, [], ◌∷◌, ◌++◌, Some, map, take, drop, slice_get, length, get_or, position, if◌then◌else◌, refl, sym, ◌∙◌, ap, subst, arith}
+use Rattle.std.specs.List.{list_any, All, AllByRecursion, IsDistinct}
+use Rattle.std.proofs.Math.Dec.{eqb}
+use Rattle.std.proofs.lemmas.Bool.{eqb-true}
+use Rattle.std.proofs.lemmas.List.Elements.{All-head, All-tail, All-cons}
+use Rattle.std.proofs.lemmas.Map.Steps.{length-le_from_distinct_below}
 use Rattle.std.proofs.Math.Seq.{split_at}
-use Rattle.std.proofs.lemmas.List.{map-append}
+use Rattle.std.proofs.lemmas.List.{map-append, length-map}
 use Rattle.std.proofs.lemmas.List.Quantifiers.{position-Some}
 use Rattle.std.proofs.lemmas.Option.{slice_get-get_or, slice_get-map}
 use Rattle.std.specs.Option.{option_map}
@@ -14,7 +17,7 @@ use Rattle.silq_tree.specs.declared.node.ParamNode.{ParamNode}
 use Rattle.silq_tree.specs.contracts.node.NameIdPartialEq.TheImpl.{eq-value}
 use Rattle.silq_tree.specs.Syntax.{Expression, Parameter}
 use Rattle.silq_tree.specs.Standing.{param_of, type_of}
-use Rattle.silqc.specs.Form.{IsNone, AllDiffer, AreFree, IsBit, AreParams}
+use Rattle.silqc.specs.Form.{IsNone, AllDiffer, IsBit}
 use Rattle.silqc.specs.FormParts.{IsFree, AreBitParams}
 use Rattle.silqc.proofs.FormTrees.{params_push, params_at, params_names, none_push, none_middle, free_push, free_at, map_take_more}
 
@@ -86,36 +89,67 @@ differ_middle (z ∷ zs) ys x d e = by (same x z) refl (λ f. differ_middle zs y
 
 module _ (names : List (List ℕ)) (at : ExprId → Expression) where
   pub bit_params_more : (ps : List ParamNode) (i : ℕ) (d : ParamNode) (xs ys : List NameId) → AreBitParams names xs (map (param_of at) (take i ps)) → i < length ps
-    → (((get_or ps i d).held ≡ false) × IsBit (type_of at (get_or ps i d).ty) × IsFree names (get_or ps i d).name)
-    → list_any (same (get_or ps i d).name) xs ≡ false → ys ≡ xs ++ (get_or ps i d).name ∷ []
-    → AreBitParams names ys (map (param_of at) (take (i + 1) ps))
+      → (((get_or ps i d).held ≡ false) × IsBit (type_of at (get_or ps i d).ty) × IsFree names (get_or ps i d).name)
+      → list_any (same (get_or ps i d).name) xs ≡ false → ys ≡ xs ++ (get_or ps i d).name ∷ []
+      → AreBitParams names ys (map (param_of at) (take (i + 1) ps))
   bit_params_more ps i d xs ys h l p e f =
       let p0 = get_or ps i d in
       let k : AreBitParams names (xs ++ p0.name ∷ []) (map (param_of at) (take i ps) ++ param_of at p0 ∷ [])
-        = record {
-          params_are = params_push xs (map (param_of at) (take i ps)) (param_of at p0) h.params_are p.0 p.1;
-          differ = differ_push xs p0.name h.differ e;
-          free = free_push names xs p0.name h.free p.2;
-        } in
+      = record {
+        params_are = params_push xs (map (param_of at) (take i ps)) (param_of at p0) h.params_are p.0 p.1;
+        differ = differ_push xs p0.name h.differ e;
+        free = free_push names xs p0.name h.free p.2;
+      } in
       subst (λ zs. AreBitParams names zs (map (param_of at) (take (i + 1) ps))) (sym f)
-        (subst (λ qs. AreBitParams names (xs ++ p0.name ∷ []) qs) (sym (map_take_more (param_of at) ps i d l)) k)
+      (subst (λ qs. AreBitParams names (xs ++ p0.name ∷ []) qs) (sym (map_take_more (param_of at) ps i d l)) k)
 
   pub bit_params_item : (ps : List ParamNode) (i : ℕ) (d : ParamNode) (xs : List NameId) → AreBitParams names xs (map (param_of at) ps) → i < length ps
-    → ((get_or ps i d).held ≡ false) × IsBit (type_of at (get_or ps i d).ty) × IsFree names (get_or ps i d).name
+      → ((get_or ps i d).held ≡ false) × IsBit (type_of at (get_or ps i d).ty) × IsFree names (get_or ps i d).name
   bit_params_item ps i d xs h l =
       let p0 = get_or ps i d in
       let q = params_at xs (map (param_of at) ps) i (param_of at p0) h.params_are (slice_get-map (param_of at) ps i ∙ ap (option_map (param_of at)) (slice_get-get_or ps i d l)) in
       (q.1, q.2, free_at names xs i p0.name h.free q.0)
 
   pub bit_params_twice : (ps : List ParamNode) (i : ℕ) (d : ParamNode) (xs bits : List NameId) → AreBitParams names xs (map (param_of at) (take i ps)) → AreBitParams names bits (map (param_of at) ps) → i < length ps
-    → list_any (same (get_or ps i d).name) xs ≡ true → ⊥
+      → list_any (same (get_or ps i d).name) xs ≡ true → ⊥
   bit_params_twice ps i d xs bits h k l e =
       let nm = λ (p : Parameter). p.name in
       let f = λ (p : ParamNode). param_of at p in
       let a : xs ≡ map nm (map (param_of at) (take i ps)) = params_names xs (map (param_of at) (take i ps)) h.params_are in
       let b : bits ≡ map nm (map (param_of at) ps) = params_names bits (map (param_of at) ps) k.params_are in
       let c : map nm (map (param_of at) ps) ≡ map nm (map (param_of at) (take i ps)) ++ (get_or ps i d).name ∷ map nm (map (param_of at) (drop (suc i) ps))
-        = ap (λ qs. map nm (map (param_of at) qs)) (split_at ps i d l) ∙ ap (map nm) (map-append (param_of at) (take i ps) (get_or ps i d ∷ drop (suc i) ps))
-          ∙ map-append nm (map (param_of at) (take i ps)) (param_of at (get_or ps i d) ∷ map (param_of at) (drop (suc i) ps)) in
+      = ap (λ qs. map nm (map (param_of at) qs)) (split_at ps i d l) ∙ ap (map nm) (map-append (param_of at) (take i ps) (get_or ps i d ∷ drop (suc i) ps))
+      ∙ map-append nm (map (param_of at) (take i ps)) (param_of at (get_or ps i d) ∷ map (param_of at) (drop (suc i) ps)) in
       let m : AllDiffer (map nm (map (param_of at) (take i ps)) ++ (get_or ps i d).name ∷ map nm (map (param_of at) (drop (suc i) ps))) = subst AllDiffer (b ∙ c) k.differ in
       differ_middle (map nm (map (param_of at) (take i ps))) (map nm (map (param_of at) (drop (suc i) ps))) (get_or ps i d).name m (subst (λ zs. list_any (same (get_or ps i d).name) zs ≡ true) a e)
+
+-- how many names there are
+
+apart : (x : NameId) (xs : List NameId) → IsNone x xs → AllByRecursion (λ y. eqb x.number y ≡ false) (map (λ (x : NameId). x.number) xs)
+apart x [] h = tt
+apart x (y ∷ ys) h = (by (eqb x.number y.number) refl, apart x ys h.1)
+  where
+    by : (b : Bool) → eqb x.number y.number ≡ b → eqb x.number y.number ≡ false
+    by true s = absurd (h.0 (same_name x y s))
+    by false s = s
+
+distinct : (xs : List NameId) → AllDiffer xs → IsDistinct eqb (map (λ (x : NameId). x.number) xs)
+unfolding IsDistinct
+distinct [] d = tt
+distinct (x ∷ xs) d = (apart x xs d.0, distinct xs d.1)
+
+module _ (n : ℕ) where
+  below_any : (xs : List NameId) → All (λ y. y.number < n) xs → (q : ℕ) → list_any (eqb q) (map (λ (x : NameId). x.number) xs) ≡ true → q < n
+  below_any [] h q e = cc
+  below_any (x ∷ xs) h q e = by (eqb q x.number) refl (λ f. below_any xs (All-tail (λ (y : NameId). y.number < n) x xs h) q f) e
+    where
+      by : (b : Bool) → eqb q x.number ≡ b → (list_any (eqb q) (map (λ (x : NameId). x.number) xs) ≡ true → q < n) → (b || list_any (eqb q) (map (λ (x : NameId). x.number) xs)) ≡ true → q < n
+      by true s f g = let k : q ≡ x.number = eqb-true q x.number s in let l : x.number < n = All-head (λ (y : NameId). y.number < n) x xs h in omega (arith, k, l)
+      by false s f g = f g
+
+  pub few_names : (x : NameId) (xs : List NameId) → AllDiffer (x ∷ xs) → x.number < n → All (λ y. y.number < n) xs → length xs < n
+  few_names x xs d l h =
+      let ys = map (λ (y : NameId). y.number) (x ∷ xs) in
+      let m : length ys ≤ n = length-le_from_distinct_below ys n (distinct (x ∷ xs) d) (below_any (x ∷ xs) (All-cons (λ (y : NameId). y.number < n) x xs l h)) in
+      let e : length ys ≡ suc (length xs) = length-map (x ∷ xs) (λ (y : NameId). y.number) in
+      omega (arith, m, e)

@@ -1,6 +1,5 @@
 -- Trees of programs of the form, part by part.
-use Rattle.std.proofs.Common.{◌≡◌, ◌≢◌, ℕ, zero, suc, ◌+◌, ◌-◌, ◌<◌, ◌≤◌, ◌⊎◌, inl, inr, Bool, true, false, ◌||◌, List, [], ◌∷◌, ◌++◌, Option, Some, None, Result, Ok, Err, IfOk, MatchOption, map, take, drop, slice_get, length, get_or, nat_eq, below_more, not, refl, sym, ◌∙◌, ap, subst, arith, add-one}
-use Rattle.std.specs.List.{list_any}
+use Rattle.std.proofs.Common.{◌≡◌, ◌≢◌, ℕ, zero, suc, ◌+◌, ◌-◌, ◌<◌, ◌≤◌, Bool, true, false, List, [], ◌∷◌, ◌++◌, Option, Some, None, Result, Ok, Err, IfOk, MatchOption, map, take, slice_get, length, get_or, nat_eq, below_more, not, refl, sym, ◌∙◌, ap, subst, arith, add-one}
 use Rattle.std.specs.Prelude.{IsTrue, ◌↔◌}
 use Rattle.std.proofs.lemmas.Option.{get_or_from_slice_get, slice_get-get_or, slice_get_within, slice_get_past, slice_get-map}
 use Rattle.std.specs.Option.{option_map, is_some}
@@ -13,12 +12,12 @@ use Rattle.silq_tree.specs.Children.{AreExprsBelow, AreStmtsBelow}
 use Rattle.silq_tree.specs.declared.node.NameId.{NameId}
 use Rattle.silq_tree.specs.declared.node.ExprId.{ExprId}
 use Rattle.silq_tree.specs.declared.node.StmtId.{StmtId}
-use Rattle.silq_tree.specs.Syntax.{Expression, number, typed_number, truth, pi, place, called, tuple, unary, binary, whole, part, part_of_part, Expressions, none, more, Statement, assign, spread, update, forget, forget_value, phase, choice, loop, return_nothing, return_value, call, Statements, done, next, WrittenType, Parameter, Function}
+use Rattle.silq_tree.specs.Syntax.{Expression, place, called, tuple, whole, Expressions, none, more, Statement, assign, return_value, Statements, done, next, WrittenType, Parameter, Function}
 use Rattle.silq_tree.specs.Standing.{expressions_of, statements_of}
 use Rattle.silqc.specs.declared.form.Operation.{Operation}
 use Rattle.silqc.specs.declared.form.Step.{Step}
-use Rattle.silqc.specs.Form.{IsNone, AllDiffer, AreFree, IsStep, AreNames, IsReturned, Spells, function_name, AreSteps, IsBit, AreBits, AreParams}
-use Rattle.silqc.specs.FormParts.{IsWhole, IsReturn, IsFree, IsCall, AreEachSteps, AreBitParams}
+use Rattle.silqc.specs.Form.{IsNone, AreFree, IsStep, AreNames, IsReturned, Spells, function_name, AreSteps, IsBit, AreBits, AreParams}
+use Rattle.silqc.specs.FormParts.{IsWhole, IsReturn, IsFree, IsCall, AreEachSteps}
 
 pub no : {A : Type 0} → (A → ⊥) → IsTrue false ↔ A
 no f = ((λ t. cc), (λ a. absurd (f a)))
@@ -98,9 +97,10 @@ pub bits_item : {N : Type 0} (f : N → WrittenType) (ts : List N) (n k : ℕ) (
 bits_item f ts n k d b l = bits_at f ts n k (get_or ts k d) b (slice_get-get_or ts k d l)
 
 pub bits_done : {N : Type 0} (f : N → WrittenType) (ts : List N) (n i : ℕ) → length ts ≤ i → ((k : ℕ) (t : N) → k < i → slice_get ts k ≡ Some t → IsBit (f t)) → IsTrue (nat_eq (length ts) n) ↔ AreBits (map f ts) n
-bits_done f ts n i l h =
-    (λ t. let e : length ts ≡ n = grind (arith, t) in subst (λ m. AreBits (map f ts) m) e (bits_all f ts (λ k t e. h k t (let w = slice_get_within ts k t e in omega arith) e))
-    , λ b. let e : length ts ≡ n = sym (length-map ts f) ∙ b.0 in eq-eqb (length ts) n e)
+bits_done f ts n i l h = (
+  λ t. let e : length ts ≡ n = grind (arith, t) in subst (λ m. AreBits (map f ts) m) e (bits_all f ts (λ k t e. h k t (let w = slice_get_within ts k t e in omega arith) e)),
+  λ b. let e : length ts ≡ n = sym (length-map ts f) ∙ b.0 in eq-eqb (length ts) n e,
+)
 
 -- names
 
@@ -139,16 +139,16 @@ names_at texts at (y ∷ ys) (i ∷ ids) zero x id h f g =
 names_at texts at (y ∷ ys) (i ∷ ids) (suc k) x id h f g = names_at texts at ys ids k x id (name_head texts y ys (expressions_of at ids) (at i) h).1 f g
 
 pub names_done : (texts : List (List ℕ)) (at : ExprId → Expression) (xs : List NameId) (ids : List ExprId) (i : ℕ) → length ids ≡ length xs → length ids ≤ i
-  → ((k : ℕ) (x : NameId) (id : ExprId) → k < i → slice_get xs k ≡ Some x → slice_get ids k ≡ Some id → IsWhole x (at id)) → AreNames texts xs (expressions_of at ids)
+    → ((k : ℕ) (x : NameId) (id : ExprId) → k < i → slice_get xs k ≡ Some x → slice_get ids k ≡ Some id → IsWhole x (at id)) → AreNames texts xs (expressions_of at ids)
 names_done texts at xs ids i e l h = names_all texts at xs ids e (λ k x id f g. h k x id (let w = slice_get_within ids k id g in omega arith) f g)
 
 pub names_item : (texts : List (List ℕ)) (at : ExprId → Expression) (xs : List NameId) (ids : List ExprId) (k : ℕ) (c : NameId) (d : ExprId) → AreNames texts xs (expressions_of at ids) → k < length xs → k < length ids → IsWhole (get_or xs k c) (at (get_or ids k d))
 names_item texts at xs ids k c d h l m = names_at texts at xs ids k (get_or xs k c) (get_or ids k d) h (slice_get-get_or xs k c l) (slice_get-get_or ids k d m)
 
 pub names_more : (at : ExprId → Expression) (xs : List NameId) (ids : List ExprId) (i : ℕ) (c : NameId) (d : ExprId)
-  → ((k : ℕ) (x : NameId) (id : ExprId) → k < i → slice_get xs k ≡ Some x → slice_get ids k ≡ Some id → IsWhole x (at id))
-  → IsWhole (get_or xs i c) (at (get_or ids i d))
-  → (k : ℕ) (x : NameId) (id : ExprId) → k < i + 1 → slice_get xs k ≡ Some x → slice_get ids k ≡ Some id → IsWhole x (at id)
+    → ((k : ℕ) (x : NameId) (id : ExprId) → k < i → slice_get xs k ≡ Some x → slice_get ids k ≡ Some id → IsWhole x (at id))
+    → IsWhole (get_or xs i c) (at (get_or ids i d))
+    → (k : ℕ) (x : NameId) (id : ExprId) → k < i + 1 → slice_get xs k ≡ Some x → slice_get ids k ≡ Some id → IsWhole x (at id)
 names_more at xs ids i c d h w k x id l f g =
     below_more (λ j. (y : NameId) (m : ExprId) → slice_get xs j ≡ Some y → slice_get ids j ≡ Some m → IsWhole y (at m)) i (λ j b y m p q. h j y m b p q)
     (λ y m p q. subst (λ z. IsWhole z (at m)) (get_or_from_slice_get xs i y c p) (subst (λ n. IsWhole (get_or xs i c) (at n)) (get_or_from_slice_get ids i m d q) w))
@@ -164,12 +164,12 @@ returned_tuple texts (x ∷ y ∷ xs) es a b l h = h
 
 module _ (names : List (List ℕ)) (x : NameId) (at : ExprId → Expression) where
   pub call_parts : (f : NameId) (statics args : List ExprId) (a : _) (o : Operation) → IsCall names x (called f (expressions_of at statics) (expressions_of at args) a) o
-    → (length statics ≡ 0) × (length args ≡ 1) × ((i : ExprId) → args ≡ i ∷ [] → IsWhole x (at i)) × Spells names f (function_name o)
+      → (length statics ≡ 0) × (length args ≡ 1) × ((i : ExprId) → args ≡ i ∷ [] → IsWhole x (at i)) × Spells names f (function_name o)
   call_parts f [] [] a o h = absurd h
   call_parts f [] (i ∷ []) a o h = by (at i) refl h
     where
       by : (e : Expression) → at i ≡ e → IsCall names x (called f none (more e none) a) o
-        → (length {A = ExprId} [] ≡ 0) × (length (i ∷ []) ≡ 1) × ((j : ExprId) → i ∷ [] ≡ j ∷ [] → IsWhole x (at j)) × Spells names f (function_name o)
+          → (length {A = ExprId} [] ≡ 0) × (length (i ∷ []) ≡ 1) × ((j : ExprId) → i ∷ [] ≡ j ∷ [] → IsWhole x (at j)) × Spells names f (function_name o)
       by (place (whole y) b) e h = (refl, refl, (λ j k. let m : i ≡ j = cc in subst (λ n. IsWhole x (at n)) m (rw e h.0)), h.1)
       by _ e h = absurd h
   call_parts f [] (i ∷ j ∷ args) a o h = absurd (by (at i) h)
@@ -187,9 +187,9 @@ module _ (names : List (List ℕ)) (x : NameId) (at : ExprId → Expression) whe
       by _ w = absurd w
 
   pub call_match : (f : NameId) (statics args items : List ExprId) (a : _) (d : ExprId) (r : Option Operation)
-    → length statics ≡ 0 → items ≡ args → 1 ≤ length items → length items < 2 → IsWhole x (at (get_or items 0 d))
-    → MatchOption r ((o : Operation) → Spells names f (function_name o) → ⊥) (λ o. Spells names f (function_name o))
-    → MatchOption r ((o : Operation) → IsCall names x (called f (expressions_of at statics) (expressions_of at args) a) o → ⊥) (IsCall names x (called f (expressions_of at statics) (expressions_of at args) a))
+      → length statics ≡ 0 → items ≡ args → 1 ≤ length items → length items < 2 → IsWhole x (at (get_or items 0 d))
+      → MatchOption r ((o : Operation) → Spells names f (function_name o) → ⊥) (λ o. Spells names f (function_name o))
+      → MatchOption r ((o : Operation) → IsCall names x (called f (expressions_of at statics) (expressions_of at args) a) o → ⊥) (IsCall names x (called f (expressions_of at statics) (expressions_of at args) a))
   call_match f (s ∷ statics) args items a d r l e b t w m = absurd (grind (arith, l))
   call_match f [] [] items a d r l e b t w m = absurd (let k : length items ≡ 0 = ap length e in omega arith)
   call_match f [] (i ∷ j ∷ args) items a d r l e b t w m = absurd (let k : length items ≡ suc (suc (length args)) = ap length e in omega arith)
@@ -227,7 +227,7 @@ module _ (names : List (List ℕ)) (bits : List NameId) where
   each_item f ids ts k d h l = each_at (map f ids) ts k (f (get_or ids k d)) h (slice_get-map f ids k ∙ ap (option_map f) (slice_get-get_or ids k d l))
 
   pub each_more : {N : Type 0} (f : N → Statement) (ids : List N) (ts us : List Step) (t : Step) (i : ℕ) (d : N) → AreEachSteps names bits (map f (take i ids)) ts → IsStep names bits (f (get_or ids i d)) t → i < length ids → us ≡ ts ++ t ∷ []
-    → AreEachSteps names bits (map f (take (i + 1) ids)) us
+      → AreEachSteps names bits (map f (take (i + 1) ids)) us
   each_more f ids ts us t i d h k l e =
       subst (λ ss. AreEachSteps names bits ss us) (sym (map_take_more f ids i d l)) (subst (λ vs. AreEachSteps names bits (map f (take i ids) ++ f (get_or ids i d) ∷ []) vs) (sym e) (each_push (map f (take i ids)) ts (f (get_or ids i d)) t h k))
 
@@ -263,14 +263,14 @@ module _ (names : List (List ℕ)) (bits : List NameId) where
     body_parts (i ∷ []) last ts h = by (step_first (stmt i) (stmt last) done ts h) (λ us k. body_parts [] last us k)
       where
         by : ((t : Step) × (us : List Step) × (ts ≡ t ∷ us) × IsStep names bits (stmt i) t × AreSteps names bits (next (stmt last) done) us)
-          → ((us : List Step) → AreSteps names bits (next (stmt last) done) us → AreEachSteps names bits [] us × IsReturn names bits (stmt last))
-          → AreEachSteps names bits (stmt i ∷ []) ts × IsReturn names bits (stmt last)
+            → ((us : List Step) → AreSteps names bits (next (stmt last) done) us → AreEachSteps names bits [] us × IsReturn names bits (stmt last))
+            → AreEachSteps names bits (stmt i ∷ []) ts × IsReturn names bits (stmt last)
         by (t, us, e, s, k) f = let r = f us k in (subst (λ vs. AreEachSteps names bits (stmt i ∷ []) vs) (sym e) (s, r.0), r.1)
     body_parts (i ∷ j ∷ ids) last ts h = by (step_first (stmt i) (stmt j) (statements_of at stmt (ids ++ last ∷ [])) ts h) (λ us k. body_parts (j ∷ ids) last us k)
       where
         by : ((t : Step) × (us : List Step) × (ts ≡ t ∷ us) × IsStep names bits (stmt i) t × AreSteps names bits (next (stmt j) (statements_of at stmt (ids ++ last ∷ []))) us)
-          → ((us : List Step) → AreSteps names bits (next (stmt j) (statements_of at stmt (ids ++ last ∷ []))) us → AreEachSteps names bits (stmt j ∷ map stmt ids) us × IsReturn names bits (stmt last))
-          → AreEachSteps names bits (stmt i ∷ stmt j ∷ map stmt ids) ts × IsReturn names bits (stmt last)
+            → ((us : List Step) → AreSteps names bits (next (stmt j) (statements_of at stmt (ids ++ last ∷ []))) us → AreEachSteps names bits (stmt j ∷ map stmt ids) us × IsReturn names bits (stmt last))
+            → AreEachSteps names bits (stmt i ∷ stmt j ∷ map stmt ids) ts × IsReturn names bits (stmt last)
         by (t, us, e, s, k) f = let r = f us k in (subst (λ vs. AreEachSteps names bits (stmt i ∷ stmt j ∷ map stmt ids) vs) (sym e) (s, r.0), r.1)
 
     pub body_of : (ids : List StmtId) (last : StmtId) (ts : List Step) → AreEachSteps names bits (map stmt ids) ts → IsReturn names bits (stmt last) → AreSteps names bits (statements_of at stmt (ids ++ last ∷ [])) ts
@@ -281,16 +281,16 @@ module _ (names : List (List ℕ)) (bits : List NameId) where
     body_of (i ∷ j ∷ ids) last (t ∷ ts) h r = step_next (stmt i) (stmt j) (statements_of at stmt (ids ++ last ∷ [])) t ts h.0 (body_of (j ∷ ids) last ts h.1 r)
 
     pub body_view : (ids : List StmtId) (d : StmtId) (ts : List Step) → 1 ≤ length ids → AreSteps names bits (statements_of at stmt ids) ts
-      → AreEachSteps names bits (map stmt (take (length ids - 1) ids)) ts × IsReturn names bits (stmt (get_or ids (length ids - 1) d))
+        → AreEachSteps names bits (map stmt (take (length ids - 1) ids)) ts × IsReturn names bits (stmt (get_or ids (length ids - 1) d))
     body_view ids d ts l h = body_parts (take (length ids - 1) ids) (get_or ids (length ids - 1) d) ts (subst (λ us. AreSteps names bits (statements_of at stmt us) ts) (last_view ids d l) h)
 
     pub body_back : (ids : List StmtId) (d : StmtId) (ts : List Step) → 1 ≤ length ids → AreEachSteps names bits (map stmt (take (length ids - 1) ids)) ts → IsReturn names bits (stmt (get_or ids (length ids - 1) d))
-      → AreSteps names bits (statements_of at stmt ids) ts
+        → AreSteps names bits (statements_of at stmt ids) ts
     body_back ids d ts l h r = subst (λ us. AreSteps names bits (statements_of at stmt us) ts) (sym (last_view ids d l)) (body_of (take (length ids - 1) ids) (get_or ids (length ids - 1) d) ts h r)
 
     pub body_match : {V E : Type 0} (items : V → List Step) (ids : List StmtId) (d : StmtId) (r : Result (Option V) E) → 1 ≤ length ids → IsReturn names bits (stmt (get_or ids (length ids - 1) d))
-      → IfOk r (λ found. MatchOption found ((ts : List Step) → AreEachSteps names bits (map stmt (take (length ids - 1) ids)) ts → ⊥) (λ v. AreEachSteps names bits (map stmt (take (length ids - 1) ids)) (items v)))
-      → IfOk r (λ found. MatchOption found ((ts : List Step) → AreSteps names bits (statements_of at stmt ids) ts → ⊥) (λ v. AreSteps names bits (statements_of at stmt ids) (items v)))
+        → IfOk r (λ found. MatchOption found ((ts : List Step) → AreEachSteps names bits (map stmt (take (length ids - 1) ids)) ts → ⊥) (λ v. AreEachSteps names bits (map stmt (take (length ids - 1) ids)) (items v)))
+        → IfOk r (λ found. MatchOption found ((ts : List Step) → AreSteps names bits (statements_of at stmt ids) ts → ⊥) (λ v. AreSteps names bits (statements_of at stmt ids) (items v)))
     body_match items ids d (Ok None) l k h = λ ts s. h ts (body_view ids d ts l s).0
     body_match items ids d (Ok (Some v)) l k h = body_back ids d (items v) l h k
     body_match items ids d (Err e) l k h = h

@@ -1,10 +1,10 @@
 -- Programs of the form from their parts.
-use Rattle.std.proofs.Common.{◌≡◌, ℕ, ◌<◌, List, [], ◌∷◌, length, refl, sym, ◌∙◌, ap, subst, arith}
+use Rattle.std.proofs.Common.{◌≡◌, ℕ, ◌<◌, List, [], ◌∷◌, length, sym, ◌∙◌, subst, arith}
 use Rattle.silq_tree.specs.declared.node.NameId.{NameId}
 use Rattle.silq_tree.specs.declared.node.Mark.TheVariants.{Plain}
 use Rattle.silq_tree.specs.Syntax.{Function, Parameter, Program}
 use Rattle.silqc.specs.declared.form.Step.{Step}
-use Rattle.silqc.specs.Form.{Form, IsForm, Spells, IsNone, AreBits, AreParams, AreSteps, AllDiffer, AreFree, statements}
+use Rattle.silqc.specs.Form.{Form, IsForm, Spells, IsNone, AreBits, AreParams, AreSteps, statements}
 use Rattle.silqc.specs.FormParts.{IsFree, AreBitParams}
 use Rattle.silqc.proofs.FormTrees.{params_names}
 
@@ -48,8 +48,8 @@ module _ (entry : List ℕ) (names : List (List ℕ)) (program : Program) (funct
       n form.steps (subst (λ cs. AreSteps names cs (statements function.body) form.steps) (same_bits bits g.bits b g.are_params) g.steps)
 
   pub a_form : (bits : List NameId) (n : ℕ) (ts : List Step) → Spells names function.name entry × (function.statics ≡ []) × (function.mark ≡ Plain) × IsFree names function.name
-    → AreBitParams names bits function.params → (0 < length bits) × IsNone function.name bits × AreBits function.results (length bits)
-    → AreSteps names bits (statements function.body) ts → n ≡ length bits → IsForm entry names program (record { bits = n; steps = ts })
+      → AreBitParams names bits function.params → (0 < length bits) × IsNone function.name bits × AreBits function.results (length bits)
+      → AreSteps names bits (statements function.body) ts → n ≡ length bits → IsForm entry names program (record { bits = n; steps = ts })
   a_form bits n ts h b r s e = record {
     function = function;
     bits = bits;

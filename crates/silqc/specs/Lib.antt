@@ -7,3 +7,4 @@ pub mod Note
 pub mod Parts
 pub mod Reading
 pub mod Text
+pub mod FormParts

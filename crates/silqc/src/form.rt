@@ -1,21 +1,21 @@
 //! Programs of the form that is compiled: bits, and the operations H and X on them.
 
-use indexmap::IndexSet;
-use silq_tree::{
-    Expr, ExprId, Fun, Mark, NameId, Names, ParamNode, Program, ScalarNode, Stmt, StmtId, Tree,
-    TypeNode,
-};
-use std::alloc::{AllocError, Global};
-
-ghost use Rattle.std.specs.Prelude.{◌≡◌, ◌≢◌, ℕ, ◌<◌, ◌-◌, ◌^◌, ◌↔◌, false, List, [], ◌∷◌, Some, IsTrue, IfOk, MatchOption, length, map};
+ghost use Rattle.std.specs.Prelude.{◌≡◌, ◌≢◌, ℕ, ◌<◌, ◌-◌, ◌^◌, ◌↔◌, false, List, [], ◌∷◌, Some, IsTrue, IfOk, IfSome, MatchOption, All, length, map};
 ghost use Rattle.silq_tree.specs.declared.node.ExprId.{ExprId};
 ghost use Rattle.silq_tree.specs.declared.node.NameId.{NameId};
 ghost use Rattle.silq_tree.specs.Syntax.{Expression, Function};
 ghost use Rattle.silq_tree.specs.Standing.{type_of, param_of, expressions_of, statements_of, fun_grown};
 ghost use Rattle.silq_tree.specs.Children.{AreExprsBelow, AreStmtsBelow};
 ghost use Rattle.silq_tree.specs.Arena.{expr_at, stmt_at, program_at};
-ghost use Rattle.silqc.specs.Form.{Form as FormOf, IsForm, IsNone, built_in, Spells, function_name, IsBit, AreBits, AreNames, IsReturned, IsStep, AreSteps};
+ghost use Rattle.silqc.specs.Form.{Form as FormOf, IsForm, IsNone, AllDiffer, built_in, Spells, function_name, IsBit, AreBits, AreNames, IsReturned, IsStep, AreSteps};
 ghost use Rattle.silqc.specs.FormParts.{IsWhole, IsReturn, IsFree, IsCall, AreEachSteps, AreBitParams};
+
+use indexmap::IndexSet;
+use silq_tree::{
+    Expr, ExprId, Fun, Mark, NameId, Names, ParamNode, Program, ScalarNode, Stmt, StmtId, Tree,
+    TypeNode,
+};
+use std::alloc::{AllocError, Global};
 
 /// What a statement does to a bit.
 #[derive(Clone, Copy, Debug, PartialEq, Eq)]
@@ -139,7 +139,8 @@ fn is_return(tree: &Tree, id: StmtId, bits: &[NameId]) -> bool
 {
     match tree.stmt(id) {
         Stmt::Return {
-            value: Some(value), ..
+            value: Some(value),
+            ..
         } => is_returned(tree, *value, bits),
         _ => false,
     }
@@ -164,7 +165,10 @@ fn read_call(tree: &Tree, names: &Names, id: ExprId, name: NameId) -> Option<Ope
     ensures { MatchOption result ((o : Operation) → IsCall names.now name (expr_at tree.now id) o → ⊥) (IsCall names.now name (expr_at tree.now id)) }
 {
     let Expr::Call {
-        fun, statics, args, ..
+        fun,
+        statics,
+        args,
+        ..
     } = tree.expr(id)
     else {
         return None;
@@ -242,8 +246,9 @@ fn read_body(
 }
 
 // Whether a parameter is a bit that is not const, with a name that is not built in.
-fn is_bit_param(names: &Names, param: &ParamNode) -> bool
-    ensures { (at : ExprId → Expression) → IsTrue result ↔ ((param.now.held ≡ false) × IsBit (type_of at param.now.ty) × IsFree names.now param.now.name) }
+fn is_bit_param(names: &Names, param: ParamNode) -> bool
+    ensures in_range { param.name.number < 2 ^ 32 }
+    ensures fits { (at : ExprId → Expression) → IsTrue result ↔ ((param.held ≡ false) × IsBit (type_of at param.ty) × IsFree names.now param.name) }
 {
     !param.held && is_bit(&param.ty) && is_free(names, param.name)
 }
@@ -254,11 +259,12 @@ fn read_bits(
     names: &Names,
     params: &[ParamNode],
 ) -> Result<Option<IndexSet<NameId>>, AllocError>
-    ensures { IfOk result (λ found. (at : ExprId → Expression) → MatchOption found ((bits : List NameId) → AreBitParams names.now bits (map (param_of at) params.now) → ⊥) (λ bits. AreBitParams names.now bits.keys (map (param_of at) params.now))) }
+    ensures in_range { IfOk result (λ found. IfSome found (λ bits. All (λ x. x.number < 2 ^ 32) bits.keys)) }
+    ensures params { IfOk result (λ found. (at : ExprId → Expression) → MatchOption found ((bits : List NameId) → AreBitParams names.now bits (map (param_of at) params.now) → ⊥) (λ bits. AreBitParams names.now bits.keys (map (param_of at) params.now))) }
 {
     let mut bits = IndexSet::new(alloc);
     for param in params {
-        if !is_bit_param(names, param) {
+        if !is_bit_param(names, *param) {
             return Ok(None);
         }
         let (_, added) = bits.insert_full(param.name)?;
@@ -289,6 +295,15 @@ fn fits_bits(fun: &Fun, bits: &IndexSet<NameId>) -> bool
     are_bits(fun.results.as_slice(), bits.len())
 }
 
+// How many bits there are. They are fewer than the numbers that a name may have, since one more name differs from them.
+fn bit_count(fun: NameId, bits: &IndexSet<NameId>) -> u32
+    requires differ { AllDiffer (fun ∷ bits.now.keys) }
+    requires in_range { All (λ x. x.number < 2 ^ 32) bits.now.keys }
+    ensures { result ≡ length bits.now.keys }
+{
+    bits.len() as u32
+}
+
 // The function of a program of one; of a program of several, or one that has no parameters, it may be none.
 fn only_function(program: &Program) -> Option<&Fun>
     ensures { MatchOption result
@@ -306,11 +321,7 @@ fn only_function(program: &Program) -> Option<&Fun>
 }
 
 /// A program as one of the form with this entry, or None where it is of no such form.
-pub fn read_form(
-    alloc: Global,
-    program: &Program,
-    entry: &str,
-) -> Result<Option<Form>, AllocError>
+pub fn read_form(alloc: Global, program: &Program, entry: &str) -> Result<Option<Form>, AllocError>
     ensures { IfOk result (λ found. MatchOption found
         ((form : FormOf) → IsForm entry.now program.now.names (program_at program.now.tree program.now.funs) form → ⊥)
         (λ form. IsForm entry.now program.now.names (program_at program.now.tree program.now.funs) (record { bits = form.bits; steps = form.steps.items }))) }
@@ -327,9 +338,7 @@ pub fn read_form(
     if !fits_bits(fun, &bits) {
         return Ok(None);
     }
-    let Ok(count) = u32::try_from(bits.len()) else {
-        return Err(AllocError);
-    };
+    let count = bit_count(fun.name, &bits);
     let Some(steps) = read_body(alloc, program, &bits, fun.body.items.as_slice())? else {
         return Ok(None);
     };

@@ -1,4 +1,4 @@
-use Rattle.std.proofs.Common.{length, ◌<◌, ◌≡◌, arith}
+use Rattle.std.proofs.Common.{length, ◌<◌, arith}
 use Rattle.silq_tree.specs.Arena.{expr_at}
 use Rattle.silq_tree.proofs.Lists.{expr_below}
 use Rattle.silqc.proofs.FormTrees.{no, yes, wrong, names_length, names_item, names_done, names_more}

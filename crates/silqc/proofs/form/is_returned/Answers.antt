@@ -1,4 +1,4 @@
-use Rattle.std.proofs.Common.{◌≡◌, ◌≤◌, length, ap, ◌∙◌, subst, arith}
+use Rattle.std.proofs.Common.{◌≡◌, length, ap, ◌∙◌, subst, arith}
 use Rattle.silq_tree.specs.Syntax.{tuple}
 use Rattle.silq_tree.specs.Standing.{expr_grown, expressions_of}
 use Rattle.silq_tree.specs.Children.{AreExprsBelow, expr_exprs}

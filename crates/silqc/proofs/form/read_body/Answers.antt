@@ -1,4 +1,4 @@
-use Rattle.std.proofs.Common.{length, get_or, ◌<◌, ◌-◌, ◌≡◌, subst, arith}
+use Rattle.std.proofs.Common.{length, get_or, ◌<◌, ◌-◌, arith}
 use Rattle.silq_tree.specs.Arena.{expr_at, stmt_at}
 use Rattle.silq_tree.proofs.Lists.{stmt_below}
 use Rattle.silqc.specs.FormParts.{IsReturn}
@@ -22,5 +22,5 @@ read_steps-requires-clause-there c = stmts_take (length c.args.program.now.tree.
 pub returns : goal.returns
 returns c =
     let r : IsReturn c.args.program.now.names c.args.bits.now.keys (stmt_at c.args.program.now.tree (get_or c.args.ids.now (length c.args.ids.now - 1) (record { number = 0 })))
-      = (rw c.as_slice.ensures.keys at (c.is_return.ensures c.args.program.now.names)).0 c.if-not-is_return.false in
+    = (rw c.as_slice.ensures.keys at (c.is_return.ensures c.args.program.now.names)).0 c.if-not-is_return.false in
     body_match c.args.program.now.names c.args.bits.now.keys (expr_at c.args.program.now.tree) (stmt_at c.args.program.now.tree) _ c.args.ids.now (record { number = 0 }) c.read_steps.result c.in-len1-up.len_at_least r c.read_steps.ensures

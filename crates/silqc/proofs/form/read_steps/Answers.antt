@@ -15,4 +15,4 @@ returns-in-None c = λ steps h.
 pub loop-id-preserved : goal.loop-id-preserved
 loop-id-preserved c =
     each_more c.args.names.now c.args.bits.now.keys (stmt_at c.args.tree.now) c.args.ids.now c.loop-id.steps.items c.push.new.self.items c.in-Some.step c.loop-id.id-index (record { number = 0 })
-      c.loop-id.invariant c.in-Some.ensures c.loop-id-test.true c.in_ok-push-in-Some.ensures.items
+    c.loop-id.invariant c.in-Some.ensures c.loop-id-test.true c.in_ok-push-in-Some.ensures.items
