@@ -8,3 +8,6 @@ pub mod Places
 pub mod Faults
 pub mod Programs
 pub mod Ends
+pub mod FormTrees
+pub mod FormNames
+pub mod FormWhole

@@ -7,3 +7,4 @@ pub mod Note
 pub mod Reading
 pub mod Refusal
 pub mod Text
+pub mod FormParts
