@@ -3,9 +3,10 @@
 
 pub(crate) mod line;
 pub(crate) mod list;
-pub(crate) mod piece;
+pub mod piece;
 pub mod writer;
 
+pub use piece::{Piece, put_pieces};
 pub use writer::QasmWriter;
 
 #[cfg(test)]

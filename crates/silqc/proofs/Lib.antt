@@ -1,7 +1,13 @@
-pub mod Bodies
 pub mod Digits
-pub mod Ends
 pub mod Five
-pub mod Lines
+pub mod Qubits
+pub mod Steps
 pub mod Meaning
-pub mod Tokens
+pub mod Lines
+pub mod Places
+pub mod Faults
+pub mod Programs
+pub mod Ends
+pub mod FormTrees
+pub mod FormNames
+pub mod FormWhole

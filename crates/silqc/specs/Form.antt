@@ -1,116 +1,103 @@
--- The form of the programs that are compiled: `def ENTRY(x:B):B { S return x; }`, where each statement of S is
--- `x := H(x);` or `x := X(x);`.
-use Rattle.std.specs.Prelude.{◌≡◌, ◌≢◌, ◌⊎◌, ℕ, ◌≤◌, Bool, true, false, ◌&&◌, ◌||◌, nat_eq, nat_le, List, [], ◌∷◌, length, codes}
-use Rattle.std.specs.Char.{is_ascii_alphabetic, is_ascii_alphanumeric}
+-- The form of the programs that are compiled: `def ENTRY(x1:B, .., xn:B):B×..×B { S return (x1, .., xn); }`, where each
+-- statement of S is `x := H(x);` or `x := X(x);` with a parameter x. For one parameter the returned value is `x1`.
+use Rattle.std.specs.Prelude.{◌≡◌, ◌≢◌, ℕ, ◌<◌, false, List, [], ◌∷◌, Some, length, slice_get, codes}
+use Rattle.silq_tree.specs.declared.node.NameId.{NameId}
+use Rattle.silq_tree.specs.declared.node.Mark.TheVariants.{Plain}
+use Rattle.silq_tree.specs.Syntax.{Expression, place, called, tuple, whole, Expressions, none, more, Statement, assign, return_value, Block, block, Statements, done, next, WrittenType, scalar, bit, Parameter, Function, Program}
 use Rattle.silqc.specs.declared.form.Operation.{Operation}
 use Rattle.silqc.specs.declared.form.Operation.TheVariants.{Hadamard, Not}
+use Rattle.silqc.specs.declared.form.Step.{Step}
 
--- space, tab, carriage return, line feed
-abbrev pub is_blank : ℕ → Bool
-is_blank c = nat_eq c 32 || nat_eq c 9 || nat_eq c 13 || nat_eq c 10
+-- how many bits are given and returned, and what is done to them
+pub record Form : Type 0 where
+  pub bits : ℕ
+  pub steps : List Step
 
-abbrev pub is_name_start : ℕ → Bool
-is_name_start c = is_ascii_alphabetic c || nat_eq c 95
+-- the built-in functions
+abbrev pub built_in : List (List ℕ)
+built_in =
+    codes "H" ∷ codes "X" ∷ codes "Y" ∷ codes "Z" ∷ codes "dup" ∷ codes "measure" ∷ codes "vector" ∷ codes "rotX" ∷ codes "rotY"
+    ∷ codes "rotZ" ∷ []
 
--- an ASCII letter, digit or `_`
-abbrev pub is_name_byte : ℕ → Bool
-is_name_byte c = is_ascii_alphanumeric c || nat_eq c 95
+-- the list holds it at no place
+abbrev pub IsNone : {X : Type 0} → X → List X → Type 0
+IsNone x [] = Unit {0}
+IsNone x (y ∷ ys) = (x ≢ y) × IsNone x ys
 
--- A byte of a word: of a name, or of a character past ASCII. In a text of the form the only such character is 𝔹, a word by itself.
-abbrev pub is_word_byte : ℕ → Bool
-is_word_byte c = is_name_byte c || nat_le 128 c
-
-abbrev pub begins_word : List ℕ → Bool
-begins_word [] = false
-begins_word (c ∷ cs) = is_word_byte c
-
-abbrev pub begins_equals : List ℕ → Bool
-begins_equals [] = false
-begins_equals (c ∷ cs) = nat_eq c 61
-
--- A byte is of one token with the byte behind it inside a word, and at `:=`.
-abbrev pub joins : ℕ → List ℕ → Bool
-joins c rest = (is_word_byte c && begins_word rest) || (nat_eq c 58 && begins_equals rest)
-
-abbrev pub joined : ℕ → List (List ℕ) → List (List ℕ)
-joined c [] = (c ∷ []) ∷ []
-joined c (t ∷ ts) = (c ∷ t) ∷ ts
-
--- a byte before the tokens behind it: a blank, a byte of the next token, or a token of its own
-abbrev pub put_before : Bool → Bool → ℕ → List (List ℕ) → List (List ℕ)
-put_before true joins c ts = ts
-put_before false true c ts = joined c ts
-put_before false false c ts = (c ∷ []) ∷ ts
-
--- The tokens, each by its bytes: words as long as can be, `:=`, every other byte by itself. Blanks part them.
-abbrev pub tokens_of : List ℕ → List (List ℕ)
-tokens_of [] = []
-tokens_of (c ∷ cs) = put_before (is_blank c) (joins c cs) c (tokens_of cs)
-
--- reserved words and built-in functions
-unfoldable pub taken_names : List (List ℕ)
-taken_names =
-    tokens_of (codes "def return if else for in forget phase const qfree mfree lifted true false pi B N uint int H X Y Z dup measure vector rotX rotY rotZ")
-
--- the list holds the text at no place
-abbrev pub IsNone : List ℕ → List (List ℕ) → Type 0
-IsNone text [] = Unit {0}
-IsNone text (t ∷ ts) = (text ≢ t) × IsNone text ts
-
--- ASCII letters, digits and `_`
-abbrev pub AreNameBytes : List ℕ → Type 0
-AreNameBytes [] = Unit {0}
-AreNameBytes (c ∷ cs) = (is_name_byte c ≡ true) × AreNameBytes cs
-
-abbrev pub StartsName : List ℕ → Type 0
-StartsName [] = ⊥
-StartsName (c ∷ cs) = is_name_start c ≡ true
-
--- A name of ASCII letters, digits and `_`, neither reserved nor built in.
-pub record IsName (text : List ℕ) : Type 0 where
-  pub starts : StartsName text
-  pub goes_on : AreNameBytes text
-  pub free : IsNone text taken_names
-
--- `B` or its second spelling `𝔹`
-abbrev pub IsBitType : List ℕ → Type 0
-IsBitType text = (text ≡ codes "B") ⊎ (text ≡ 240 ∷ 157 ∷ 148 ∷ 185 ∷ [])
+abbrev pub AllDiffer : List NameId → Type 0
+AllDiffer [] = Unit {0}
+AllDiffer (x ∷ xs) = IsNone x xs × AllDiffer xs
 
 abbrev pub function_name : Operation → List ℕ
 function_name Hadamard = codes "H"
 function_name Not = codes "X"
 
--- `x := H(x);` or `x := X(x);`, and more
-abbrev pub statement_tokens : List ℕ → Operation → List (List ℕ) → List (List ℕ)
-statement_tokens x operation rest =
-    x ∷ codes ":=" ∷ function_name operation ∷ codes "(" ∷ x ∷ codes ")" ∷ codes ";" ∷ rest
+module _ (names : List (List ℕ)) where
+  -- the text of a name
+  abbrev pub Spells : NameId → List ℕ → Type 0
+  Spells id text = slice_get names id.number ≡ Some text
 
--- `S return x; }`
-abbrev pub body_tokens : List ℕ → List Operation → List (List ℕ)
-body_tokens x [] = codes "return" ∷ x ∷ codes ";" ∷ codes "}" ∷ []
-body_tokens x (operation ∷ operations) = statement_tokens x operation (body_tokens x operations)
+  abbrev pub AreFree : List NameId → Type 0
+  AreFree [] = Unit {0}
+  AreFree (x ∷ xs) = ((text : List ℕ) → Spells x text → IsNone text built_in) × AreFree xs
 
--- `:B):B {`, and more
-abbrev pub types_tokens : List ℕ → List ℕ → List (List ℕ) → List (List ℕ)
-types_tokens bit returned rest = codes ":" ∷ bit ∷ codes ")" ∷ codes ":" ∷ returned ∷ codes "{" ∷ rest
+  -- `x := H(x);` or `x := X(x);`
+  abbrev pub IsStep : List NameId → Statement → Step → Type 0
+  IsStep bits (assign (whole x) (called f none (more (place (whole y) a) none) b) c) s =
+      (slice_get bits s.bit ≡ Some x) × (y ≡ x) × Spells f (function_name s.operation)
+  IsStep bits _ s = ⊥
 
--- `def ENTRY(x:B):B {`, and more
-abbrev pub header_tokens : List ℕ → List ℕ → List ℕ → List ℕ → List (List ℕ) → List (List ℕ)
-header_tokens entry x bit returned rest = codes "def" ∷ entry ∷ codes "(" ∷ x ∷ types_tokens bit returned rest
+  -- the names in turn
+  abbrev pub AreNames : List NameId → Expressions → Type 0
+  AreNames [] none = Unit {0}
+  AreNames (x ∷ xs) (more (place (whole y) a) es) = (y ≡ x) × AreNames xs es
+  AreNames _ _ = ⊥
 
--- The text is of the form, with these operations in turn.
-pub record IsForm (entry text : List ℕ) (program : List Operation) : Type 0 where
-  pub name : List ℕ
-  pub bit : List ℕ
-  pub returned : List ℕ
-  pub tokens : tokens_of text ≡ header_tokens entry name bit returned (body_tokens name program)
-  pub bit_is_type : IsBitType bit
-  pub returned_is_type : IsBitType returned
-  pub entry_is_name : IsName entry
-  pub name_is_name : IsName name
-  pub names_differ : name ≢ entry
+  -- one name, or a tuple of several
+  abbrev pub IsReturned : List NameId → Expression → Type 0
+  IsReturned (x ∷ []) (place (whole y) a) = y ≡ x
+  IsReturned (x ∷ y ∷ xs) (tuple es a) = AreNames (x ∷ y ∷ xs) es
+  IsReturned _ _ = ⊥
 
--- The bytes of a file are a program: at most 1,048,576 bytes of the form.
-pub record IsProgram (entry bytes : List ℕ) (program : List Operation) : Type 0 where
-  pub short : length bytes ≤ 1048576
-  pub form : IsForm entry bytes program
+  abbrev pub AreSteps : List NameId → Statements → List Step → Type 0
+  AreSteps bits (next (return_value e a) done) [] = IsReturned bits e
+  AreSteps bits (next s ss) (t ∷ ts) = IsStep bits s t × AreSteps bits ss ts
+  AreSteps bits _ _ = ⊥
+
+-- `B`
+abbrev pub IsBit : WrittenType → Type 0
+IsBit (scalar false bit a) = Unit {0}
+IsBit _ = ⊥
+
+abbrev pub AreBits : List WrittenType → ℕ → Type 0
+AreBits types n = (length types ≡ n) × AreAllBits types
+  where
+    AreAllBits : List WrittenType → Type 0
+    AreAllBits [] = Unit {0}
+    AreAllBits (t ∷ ts) = IsBit t × AreAllBits ts
+
+-- parameters of type `B`, none of them const, with these names
+abbrev pub AreParams : List NameId → List Parameter → Type 0
+AreParams [] [] = Unit {0}
+AreParams (x ∷ xs) (p ∷ ps) = (p.held ≡ false) × (p.name ≡ x) × IsBit p.ty × AreParams xs ps
+AreParams _ _ = ⊥
+
+abbrev pub statements : Block → Statements
+statements (block ss a) = ss
+
+-- The program is of the form: one function with the entry's name. The names of the entry and the parameters differ and are not
+-- built in.
+pub record IsForm (entry : List ℕ) (names : List (List ℕ)) (program : Program) (form : Form) : Type 0 where
+  pub function : Function
+  pub bits : List NameId
+  pub alone : program ≡ function ∷ []
+  pub name : Spells names function.name entry
+  pub no_statics : function.statics ≡ []
+  pub no_mark : function.mark ≡ Plain
+  pub some_bits : 0 < length bits
+  pub bits_are : form.bits ≡ length bits
+  pub params : AreParams bits function.params
+  pub results : AreBits function.results (length bits)
+  pub steps : AreSteps names bits (statements function.body) form.steps
+  pub differ : AllDiffer (function.name ∷ bits)
+  pub free : AreFree names (function.name ∷ bits)

@@ -1,5 +1,5 @@
 -- What it is for a text to be the right one for a program.
-use Rattle.std.specs.Prelude.{◌≡◌, ℕ, ◌<◌, ◌≤◌, Bool, true, false, List, length, get_or, Option, IfSome}
+use Rattle.std.specs.Prelude.{◌≡◌, ℕ, ◌<◌, ◌≤◌, Bool, true, false, List, length, map, replicate, get_or, Option, Some, None, IfSome}
 use Rattle.silq_io.specs.Sinks.{Adds, Breaks}
 use Rattle.amp_core.specs.Amplitude.{none, Same}
 use Rattle.sum_laws.specs.Terms.{amplitude, pick}
@@ -7,9 +7,9 @@ use Rattle.gate_core.specs.declared.gate.Gate.{Gate}
 use Rattle.gate_core.specs.Meaning.{meaning, joined}
 use Rattle.gate_core.specs.Circuit.{IsSound}
 use Rattle.gate_core.specs.Local.{Absent, AllDiffer, AllBelow}
-use Rattle.silqc.specs.declared.form.Operation.{Operation}
 use Rattle.silqc.specs.Job.{Job, IsJob}
-use Rattle.silqc.specs.Form.{IsProgram}
+use Rattle.silqc.specs.Form.{Form}
+use Rattle.silqc.specs.Program.{FileFault, first_file_fault, IsProgram}
 use Rattle.silqc.specs.Source.{source_amplitude}
 use Rattle.qasm_write.specs.Written.{written_text}
 
@@ -31,26 +31,28 @@ HasOneBut qs bits = (q : ℕ) × (q < length bits) × Absent q qs × (get_or bit
 
 -- The circuit gives, on each input and for each choice of the outcome bits, exactly the source's amplitudes, with every
 -- other qubit at zero.
-pub record GivesSource (program : List Operation) (circuit : Spelled) : Type 0 where
-  pub amplitudes : (input outcome bits : List Bool) → length input ≡ 1 → length outcome ≡ circuit.outcomes
+pub record GivesSource (form : Form) (circuit : Spelled) : Type 0 where
+  pub amplitudes : (input outcome bits : List Bool) → length input ≡ form.bits → length outcome ≡ circuit.outcomes
       → length bits ≡ circuit.qubits → IsZeroBut (joined circuit.outs) bits
       → Same
       (amplitude bits (meaning circuit.qubits circuit.outcomes circuit.gates circuit.ins input outcome))
-      (source_amplitude program input (pick (joined circuit.outs) bits))
-  pub zeros : (input outcome bits : List Bool) → length input ≡ 1 → length outcome ≡ circuit.outcomes
+      (source_amplitude form.steps input (pick (joined circuit.outs) bits))
+  pub zeros : (input outcome bits : List Bool) → length input ≡ form.bits → length outcome ≡ circuit.outcomes
       → length bits ≡ circuit.qubits → HasOneBut (joined circuit.outs) bits
       → Same (amplitude bits (meaning circuit.qubits circuit.outcomes circuit.gates circuit.ins input outcome)) none
 
 -- The text is the written text of a circuit that gives the meaning of the file's program within the budget.
 pub record Compiles (job : Job) (bytes text : List ℕ) : Type 0 where
-  pub program : List Operation
+  pub form : Form
   pub circuit : Spelled
-  pub stands : IsProgram job.entry bytes program
+  pub stands : IsProgram job.entry bytes form
   pub written : text ≡ written_text circuit.qubits circuit.outcomes circuit.ins circuit.gates circuit.outs
   pub sound : IsSound circuit.qubits circuit.outcomes circuit.gates
-  pub inputs : AllDiffer (joined circuit.ins) × AllBelow circuit.qubits (joined circuit.ins) × (length (joined circuit.ins) ≡ 1)
-  pub outputs : AllDiffer (joined circuit.outs) × AllBelow circuit.qubits (joined circuit.outs) × (length (joined circuit.outs) ≡ 1)
-  pub gives : GivesSource program circuit
+  -- each parameter and each returned value has one qubit
+  pub shapes : (map length circuit.ins ≡ replicate form.bits 1) × (map length circuit.outs ≡ replicate form.bits 1)
+  pub inputs : AllDiffer (joined circuit.ins) × AllBelow circuit.qubits (joined circuit.ins) × (length (joined circuit.ins) ≡ form.bits)
+  pub outputs : AllDiffer (joined circuit.outs) × AllBelow circuit.qubits (joined circuit.outs) × (length (joined circuit.outs) ≡ form.bits)
+  pub gives : GivesSource form circuit
   pub fits : circuit.qubits ≤ job.budget
 
 -- a right text was put whole
@@ -61,9 +63,17 @@ PutsText job bytes old new = (text : List ℕ) × Compiles job bytes text × Add
 abbrev pub BreaksText : Job → List ℕ → Option (List ℕ) → Option (List ℕ) → Type 0
 BreaksText job bytes old new = (text : List ℕ) × Compiles job bytes text × Breaks old new text
 
--- no program stands for the bytes
-abbrev pub HasNoProgram : Job → List ℕ → Type 0
-HasNoProgram job bytes = (program : List Operation) → IsProgram job.entry bytes program → ⊥
+-- the file has this fault first
+abbrev pub HasFault : FileFault → Job → List ℕ → Type 0
+HasFault fault job bytes = first_file_fault bytes ≡ Some fault
+
+-- the file is a program, and of no form that is compiled
+abbrev pub HasOtherForm : Job → List ℕ → Type 0
+HasOtherForm job bytes = (first_file_fault bytes ≡ None) × ((form : Form) → IsProgram job.entry bytes form → ⊥)
+
+-- the file is a program of the form, and each circuit of it that is written has these qubits, which are more than the budget
+abbrev pub NeedsMore : ℕ → ℕ → Job → List ℕ → Type 0
+NeedsMore least budget job bytes = (form : Form) × IsProgram job.entry bytes form × (least ≡ form.bits) × (budget ≡ job.budget) × (job.budget < form.bits)
 
 -- for the job that the words are, and the bytes of its file where they are told
 abbrev pub ForJob : List (List ℕ) → (List ℕ → Option (List ℕ)) → (Job → List ℕ → Type 0) → Type 0

@@ -1,8 +1,10 @@
 pub mod Job
 pub mod Form
+pub mod Program
 pub mod Source
 pub mod Headline
 pub mod Note
-pub mod Parts
 pub mod Reading
+pub mod Refusal
 pub mod Text
+pub mod FormParts

@@ -1,14 +1,28 @@
 -- The line of a refusal.
-use Rattle.std.specs.Prelude.{ℕ, ◌⊎◌, List, [], codes, Option}
+use Rattle.std.specs.Prelude.{ℕ, ◌⊎◌, List, [], ◌++◌, codes, decimal, Option}
 use Rattle.silq_io.specs.Counts.{Rose}
 use Rattle.silq_io.specs.Sinks.{Adds, Breaks}
+use Rattle.silq_io.specs.Names.{cause_name}
 use Rattle.silqc.specs.declared.status.Status.{Status}
-use Rattle.silqc.specs.declared.status.Status.TheVariants.{Done, Words, ReadFault, WriteFault, Memory, Unbuilt}
+use Rattle.silqc.specs.declared.status.Status.TheVariants.{Done, Words, ReadFault, Syntax, OverBudget, WriteFault, Memory, Unbuilt}
 
+-- `silqc: 1:19: syntax: form`
+abbrev pub syntax_note : List ℕ → ℕ → ℕ → List ℕ
+syntax_note cause line col =
+    codes "silqc: " ++ (decimal line ++ (codes ":" ++ (decimal col ++ (codes ": syntax: " ++ (cause ++ codes "\n")))))
+
+-- `silqc: over budget: least 2, budget 1`
+abbrev pub budget_note : ℕ → ℕ → List ℕ
+budget_note least budget =
+    codes "silqc: over budget: least " ++ (decimal least ++ (codes ", budget " ++ (decimal budget ++ codes "\n")))
+
+-- the line with its line feed; nothing where all went well
 abbrev pub note_of : Status → List ℕ
 note_of Done = []
 note_of Words = codes "silqc: the words are not a job\n"
 note_of ReadFault = codes "silqc: reading failed\n"
+note_of (Syntax cause line col) = syntax_note (cause_name cause) line col
+note_of (OverBudget least budget) = budget_note least budget
 note_of WriteFault = codes "silqc: writing failed\n"
 note_of Memory = codes "silqc: no memory\n"
 note_of Unbuilt = codes "silqc: not built yet\n"
@@ -18,6 +32,8 @@ abbrev pub code_of : Status → ℕ
 code_of Done = 0
 code_of Words = 2
 code_of ReadFault = 3
+code_of (Syntax cause line col) = 4
+code_of (OverBudget least budget) = 10
 code_of WriteFault = 11
 code_of Memory = 12
 code_of Unbuilt = 15

@@ -1,13 +1,23 @@
-//! Programs of the form `def ENTRY(x:B):B { S return x; }`, where each statement of S is `x := H(x);` or `x := X(x);`.
+//! Programs of the form that is compiled: bits, and the operations H and X on them.
 
-ghost use Rattle.std.specs.Prelude.{◌≡◌, ℕ, ◌<◌, ◌↔◌, List, [], ◌∷◌, length, MatchOption, IfSome, IsTrue, IfOk};
-ghost use Rattle.silqc.specs.Form.{IsForm, tokens_of, statement_tokens, body_tokens, types_tokens, IsName, IsNone, AreNameBytes, IsBitType, function_name, taken_names, is_name_start as is_start};
-ghost use Rattle.silqc.specs.Parts.{IsHeader};
+ghost use Rattle.std.specs.Prelude.{◌≡◌, ◌≢◌, ℕ, ◌<◌, ◌-◌, ◌^◌, ◌↔◌, false, List, [], ◌∷◌, Some, IsTrue, IfOk, IfSome, MatchOption, All, length, map};
+ghost use Rattle.silq_tree.specs.declared.node.ExprId.{ExprId};
+ghost use Rattle.silq_tree.specs.declared.node.NameId.{NameId};
+ghost use Rattle.silq_tree.specs.Syntax.{Expression, Function};
+ghost use Rattle.silq_tree.specs.Standing.{type_of, param_of, expressions_of, statements_of, fun_grown};
+ghost use Rattle.silq_tree.specs.Children.{AreExprsBelow, AreStmtsBelow};
+ghost use Rattle.silq_tree.specs.Arena.{expr_at, stmt_at, program_at};
+ghost use Rattle.silqc.specs.Form.{Form as FormOf, IsForm, IsNone, AllDiffer, built_in, Spells, function_name, IsBit, AreBits, AreNames, IsReturned, IsStep, AreSteps};
+ghost use Rattle.silqc.specs.FormParts.{IsWhole, IsReturn, IsFree, IsCall, AreEachSteps, AreBitParams};
 
-use crate::token::next_token;
+use indexmap::IndexSet;
+use silq_tree::{
+    Expr, ExprId, Fun, Mark, NameId, Names, ParamNode, Program, ScalarNode, Stmt, StmtId, Tree,
+    TypeNode,
+};
 use std::alloc::{AllocError, Global};
 
-/// A statement of the program: what it does to the one bit.
+/// What a statement does to a bit.
 #[derive(Clone, Copy, Debug, PartialEq, Eq)]
 pub enum Operation {
     /// The Hadamard gate: `x := H(x);`.
@@ -16,196 +26,321 @@ pub enum Operation {
     Not,
 }
 
-/// The operations of a text of the form in turn, or None where it is of no such form.
-pub fn read_form(
-    alloc: Global,
-    text: &[u8],
-    entry: &str,
-) -> Result<Option<Vec<Operation>>, AllocError>
-    ensures { IfOk result (λ found. MatchOption found
-        ((program : List Operation) → IsForm entry.now text.now program → ⊥)
-        (λ program. IsForm entry.now text.now program.items)) }
-{
-    match header(text, entry.as_bytes()) {
-        None => Ok(None),
-        Some((name, body)) => read_body(alloc, body, name),
-    }
+/// A statement: an operation, and the bit that it is done to, by the number of its parameter.
+#[derive(Clone, Copy, Debug, PartialEq, Eq)]
+pub struct Step {
+    pub operation: Operation,
+    pub bit: u32,
 }
 
-// The parameter's name, and what stands behind `def ENTRY(x:B):B {`.
-fn header<'t>(text: &'t [u8], entry: &[u8]) -> Option<(&'t [u8], &'t [u8])>
-    ensures { MatchOption result ((program : List Operation) → IsForm entry.now text.now program → ⊥) (λ p. IsHeader entry.now text.now p.0.now p.1.now) }
+/// A program of the form: bits that are given and returned in order, and the steps between.
+#[derive(Drop)]
+pub struct Form {
+    pub bits: u32,
+    pub steps: Vec<Step>,
+}
+
+// Whether a text is the name of a built-in function.
+fn is_built_in(text: &str) -> bool
+    ensures { (result ≡ false) ↔ IsNone text.now built_in }
 {
-    let text = expect(text, b"def")?;
-    let text = expect(text, entry)?;
-    let text = expect(text, b"(")?;
-    let (name, text) = next_token(text)?;
-    let text = types(text)?;
-    if !is_text(name, entry) && is_name(name) && is_name(entry) {
-        Some((name, text))
+    matches!(
+        text,
+        "H" | "X" | "Y" | "Z" | "dup" | "measure" | "vector" | "rotX" | "rotY" | "rotZ"
+    )
+}
+
+// Whether a name is written so.
+fn spells(names: &Names, id: NameId, text: &str) -> bool
+    ensures { IsTrue result ↔ Spells names.now id text.now }
+{
+    (id.number as usize) < names.len() && names.text(id) == text
+}
+
+// Whether a name is no name of a built-in function.
+fn is_free(names: &Names, id: NameId) -> bool
+    ensures { IsTrue result ↔ IsFree names.now id }
+{
+    if (id.number as usize) < names.len() {
+        !is_built_in(names.text(id))
     } else {
-        None
+        true
     }
 }
 
-// What stands behind `:B):B {`.
-fn types(text: &[u8]) -> Option<&[u8]>
-    ensures { MatchOption result
-        ((bit returned : List ℕ) (ts : List (List ℕ)) → IsBitType bit → IsBitType returned → tokens_of text.now ≡ types_tokens bit returned ts → ⊥)
-        (λ rest. (bit : List ℕ) × (returned : List ℕ) × IsBitType bit × IsBitType returned × (tokens_of text.now ≡ types_tokens bit returned (tokens_of rest.now))) }
+// Whether a type is `B`.
+fn is_bit(ty: &TypeNode) -> bool
+    ensures { (at : ExprId → Expression) → IsTrue result ↔ IsBit (type_of at ty.now) }
 {
-    let text = expect(text, b":")?;
-    let text = bit_type(text)?;
-    let text = expect(text, b")")?;
-    let text = expect(text, b":")?;
-    let text = bit_type(text)?;
-    expect(text, b"{")
-}
-
-// The operations of `S return x; }`.
-fn read_body(alloc: Global, text: &[u8], name: &[u8]) -> Result<Option<Vec<Operation>>, AllocError>
-    ensures { IfOk result (λ found. MatchOption found
-        ((program : List Operation) → tokens_of text.now ≡ body_tokens name.now program → ⊥)
-        (λ program. tokens_of text.now ≡ body_tokens name.now program.items)) }
-{
-    let mut program = Vec::new(alloc);
-    let mut rest = text;
-    while let Some((operation, more)) = statement(rest, name) {
-        program.push(operation)?;
-        rest = more;
-    }
-    match end(rest, name) {
-        None => Ok(None),
-        Some(()) => Ok(Some(program)),
+    match (ty.classical, ty.scalar, ty.size) {
+        (false, ScalarNode::Bit, None) => true,
+        _ => false,
     }
 }
 
-// The operation of a statement, and what stands behind it.
-fn statement<'t>(text: &'t [u8], name: &[u8]) -> Option<(Operation, &'t [u8])>
-    ensures read { MatchOption result
-        ((operation : Operation) (ts : List (List ℕ)) → tokens_of text.now ≡ statement_tokens name.now operation ts → ⊥)
-        (λ p. tokens_of text.now ≡ statement_tokens name.now p.0 (tokens_of p.1.now)) }
-    ensures shorter { IfSome result (λ p. length p.1.now < length text.now) }
+// Whether there are n types, all of them `B`.
+fn are_bits(types: &[TypeNode], n: usize) -> bool
+    ensures { (at : ExprId → Expression) → IsTrue result ↔ AreBits (map (type_of at) types.now) n }
 {
-    let text = expect(text, name)?;
-    let text = expect(text, b":=")?;
-    let (operation, text) = called(text)?;
-    let text = expect(text, b"(")?;
-    let text = expect(text, name)?;
-    let text = expect(text, b")")?;
-    let text = expect(text, b";")?;
-    Some((operation, text))
+    for ty in types {
+        if !is_bit(ty) {
+            return false;
+        }
+    }
+    types.len() == n
 }
 
-// The operation of a function's name, and what stands behind it.
-fn called(text: &[u8]) -> Option<(Operation, &[u8])>
-    ensures read { MatchOption result
-        ((operation : Operation) (ts : List (List ℕ)) → tokens_of text.now ≡ function_name operation ∷ ts → ⊥)
-        (λ p. tokens_of text.now ≡ function_name p.0 ∷ tokens_of p.1.now) }
-    ensures shorter { IfSome result (λ p. length p.1.now < length text.now) }
+// Whether an expression is this name.
+fn is_whole(tree: &Tree, id: ExprId, name: NameId) -> bool
+    requires { id.number < length tree.now.exprs }
+    ensures { IsTrue result ↔ IsWhole name (expr_at tree.now id) }
 {
-    let (name, rest) = next_token(text)?;
-    if is_text(name, b"H") {
-        Some((Operation::Hadamard, rest))
-    } else if is_text(name, b"X") {
-        Some((Operation::Not, rest))
-    } else {
-        None
+    match tree.expr(id) {
+        Expr::Place { place, .. } => place.first.is_none() && place.name == name,
+        _ => false,
     }
 }
 
-// Whether the text is `return x; }`.
-fn end(text: &[u8], name: &[u8]) -> Option<()>
-    ensures { MatchOption result (tokens_of text.now ≡ body_tokens name.now [] → ⊥) (λ _. tokens_of text.now ≡ body_tokens name.now []) }
+// Whether expressions are these names in turn.
+fn are_names(tree: &Tree, ids: &[ExprId], names: &[NameId]) -> bool
+    requires { AreExprsBelow (length tree.now.exprs) ids.now }
+    ensures { (texts : List (List ℕ)) → IsTrue result ↔ AreNames texts names.now (expressions_of (expr_at tree.now) ids.now) }
 {
-    let text = expect(text, b"return")?;
-    let text = expect(text, name)?;
-    let text = expect(text, b";")?;
-    let text = expect(text, b"}")?;
-    match next_token(text) {
-        None => Some(()),
-        Some(_) => None,
+    if ids.len() != names.len() {
+        return false;
     }
-}
-
-// What stands behind the type of a bit.
-fn bit_type(text: &[u8]) -> Option<&[u8]>
-    ensures { MatchOption result
-        ((bit : List ℕ) (ts : List (List ℕ)) → IsBitType bit → tokens_of text.now ≡ bit ∷ ts → ⊥)
-        (λ rest. (bit : List ℕ) × IsBitType bit × (tokens_of text.now ≡ bit ∷ tokens_of rest.now)) }
-{
-    let (name, rest) = next_token(text)?;
-    if is_text(name, b"B") || is_text(name, &[240, 157, 148, 185]) {
-        Some(rest)
-    } else {
-        None
+    for (i, id) in ids.iter().enumerate() {
+        if !is_whole(tree, *id, names[i]) {
+            return false;
+        }
     }
+    true
 }
 
-// What stands behind this token.
-fn expect<'t>(text: &'t [u8], token: &[u8]) -> Option<&'t [u8]>
-    ensures read { MatchOption result
-        ((ts : List (List ℕ)) → tokens_of text.now ≡ token.now ∷ ts → ⊥)
-        (λ rest. tokens_of text.now ≡ token.now ∷ tokens_of rest.now) }
-    ensures shorter { IfSome result (λ rest. length rest.now < length text.now) }
+// Whether an expression is what is returned for these bits.
+fn is_returned(tree: &Tree, id: ExprId, bits: &[NameId]) -> bool
+    requires { id.number < length tree.now.exprs }
+    ensures { (texts : List (List ℕ)) → IsTrue result ↔ IsReturned texts bits.now (expr_at tree.now id) }
 {
-    let (first, rest) = next_token(text)?;
-    if is_text(first, token) {
-        Some(rest)
-    } else {
-        None
-    }
-}
-
-// Whether two texts are the same.
-fn is_text(text: &[u8], other: &[u8]) -> bool
-    ensures { IsTrue result ↔ (text.now ≡ other.now) }
-{
-    text == other
-}
-
-// Whether a token is a name of ASCII letters, digits and `_` that is neither reserved nor built in.
-fn is_name(text: &[u8]) -> bool
-    ensures { IsTrue result ↔ IsName text.now }
-{
-    match text {
+    match bits {
         [] => false,
-        [first, ..] => is_name_start(*first) && are_name_bytes(text) && is_free(text),
+        [bit] => is_whole(tree, id, *bit),
+        _ => match tree.expr(id) {
+            Expr::Tuple { items, .. } => are_names(tree, items.as_slice(), bits),
+            _ => false,
+        },
     }
 }
 
-fn is_name_start(c: u8) -> bool
-    ensures { result ≡ is_start c }
+// Whether a statement returns these bits.
+fn is_return(tree: &Tree, id: StmtId, bits: &[NameId]) -> bool
+    requires { id.number < length tree.now.stmts }
+    ensures { (texts : List (List ℕ)) → IsTrue result ↔ IsReturn texts bits.now (stmt_at tree.now id) }
 {
-    c.is_ascii_alphabetic() || c == b'_'
+    match tree.stmt(id) {
+        Stmt::Return {
+            value: Some(value),
+            ..
+        } => is_returned(tree, *value, bits),
+        _ => false,
+    }
 }
 
-// Whether all bytes are ASCII letters, digits or `_`.
-fn are_name_bytes(text: &[u8]) -> bool
-    ensures { IsTrue result ↔ AreNameBytes text.now }
+// The operation with this name.
+fn read_operation(names: &Names, id: NameId) -> Option<Operation>
+    ensures { MatchOption result ((o : Operation) → Spells names.now id (function_name o) → ⊥) (λ o. Spells names.now id (function_name o)) }
 {
-    for c in text {
-        if !c.is_ascii_alphanumeric() && *c != b'_' {
-            return false;
+    if spells(names, id, "H") {
+        Some(Operation::Hadamard)
+    } else if spells(names, id, "X") {
+        Some(Operation::Not)
+    } else {
+        None
+    }
+}
+
+// The operation that an expression does to this name.
+fn read_call(tree: &Tree, names: &Names, id: ExprId, name: NameId) -> Option<Operation>
+    requires { id.number < length tree.now.exprs }
+    ensures { MatchOption result ((o : Operation) → IsCall names.now name (expr_at tree.now id) o → ⊥) (IsCall names.now name (expr_at tree.now id)) }
+{
+    let Expr::Call {
+        fun,
+        statics,
+        args,
+        ..
+    } = tree.expr(id)
+    else {
+        return None;
+    };
+    if statics.len() != 0 {
+        return None;
+    }
+    let [arg] = args.as_slice() else {
+        return None;
+    };
+    if is_whole(tree, *arg, name) {
+        read_operation(names, *fun)
+    } else {
+        None
+    }
+}
+
+// The step that a statement is.
+fn read_step(tree: &Tree, names: &Names, bits: &IndexSet<NameId>, id: StmtId) -> Option<Step>
+    requires there { id.number < length tree.now.stmts }
+    requires few { length bits.now.keys < 2 ^ 32 }
+    ensures { MatchOption result ((step : Step) → IsStep names.now bits.now.keys (stmt_at tree.now id) step → ⊥) (IsStep names.now bits.now.keys (stmt_at tree.now id)) }
+{
+    let Stmt::Assign { target, value, .. } = tree.stmt(id) else {
+        return None;
+    };
+    if target.first.is_some() {
+        return None;
+    }
+    let bit = bits.get_index_of(&target.name)? as u32;
+    let operation = read_call(tree, names, *value, target.name)?;
+    Some(Step { operation, bit })
+}
+
+// The steps that statements are.
+fn read_steps(
+    alloc: Global,
+    tree: &Tree,
+    names: &Names,
+    bits: &IndexSet<NameId>,
+    ids: &[StmtId],
+) -> Result<Option<Vec<Step>>, AllocError>
+    requires there { AreStmtsBelow (length tree.now.stmts) ids.now }
+    requires few { length bits.now.keys < 2 ^ 32 }
+    ensures { IfOk result (λ found. MatchOption found ((steps : List Step) → AreEachSteps names.now bits.now.keys (map (stmt_at tree.now) ids.now) steps → ⊥) (λ steps. AreEachSteps names.now bits.now.keys (map (stmt_at tree.now) ids.now) steps.items)) }
+{
+    let mut steps = Vec::new(alloc);
+    for id in ids {
+        match read_step(tree, names, bits, *id) {
+            None => return Ok(None),
+            Some(step) => steps.push(step)?,
         }
     }
-    true
+    Ok(Some(steps))
 }
 
-// Reserved words and built-in functions.
-const TAKEN_NAMES: &[u8] =
-    b"def return if else for in forget phase const qfree mfree lifted true false pi B N uint int H X Y Z dup measure vector rotX rotY rotZ";
-
-// Whether a text is neither reserved nor built in.
-fn is_free(text: &[u8]) -> bool
-    ensures { IsTrue result ↔ IsNone text.now taken_names }
+// The steps of a body that returns these bits.
+fn read_body(
+    alloc: Global,
+    program: &Program,
+    bits: &IndexSet<NameId>,
+    ids: &[StmtId],
+) -> Result<Option<Vec<Step>>, AllocError>
+    requires there { AreStmtsBelow (length program.now.tree.stmts) ids.now }
+    requires few { length bits.now.keys < 2 ^ 32 }
+    ensures { IfOk result (λ found. MatchOption found ((steps : List Step) → AreSteps program.now.names bits.now.keys (statements_of (expr_at program.now.tree) (stmt_at program.now.tree) ids.now) steps → ⊥) (λ steps. AreSteps program.now.names bits.now.keys (statements_of (expr_at program.now.tree) (stmt_at program.now.tree) ids.now) steps.items)) }
 {
-    let mut rest = TAKEN_NAMES;
-    while let Some((name, more)) = next_token(rest) {
-        if is_text(text, name) {
-            return false;
-        }
-        rest = more;
+    let [first @ .., last] = ids else {
+        return Ok(None);
+    };
+    if !is_return(&program.tree, *last, bits.as_slice()) {
+        return Ok(None);
     }
-    true
+    read_steps(alloc, &program.tree, &program.names, bits, first)
+}
+
+// Whether a parameter is a bit that is not const, with a name that is not built in.
+fn is_bit_param(names: &Names, param: ParamNode) -> bool
+    ensures in_range { param.name.number < 2 ^ 32 }
+    ensures fits { (at : ExprId → Expression) → IsTrue result ↔ ((param.held ≡ false) × IsBit (type_of at param.ty) × IsFree names.now param.name) }
+{
+    !param.held && is_bit(&param.ty) && is_free(names, param.name)
+}
+
+// The names of parameters that are bits.
+fn read_bits(
+    alloc: Global,
+    names: &Names,
+    params: &[ParamNode],
+) -> Result<Option<IndexSet<NameId>>, AllocError>
+    ensures in_range { IfOk result (λ found. IfSome found (λ bits. All (λ x. x.number < 2 ^ 32) bits.keys)) }
+    ensures params { IfOk result (λ found. (at : ExprId → Expression) → MatchOption found ((bits : List NameId) → AreBitParams names.now bits (map (param_of at) params.now) → ⊥) (λ bits. AreBitParams names.now bits.keys (map (param_of at) params.now))) }
+{
+    let mut bits = IndexSet::new(alloc);
+    for param in params {
+        if !is_bit_param(names, *param) {
+            return Ok(None);
+        }
+        let (_, added) = bits.insert_full(param.name)?;
+        if !added {
+            return Ok(None);
+        }
+    }
+    Ok(Some(bits))
+}
+
+// Whether a function has the entry's name, no static parameters and no mark.
+fn is_entry(names: &Names, fun: &Fun, entry: &str) -> bool
+    ensures { IsTrue result ↔ (Spells names.now fun.now.name entry.now × (fun.now.statics ≡ []) × (fun.now.mark ≡ Mark.Plain) × IsFree names.now fun.now.name) }
+{
+    spells(names, fun.name, entry)
+        && fun.statics.len() == 0
+        && fun.mark == Mark::Plain
+        && is_free(names, fun.name)
+}
+
+// Whether a function has bits, with no name that is its own, and a result for each of them.
+fn fits_bits(fun: &Fun, bits: &IndexSet<NameId>) -> bool
+    ensures { (at : ExprId → Expression) → IsTrue result ↔ ((0 < length bits.now.keys) × IsNone fun.now.name bits.now.keys × AreBits (map (type_of at) fun.now.results) (length bits.now.keys)) }
+{
+    if bits.is_empty() || bits.contains(&fun.name) {
+        return false;
+    }
+    are_bits(fun.results.as_slice(), bits.len())
+}
+
+// How many bits there are. They are fewer than the numbers that a name may have, since one more name differs from them.
+fn bit_count(fun: NameId, bits: &IndexSet<NameId>) -> u32
+    requires differ { AllDiffer (fun ∷ bits.now.keys) }
+    requires in_range { All (λ x. x.number < 2 ^ 32) bits.now.keys }
+    ensures { result ≡ length bits.now.keys }
+{
+    bits.len() as u32
+}
+
+// The function of a program of one; of a program of several, or one that has no parameters, it may be none.
+fn only_function(program: &Program) -> Option<&Fun>
+    ensures { MatchOption result
+        ((function : Function) → program_at program.now.tree program.now.funs ≡ function ∷ [] → function.params ≡ [])
+        (λ fun. (program_at program.now.tree program.now.funs ≡ fun_grown (expr_at program.now.tree) (stmt_at program.now.tree) fun.now ∷ []) × AreStmtsBelow (length program.now.tree.stmts) fun.now.body.items) }
+{
+    let [id] = program.funs.as_slice() else {
+        return None;
+    };
+    if (id.number as usize) < program.tree.funs() {
+        Some(program.tree.fun(*id))
+    } else {
+        None
+    }
+}
+
+/// A program as one of the form with this entry, or None where it is of no such form.
+pub fn read_form(alloc: Global, program: &Program, entry: &str) -> Result<Option<Form>, AllocError>
+    ensures { IfOk result (λ found. MatchOption found
+        ((form : FormOf) → IsForm entry.now program.now.names (program_at program.now.tree program.now.funs) form → ⊥)
+        (λ form. IsForm entry.now program.now.names (program_at program.now.tree program.now.funs) (record { bits = form.bits; steps = form.steps.items }))) }
+{
+    let Some(fun) = only_function(program) else {
+        return Ok(None);
+    };
+    if !is_entry(&program.names, fun, entry) {
+        return Ok(None);
+    }
+    let Some(bits) = read_bits(alloc, &program.names, fun.params.as_slice())? else {
+        return Ok(None);
+    };
+    if !fits_bits(fun, &bits) {
+        return Ok(None);
+    }
+    let count = bit_count(fun.name, &bits);
+    let Some(steps) = read_body(alloc, program, &bits, fun.body.items.as_slice())? else {
+        return Ok(None);
+    };
+    Ok(Some(Form { bits: count, steps }))
 }

@@ -5,23 +5,24 @@ ghost use Rattle.std.specs.Prelude.{◌≡◌, ◌≢◌, ℕ, ◌≤◌, ◌<�
 ghost use Rattle.silq_io.specs.Counts.{Rose};
 ghost use Rattle.silq_io.specs.Sinks.{Adds};
 ghost use Rattle.silqc.specs.Job.{Job as JobWords, IsJob};
-ghost use Rattle.silqc.specs.Headline.{PutsText, BreaksText, HasNoProgram, ForJob};
+ghost use Rattle.silq_io.specs.declared.fault.SyntaxCause.{SyntaxCause};
+ghost use Rattle.silqc.specs.Headline.{PutsText, BreaksText, HasFault, HasOtherForm, NeedsMore, ForJob};
 ghost use Rattle.silqc.specs.Note.{note_of, Noted};
 
 mod form;
 mod input;
 mod job;
+mod program;
+mod source;
 pub mod status;
-mod token;
 mod write;
 
 use input::ReadError;
+use program::{Refusal, read_program};
 use silq_io::{Files, Sink, Words};
+use source::SOURCE_LIMIT;
 use status::Status;
 use std::alloc::Global;
-
-// How many bytes a source may have.
-const SOURCE_LIMIT: usize = 1_048_576;
 
 /// Carries out the command of these words: `compile FILE ENTRY --budget N` reads the file from `files`, and puts the
 /// OpenQASM text of the function ENTRY to `out`. A refusal puts one line to `notes`.
@@ -41,7 +42,9 @@ pub fn silqc<F: Files, S: Sink, N: Sink>(
     // When each refusal comes.
     ensures words { (result ≡ Status.Words) ↔ ((job : JobWords) → IsJob words.now job → ⊥) }
     ensures read_fault { result ≡ Status.ReadFault → (job : JobWords) → IsJob words.now job → Rose (F.faults files.old job.file) (F.faults files.new job.file) }
-    ensures unbuilt { result ≡ Status.Unbuilt → ForJob words.now (F.held files.old) HasNoProgram }
+    ensures syntax { (cause : SyntaxCause) (line col : ℕ) → result ≡ Status.Syntax cause line col → ForJob words.now (F.held files.old) (HasFault (record { cause = cause; line = line; col = col })) }
+    ensures unbuilt { result ≡ Status.Unbuilt → ForJob words.now (F.held files.old) HasOtherForm }
+    ensures over_budget { (least budget : ℕ) → result ≡ Status.OverBudget least budget → ForJob words.now (F.held files.old) (NeedsMore least budget) }
     ensures write_fault { result ≡ Status.WriteFault → Rose (S.faults out.old) (S.faults out.new) }
 
     // What a refusal leaves.
@@ -66,7 +69,9 @@ fn run<F: Files, S: Sink>(alloc: Global, words: &Words, files: &mut F, out: &mut
     ensures read_whole { result ≡ Status.Done → ForJob words.now (F.held files.old) (λ job _. F.left files.new job.file ≡ Some []) }
     ensures words { (result ≡ Status.Words) ↔ ((job : JobWords) → IsJob words.now job → ⊥) }
     ensures read_fault { result ≡ Status.ReadFault → (job : JobWords) → IsJob words.now job → Rose (F.faults files.old job.file) (F.faults files.new job.file) }
-    ensures unbuilt { result ≡ Status.Unbuilt → ForJob words.now (F.held files.old) HasNoProgram }
+    ensures syntax { (cause : SyntaxCause) (line col : ℕ) → result ≡ Status.Syntax cause line col → ForJob words.now (F.held files.old) (HasFault (record { cause = cause; line = line; col = col })) }
+    ensures unbuilt { result ≡ Status.Unbuilt → ForJob words.now (F.held files.old) HasOtherForm }
+    ensures over_budget { (least budget : ℕ) → result ≡ Status.OverBudget least budget → ForJob words.now (F.held files.old) (NeedsMore least budget) }
     ensures write_fault { result ≡ Status.WriteFault → Rose (S.faults out.old) (S.faults out.new) }
     ensures broken { result ≡ Status.WriteFault → ForJob words.now (F.held files.old) (λ job bytes. BreaksText job bytes (S.put_so_far out.old) (S.put_so_far out.new)) }
     ensures refused { result ≢ Status.Done → result ≢ Status.WriteFault → Adds (S.put_so_far out.old) (S.put_so_far out.new) [] }
@@ -94,7 +99,9 @@ fn compile<F: Files, S: Sink>(
     ensures done { result ≡ Status.Done → IfSome (F.held files.old file.now) (λ bytes. PutsText (record { file = file.now; entry = entry.now; budget = budget }) bytes (S.put_so_far out.old) (S.put_so_far out.new)) }
     ensures read_whole { result ≡ Status.Done → IfSome (F.held files.old file.now) (λ _. F.left files.new file.now ≡ Some []) }
     ensures read_fault { result ≡ Status.ReadFault → Rose (F.faults files.old file.now) (F.faults files.new file.now) }
-    ensures unbuilt { result ≡ Status.Unbuilt → IfSome (F.held files.old file.now) (HasNoProgram (record { file = file.now; entry = entry.now; budget = budget })) }
+    ensures syntax { (cause : SyntaxCause) (line col : ℕ) → result ≡ Status.Syntax cause line col → IfSome (F.held files.old file.now) (HasFault (record { cause = cause; line = line; col = col }) (record { file = file.now; entry = entry.now; budget = budget })) }
+    ensures unbuilt { result ≡ Status.Unbuilt → IfSome (F.held files.old file.now) (HasOtherForm (record { file = file.now; entry = entry.now; budget = budget })) }
+    ensures over_budget { (least most : ℕ) → result ≡ Status.OverBudget least most → IfSome (F.held files.old file.now) (NeedsMore least most (record { file = file.now; entry = entry.now; budget = budget })) }
     ensures write_fault { result ≡ Status.WriteFault → Rose (S.faults out.old) (S.faults out.new) }
     ensures broken { result ≡ Status.WriteFault → IfSome (F.held files.old file.now) (λ bytes. BreaksText (record { file = file.now; entry = entry.now; budget = budget }) bytes (S.put_so_far out.old) (S.put_so_far out.new)) }
     ensures refused { result ≢ Status.Done → result ≢ Status.WriteFault → Adds (S.put_so_far out.old) (S.put_so_far out.new) [] }
@@ -107,19 +114,28 @@ fn compile<F: Files, S: Sink>(
         Err(ReadError::Memory) => return Status::Memory,
         Err(ReadError::Failed) => return Status::ReadFault,
     };
-    if bytes.len() > SOURCE_LIMIT {
-        return Status::Unbuilt;
+    let text = match source::text(&bytes) {
+        Ok(text) => text,
+        Err(fault) => return fault.status(),
+    };
+    let form = match read_program(alloc, text, entry) {
+        Ok(form) => form,
+        Err(Refusal::Memory) => return Status::Memory,
+        Err(Refusal::Fault(fault)) => return fault.status(),
+        Err(Refusal::OtherForm) => return Status::Unbuilt,
+    };
+    if form.bits > budget {
+        return Status::OverBudget {
+            least: form.bits as usize,
+            budget: budget as usize,
+        };
     }
-    let Ok(lists) = write::qubit_lists(alloc) else {
+    let Ok(lists) = write::qubit_lists(alloc, form.bits) else {
         return Status::Memory;
     };
-    match form::read_form(alloc, &bytes, entry) {
-        Err(_) => Status::Memory,
-        Ok(None) => Status::Unbuilt,
-        Ok(Some(program)) => match write::write_text(out, &program, &lists) {
-            Ok(()) => Status::Done,
-            Err(_) => Status::WriteFault,
-        },
+    match write::write_text(out, &form, &lists) {
+        Ok(()) => Status::Done,
+        Err(_) => Status::WriteFault,
     }
 }
 

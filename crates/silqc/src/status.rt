@@ -1,9 +1,12 @@
 //! How a command ends.
 
-ghost use Rattle.std.specs.Prelude.{◌≡◌, ℕ, ◌≤◌};
-ghost use Rattle.silqc.specs.Note.{note_of, code_of, Noted};
+ghost use Rattle.std.specs.Prelude.{◌≡◌, ℕ, ◌≤◌, OnOk, OnErr};
+ghost use Rattle.silq_io.specs.Counts.{Rose};
+ghost use Rattle.silq_io.specs.Sinks.{Adds, Breaks};
+ghost use Rattle.silqc.specs.Note.{note_of, syntax_note, budget_note, code_of, Noted};
 
-use silq_io::{Sink, put_all};
+use qasm_write::{Piece, put_pieces};
+use silq_io::{Failed, Sink, SyntaxCause, put_all};
 
 /// How a command ends.
 #[derive(Debug, PartialEq, Eq, Drop)]
@@ -14,6 +17,19 @@ pub enum Status {
     Words,
     /// The file was not read.
     ReadFault,
+    /// The file is no program.
+    Syntax {
+        cause: SyntaxCause,
+        /// The line of the first fault, from 1.
+        line: u32,
+        /// Its column, from 1, in characters.
+        col: u32,
+    },
+    /// The program needs more qubits than the budget has.
+    OverBudget {
+        least: usize,
+        budget: usize,
+    },
     /// The text was not written whole.
     WriteFault,
     /// There was no memory.
@@ -31,23 +47,30 @@ impl Status {
             Status::Done => 0,
             Status::Words => 2,
             Status::ReadFault => 3,
+            Status::Syntax { .. } => 4,
+            Status::OverBudget { .. } => 10,
             Status::WriteFault => 11,
             Status::Memory => 12,
             Status::Unbuilt => 15,
         }
     }
 
-    // The line that is put to the notes, with a line feed: nothing where all went well.
-    fn note(&self) -> &'static [u8]
-        ensures { result.now ≡ note_of self.now }
+    // Puts the line, with a line feed: nothing where all went well.
+    fn put<N: Sink>(&self, notes: &mut N) -> Result<(), Failed>
+        ensures ok { OnOk result (Adds (N.put_so_far notes.old) (N.put_so_far notes.new) (note_of self.now)) }
+        ensures count { N.faults notes.old ≤ N.faults notes.new }
+        ensures failed { OnErr result (Rose (N.faults notes.old) (N.faults notes.new)) }
+        ensures broken { OnErr result (Breaks (N.put_so_far notes.old) (N.put_so_far notes.new) (note_of self.now)) }
     {
         match self {
-            Status::Done => b"",
-            Status::Words => b"silqc: the words are not a job\n",
-            Status::ReadFault => b"silqc: reading failed\n",
-            Status::WriteFault => b"silqc: writing failed\n",
-            Status::Memory => b"silqc: no memory\n",
-            Status::Unbuilt => b"silqc: not built yet\n",
+            Status::Done => Ok(()),
+            Status::Words => put_all(notes, b"silqc: the words are not a job\n"),
+            Status::ReadFault => put_all(notes, b"silqc: reading failed\n"),
+            Status::Syntax { cause, line, col } => put_syntax(notes, cause.name(), *line, *col),
+            Status::OverBudget { least, budget } => put_over_budget(notes, *least, *budget),
+            Status::WriteFault => put_all(notes, b"silqc: writing failed\n"),
+            Status::Memory => put_all(notes, b"silqc: no memory\n"),
+            Status::Unbuilt => put_all(notes, b"silqc: not built yet\n"),
         }
     }
 
@@ -56,6 +79,46 @@ impl Status {
         ensures noted { Noted (N.put_so_far notes.old) (N.put_so_far notes.new) (N.faults notes.old) (N.faults notes.new) (note_of self.now) }
         ensures count { N.faults notes.old ≤ N.faults notes.new }
     {
-        let _ = put_all(notes, self.note());
+        let _ = self.put(notes);
     }
+}
+
+// Puts the line of a fault of the file.
+fn put_syntax<N: Sink>(notes: &mut N, cause: &str, line: u32, col: u32) -> Result<(), Failed>
+    ensures ok { OnOk result (Adds (N.put_so_far notes.old) (N.put_so_far notes.new) (syntax_note cause.now line col)) }
+    ensures count { N.faults notes.old ≤ N.faults notes.new }
+    ensures failed { OnErr result (Rose (N.faults notes.old) (N.faults notes.new)) }
+    ensures broken { OnErr result (Breaks (N.put_so_far notes.old) (N.put_so_far notes.new) (syntax_note cause.now line col)) }
+{
+    put_pieces(
+        notes,
+        &[
+            Piece::Text("silqc: "),
+            Piece::Number(u64::from(line)),
+            Piece::Text(":"),
+            Piece::Number(u64::from(col)),
+            Piece::Text(": syntax: "),
+            Piece::Text(cause),
+            Piece::Text("\n"),
+        ],
+    )
+}
+
+// Puts the line of a program that needs more qubits than it may have.
+fn put_over_budget<N: Sink>(notes: &mut N, least: usize, budget: usize) -> Result<(), Failed>
+    ensures ok { OnOk result (Adds (N.put_so_far notes.old) (N.put_so_far notes.new) (budget_note least budget)) }
+    ensures count { N.faults notes.old ≤ N.faults notes.new }
+    ensures failed { OnErr result (Rose (N.faults notes.old) (N.faults notes.new)) }
+    ensures broken { OnErr result (Breaks (N.put_so_far notes.old) (N.put_so_far notes.new) (budget_note least budget)) }
+{
+    put_pieces(
+        notes,
+        &[
+            Piece::Text("silqc: over budget: least "),
+            Piece::Number(least as u64),
+            Piece::Text(", budget "),
+            Piece::Number(budget as u64),
+            Piece::Text("\n"),
+        ],
+    )
 }

@@ -8,10 +8,15 @@ use silq_io::{Failed, Files, MemFiles, MemSink, Sink, Words};
 use std::alloc::{AllocError, Global};
 use std::test::Fail;
 
-const ONE: &str = "def main(x:B):B { x := H(x); return x; }";
+const ONE: &[u8] = b"def main(x:B):B { x := H(x); return x; }";
 
 const ONE_TEXT: &[u8] =
     b"OPENQASM 2.0;\ninclude \"qelib1.inc\";\nqreg q[1];\n// silqc in 0 q[0]\nh q[0];\n// silqc out 0 q[0]\n";
+
+const TWO: &[u8] = b"def main(a:B, b:B):B\xc3\x97B { a := H(a); b := X(b); return (a, b); }";
+
+const TWO_TEXT: &[u8] =
+    b"OPENQASM 2.0;\ninclude \"qelib1.inc\";\nqreg q[2];\n// silqc in 0 q[0]\n// silqc in 1 q[1]\nh q[0];\nx q[1];\n// silqc out 0 q[0]\n// silqc out 1 q[1]\n";
 
 /// Files that give one byte at a time.
 #[derive(Drop)]
@@ -57,27 +62,12 @@ fn words_of(alloc: Global, words: &[&str]) -> Result<Words, AllocError> {
     Ok(list)
 }
 
-// The file `one.slq` with this text, whose calls with these numbers fail.
-fn file_of(alloc: Global, text: &str, fails: &[u64]) -> Result<MemFiles, AllocError> {
+// The file `one.slq` with these bytes, whose calls with these numbers fail.
+fn file_of(alloc: Global, bytes: &[u8], fails: &[u64]) -> Result<MemFiles, AllocError> {
     let name = String::from_str(alloc, "one.slq")?;
-    let bytes = Vec::from_slice(alloc, text.as_bytes())?;
     let mut files = Vec::new(alloc);
-    files.push((name, bytes))?;
+    files.push((name, Vec::from_slice(alloc, bytes)?))?;
     MemFiles::new(alloc, files, Vec::from_slice(alloc, fails)?)
-}
-
-#[test]
-fn one_hadamard(rt: HostRuntime) -> Result<(), Fail> {
-    let alloc = rt.alloc();
-    let words = words_of(alloc, &["compile", "one.slq", "main", "--budget", "1"])?;
-    let mut files = file_of(alloc, ONE, &[])?;
-    let mut out = MemSink::new(alloc, 200, Vec::new(alloc))?;
-    let mut notes = MemSink::new(alloc, 200, Vec::new(alloc))?;
-    let status = silqc(alloc, &words, &mut files, &mut out, &mut notes);
-    assert_eq!(rt; status, Status::Done);
-    assert_eq!(rt; out.bytes(), ONE_TEXT);
-    assert_eq!(rt; notes.bytes(), b"".as_slice());
-    Ok(())
 }
 
 #[test]
@@ -101,105 +91,141 @@ fn one_byte_at_a_time(rt: HostRuntime) -> Result<(), Fail> {
 #[derive(Clone, Copy)]
 struct Case<'a> {
     words: &'a [&'a str],
-    text: &'a str,
+    bytes: &'a [u8],
     file_fails: &'a [u64],
     room: usize,
     code: u8,
-    out: usize,
+    out: &'a [u8],
     note: &'a [u8],
 }
 
 const COMPILE: &[&str] = &["compile", "one.slq", "main", "--budget", "1"];
 
+// A command of these words that is refused with a note.
+fn no_job<'a>(words: &'a [&'a str]) -> Case<'a> {
+    Case {
+        words,
+        bytes: ONE,
+        file_fails: &[],
+        room: 200,
+        code: 2,
+        out: b"",
+        note: b"silqc: the words are not a job\n",
+    }
+}
+
+// These bytes compiled to a text.
+fn compiled<'a>(bytes: &'a [u8], out: &'a [u8]) -> Case<'a> {
+    Case {
+        words: COMPILE,
+        bytes,
+        file_fails: &[],
+        room: 200,
+        code: 0,
+        out,
+        note: b"",
+    }
+}
+
+// These bytes refused with a note.
+fn refused<'a>(bytes: &'a [u8], code: u8, note: &'a [u8]) -> Case<'a> {
+    Case {
+        words: COMPILE,
+        bytes,
+        file_fails: &[],
+        room: 200,
+        code,
+        out: b"",
+        note,
+    }
+}
+
 #[test]
-fn first_path_faults(rt: HostRuntime) -> Result<(), Fail> {
+fn rows(rt: HostRuntime) -> Result<(), Fail> {
     let alloc = rt.alloc();
-    let not_a_job = b"silqc: the words are not a job\n".as_slice();
     let unread = b"silqc: reading failed\n".as_slice();
     let unbuilt = b"silqc: not built yet\n".as_slice();
     let cases = [
-        Case {
-            words: &[],
-            text: ONE,
-            file_fails: &[],
-            room: 200,
-            code: 2,
-            out: 0,
-            note: not_a_job,
-        },
-        Case {
-            words: &["compile", "one.slq", "main", "--budget", "0"],
-            text: ONE,
-            file_fails: &[],
-            room: 200,
-            code: 2,
-            out: 0,
-            note: not_a_job,
-        },
-        Case {
-            words: &["make", "one.slq", "main", "--budget", "1"],
-            text: ONE,
-            file_fails: &[],
-            room: 200,
-            code: 2,
-            out: 0,
-            note: not_a_job,
-        },
+        no_job(&[]),
+        no_job(&["compile", "one.slq", "main", "--budget", "0"]),
+        no_job(&["make", "one.slq", "main", "--budget", "1"]),
         Case {
             words: &["compile", "two.slq", "main", "--budget", "1"],
-            text: ONE,
-            file_fails: &[],
-            room: 200,
-            code: 3,
-            out: 0,
-            note: unread,
+            ..refused(ONE, 3, unread)
         },
         Case {
-            words: COMPILE,
-            text: ONE,
             file_fails: &[3],
-            room: 200,
-            code: 3,
-            out: 0,
-            note: unread,
+            ..refused(ONE, 3, unread)
         },
         Case {
-            words: COMPILE,
-            text: "def main() { y := H(0:B); }",
-            file_fails: &[],
-            room: 200,
-            code: 15,
-            out: 0,
-            note: unbuilt,
-        },
-        Case {
-            words: COMPILE,
-            text: "def main(x:𝔹):B{x:=X(x);return x;}",
-            file_fails: &[],
-            room: 200,
-            code: 0,
-            out: 94,
-            note: b"",
-        },
-        Case {
-            words: COMPILE,
-            text: ONE,
-            file_fails: &[],
             room: 40,
-            code: 11,
-            out: 40,
-            note: b"silqc: writing failed\n",
+            out: &ONE_TEXT[..40],
+            ..refused(ONE, 11, b"silqc: writing failed\n")
         },
+        compiled(ONE, ONE_TEXT),
+        compiled(
+            b"/* H */ def main(x:\xf0\x9d\x94\xb9):B{// here\n x:=H(x);return x;}",
+            ONE_TEXT,
+        ),
+        Case {
+            words: &["compile", "one.slq", "main", "--budget", "2"],
+            ..compiled(TWO, TWO_TEXT)
+        },
+        refused(TWO, 10, b"silqc: over budget: least 2, budget 1\n"),
+        refused(b"def main() { y := H(0:B); }", 15, unbuilt),
+        refused(b"", 15, unbuilt),
+        refused(
+            b"def main(x:B) { x = H(x); }",
+            4,
+            b"silqc: 1:19: syntax: form\n",
+        ),
+        refused(b"def \xc3", 4, b"silqc: 1:5: syntax: utf8\n"),
+        refused(
+            b"\xf0\x9d\x94\xb9\n\xc3\x97\xff",
+            4,
+            b"silqc: 2:2: syntax: utf8\n",
+        ),
+        refused(
+            b"def main(x:B):B {\n x /* ",
+            4,
+            b"silqc: 2:4: syntax: comment\n",
+        ),
+        refused(
+            b"def main(x:B):B { x := 9223372036854775808; return x; }",
+            4,
+            b"silqc: 1:24: syntax: number\n",
+        ),
     ];
     for case in &cases {
         let words = words_of(alloc, case.words)?;
-        let mut files = file_of(alloc, case.text, case.file_fails)?;
+        let mut files = file_of(alloc, case.bytes, case.file_fails)?;
         let mut out = MemSink::new(alloc, case.room, Vec::new(alloc))?;
         let mut notes = MemSink::new(alloc, 200, Vec::new(alloc))?;
         let status = silqc(alloc, &words, &mut files, &mut out, &mut notes);
         assert_eq!(rt; status.code(), case.code);
-        assert_eq!(rt; out.bytes().len(), case.out);
+        assert_eq!(rt; out.bytes(), case.out);
         assert_eq!(rt; notes.bytes(), case.note);
     }
+    Ok(())
+}
+
+#[test]
+fn the_longest_text(rt: HostRuntime) -> Result<(), Fail> {
+    let alloc = rt.alloc();
+    let words = words_of(alloc, COMPILE)?;
+    let mut out = MemSink::new(alloc, 200, Vec::new(alloc))?;
+    let mut notes = MemSink::new(alloc, 200, Vec::new(alloc))?;
+    let mut blanks = vec![in alloc; b' '; 1_048_576]?;
+    let mut files = file_of(alloc, &blanks, &[])?;
+    let status = silqc(alloc, &words, &mut files, &mut out, &mut notes);
+    assert_eq!(rt; status, Status::Unbuilt);
+    blanks.push(b' ')?;
+    let mut files = file_of(alloc, &blanks, &[])?;
+    let status = silqc(alloc, &words, &mut files, &mut out, &mut notes);
+    assert_eq!(rt; status.code(), 4);
+    assert_eq!(rt;
+        notes.bytes(),
+        b"silqc: not built yet\nsilqc: 1:1: syntax: long\n".as_slice()
+    );
     Ok(())
 }
