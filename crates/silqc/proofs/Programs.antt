@@ -39,12 +39,12 @@ module _ (entry text : List ℕ) (nodes : Forest) (names : List (List ℕ)) (fun
     derivation = stands.parsed.derivation;
     spelled = stands.parsed.spelled;
     of_form = subst (λ ns. IsForm entry ns (program_tree stands.parsed.derivation) form) stands.named
-        (subst (λ tree. IsForm entry names tree form) stands.parsed.tree f);
+        (subst (λ tree. IsForm entry names tree form) stands.parsed.stands f);
   }
 
   pub of_form : (form : Form) → IsProgram entry text form → IsForm entry names (program_at nodes funs) form
   of_form form p =
       let same : p.derivation ≡ stands.parsed.derivation = one_tree p.derivation stands.parsed.derivation (sym p.spelled ∙ stands.parsed.spelled) in
-      subst (λ tree. IsForm entry names tree form) (sym stands.parsed.tree)
+      subst (λ tree. IsForm entry names tree form) (sym stands.parsed.stands)
       (subst (λ d. IsForm entry names (program_tree d) form) same
       (subst (λ ns. IsForm entry ns (program_tree p.derivation) form) (sym stands.named) p.of_form))
