@@ -25,6 +25,7 @@ index_at (n ∷ ns) (suc i) text d e = by (bytes_eq n text) refl (index_at ns i 
   where
     later : (j k : ℕ) → suc j ≡ suc k → j ≡ k
     later j k h = cc
+
     by : (b : Bool) → bytes_eq n text ≡ b → index_of ns text ≡ i → (if b then 0 else suc (index_of ns text)) ≡ suc i
     by true h k = let same : n ≡ text = (bytes_eq-Decides n text).0 h in let two : zero ≡ suc i = d zero (suc i) text (ap Some same) e in cc
     by false h k = ap suc k

@@ -55,7 +55,7 @@ pub under_way_next : (all left : Tokens) (done : List Token) (names others : Lis
 under_way_next all left done names others t made old w e n m =
     let items : old.items ≡ t ∷ left.items = ap (λ x. x.items) e in
     let same : names_with others left.items ≡ names_of all.items =
-        ap (λ x. names_with x left.items) n ∙ ap (λ x. names_with names x) (sym items) ∙ w.names_left in
+    ap (λ x. names_with x left.items) n ∙ ap (λ x. names_with names x) (sym items) ∙ w.names_left in
     let first : made ≡ token_of (names_of all.items) t = m ∙ ap (λ x. token_of x t) same in
     let old_few : length done + length old.items ≤ 1048576 = w.few in
     let old_names : length names ≤ length done = w.few_names in

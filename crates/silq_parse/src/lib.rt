@@ -25,10 +25,10 @@ mod statement;
 mod stop;
 mod target;
 mod terminal;
-mod tokens;
-mod types;
 #[cfg(test)]
 mod tests;
+mod tokens;
+mod types;
 
 pub use fault::ParseFault;
 pub use silq_tree::Program;

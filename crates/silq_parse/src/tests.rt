@@ -44,13 +44,31 @@ fn programs(rt: HostRuntime) -> Result<(), Fail> {
             ("", "fine"),
             (" // nothing\n/* at all */", "fine"),
             ("def f() { }", "fine"),
-            ("def f[n:!N, k:!ℕ](const x:uint[n], y:!B^3) lifted : int[k]^(n + 1) × 𝔹 { }", "fine"),
+            (
+                "def f[n:!N, k:!ℕ](const x:uint[n], y:!B^3) lifted : int[k]^(n + 1) × 𝔹 { }",
+                "fine",
+            ),
             ("def f() qfree { } def g() mfree { return; }", "fine"),
-            ("def f() { x := 1; x[0] := 2:uint[3]; x[0][1] += y; x -= y; x ^= true && false; }", "fine"),
-            ("def f() { (x, y, z) := g[1, 2](x, (y), (a, b)); g(); g[3](); forget(x); forget(x = y); }", "fine"),
-            ("def f() { phase(π · 2 / 3 - -pi); return (x, !y == z || a < b && c); }", "fine"),
-            ("def f() { if a { } else if b { x := y; } else { if c { } } }", "fine"),
-            ("def f() { for i in [0..n * 2) { x[i] := H(x[i]); } } // end", "fine"),
+            (
+                "def f() { x := 1; x[0] := 2:uint[3]; x[0][1] += y; x -= y; x ^= true && false; }",
+                "fine",
+            ),
+            (
+                "def f() { (x, y, z) := g[1, 2](x, (y), (a, b)); g(); g[3](); forget(x); forget(x = y); }",
+                "fine",
+            ),
+            (
+                "def f() { phase(π · 2 / 3 - -pi); return (x, !y == z || a < b && c); }",
+                "fine",
+            ),
+            (
+                "def f() { if a { } else if b { x := y; } else { if c { } } }",
+                "fine",
+            ),
+            (
+                "def f() { for i in [0..n * 2) { x[i] := H(x[i]); } } // end",
+                "fine",
+            ),
         ],
     )
 }
@@ -149,9 +167,18 @@ fn first_faults(rt: HostRuntime) -> Result<(), Fail> {
             ("def f() { x := } $", "1:16 form"),
             ("def f() { x := $ }", "1:16 character"),
             // the block and sixty-three signs, and one more; and a token that cannot come there
-            ("def f() { x := !!!!!!!!!!!!!!!!!!!!!!!!!!!!!!!!!!!!!!!!!!!!!!!!!!!!!!!!!!!!!!!y; }", "fine"),
-            ("def f() { x := !!!!!!!!!!!!!!!!!!!!!!!!!!!!!!!!!!!!!!!!!!!!!!!!!!!!!!!!!!!!!!!!y; }", "1:79 deep"),
-            ("def f() { x := !!!!!!!!!!!!!!!!!!!!!!!!!!!!!!!!!!!!!!!!!!!!!!!!!!!!!!!!!!!!!!!*y; }", "1:79 form"),
+            (
+                "def f() { x := !!!!!!!!!!!!!!!!!!!!!!!!!!!!!!!!!!!!!!!!!!!!!!!!!!!!!!!!!!!!!!!y; }",
+                "fine",
+            ),
+            (
+                "def f() { x := !!!!!!!!!!!!!!!!!!!!!!!!!!!!!!!!!!!!!!!!!!!!!!!!!!!!!!!!!!!!!!!!y; }",
+                "1:79 deep",
+            ),
+            (
+                "def f() { x := !!!!!!!!!!!!!!!!!!!!!!!!!!!!!!!!!!!!!!!!!!!!!!!!!!!!!!!!!!!!!!!*y; }",
+                "1:79 form",
+            ),
         ],
     )
 }
