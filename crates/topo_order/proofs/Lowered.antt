@@ -61,11 +61,11 @@ leaving_within g v (e ∷ arrows) ends x c = by (eqb e.from.number v.number) c (
     by false c ih = ih c
 
 -- the edges that enter v: those counted and those left
-pub counting_start : (g : Arena) (v : VertexId) (left : List (VertexId × EdgeKind)) → IsPermutation (edges_at true v g.arrows) left → length left ≡ waiting g [] v
-counting_start g v left p = length_permutation (edges_at true v g.arrows) left p ∙ length_entering v g.arrows
+pub record Counting (g : Arena) (v : VertexId) (count : ℕ) (left : List (VertexId × EdgeKind)) : Type 0 where
+  pub so_far : count + length left ≡ waiting g [] v
 
-pub few_wait : (g : Arena) (v : VertexId) → IsArena g → waiting g [] v < 2 ^ 32
-few_wait g v ok = let few = ok.few_edges in let l = count_by-le-length (waits [] v) g.arrows in omega arith
+pub counting_start : (g : Arena) (v : VertexId) (left : List (VertexId × EdgeKind)) → IsPermutation (edges_at true v g.arrows) left → Counting g v 0 left
+counting_start g v left p = record { so_far = omega (arith, length_permutation (edges_at true v g.arrows) left p, length_entering v g.arrows) }
 
 -- the counters of the first n ids
 pub record CountersBelow (g : Arena) (n : ℕ) (counters : List ℕ) : Type 0 where

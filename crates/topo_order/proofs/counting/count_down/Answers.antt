@@ -12,7 +12,9 @@ bounds-counters-to c =
     omega arith
 
 pub overflow_sub-counters : goal.overflow_sub-counters
-overflow_sub-counters c = lowering_some _ _ _ _ _ _ _ c.loop-to.invariant c.in-Some.ensures.next
+overflow_sub-counters c =
+    let l = lowering_some _ _ _ _ _ _ _ c.loop-to.invariant c.in-Some.ensures.next in
+    omega arith
 
 pub bounds-counters-to-in-Some : goal.bounds-counters-to-in-Some
 bounds-counters-to-in-Some c =
