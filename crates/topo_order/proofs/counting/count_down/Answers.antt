@@ -1,5 +1,5 @@
 use Rattle.std.proofs.Common.{arith}
-use Rattle.topo_order.proofs.Lowered.{lowering_start, lowering_within, lowering_some, lowering_more, lowering_end}
+use Rattle.topo_order.proofs.Lowered.{lowering_start, lowering_within, lowering_some, lowering_more}
 use Rattle.topo_order.proofs.counting.count_down.Goals as goal
 
 pub loop-to-init : goal.loop-to-init
