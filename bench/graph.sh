@@ -15,7 +15,7 @@ for kind in graph order; do
     elif [ $kind = graph ]; then
         sizes="12500 25000 50000 99997"
     else
-        sizes="50 100 200 400"
+        sizes="50 100 200 400 800 1600"
     fi
     for n in $sizes; do
         /usr/bin/time -f "%e %M" -o /tmp/graph_bench.$$ "$program" "$n" $kind >/dev/null || exit 1

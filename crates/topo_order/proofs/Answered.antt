@@ -1,6 +1,5 @@
 -- What the ids at the end answer.
 use Rattle.std.proofs.Common.{◌≡◌, ℕ, ◌<◌, Bool, true, false, List, [], ◌∷◌, length, get_or, Contains, refl}
-use Rattle.graph_core.specs.declared.vertex.Vertex.{Vertex}
 use Rattle.graph_core.specs.declared.graph.VertexId.{VertexId}
 use Rattle.graph_core.specs.Arena.{Arena, IsArena, AreVerticesOf, digraph_of}
 use Rattle.graph_core.specs.Digraph.{IsAcyclic}

@@ -3,6 +3,7 @@ pub mod Scan
 pub mod Best
 pub mod Going
 pub mod Counters
+pub mod Lowered
 pub mod Least
 pub mod Walking
 pub mod WayVertices

@@ -1,6 +1,7 @@
 #![tactic(auto)]
 //! Orders of a graph.
 
+mod counting;
 pub mod laws;
 mod left;
 mod ready;

@@ -1,8 +1,9 @@
-//! The vertices that are ready, by one flag for each id.
+//! The vertices that are ready, by one flag and one counter for each id.
 
-ghost use Rattle.std.specs.Prelude.{◌≡◌, ◌<◌, ◌↔◌, ◌⊎◌, length, IsTrue, MatchOption};
+ghost use Rattle.std.specs.Prelude.{◌≡◌, ◌<◌, ◌↔◌, ◌⊎◌, false, length, get_or, IsTrue, MatchOption};
 ghost use Rattle.topo_order.specs.ReadyOrder.{GoesFirst};
-ghost use Rattle.topo_order.specs.Flags.{IsReadyAt, IsNextAt, vertex_of};
+ghost use Rattle.topo_order.specs.Flags.{IsReadyAt, IsNextAt, is_flagged, vertex_of};
+ghost use Rattle.topo_order.specs.Waiting.{AreCounters};
 
 use graph_core::{Graph, Vertex, VertexId};
 
@@ -21,23 +22,13 @@ pub fn goes_first(v: Vertex, u: Vertex) -> bool
     }
 }
 
-/// Whether a vertex is not taken, and all that have an edge to it are.
-pub fn is_ready(graph: &Graph, taken: &[bool], v: VertexId) -> bool
-    requires flags { length taken.now ≡ length graph.now.vertices }
-    requires there { v.number < length graph.now.vertices }
-    ensures { IsTrue result ↔ IsReadyAt graph.now taken.now v }
+/// Whether an id is not taken, and waits for nothing.
+fn is_ready(taken: &[bool], counters: &[u32], v: VertexId) -> bool
+    requires flags { v.number < length taken.now }
+    requires counters { v.number < length counters.now }
+    ensures { IsTrue result ↔ ((is_flagged taken.now v ≡ false) × (get_or counters.now v.number 0 ≡ 0)) }
 {
-    let _count = graph.len();
-    if taken[v.number as usize] {
-        return false;
-    }
-    let mut edges = graph.before(v);
-    while let Some((from, _)) = edges.next() {
-        if !taken[from.number as usize] {
-            return false;
-        }
-    }
-    true
+    !taken[v.number as usize] && counters[v.number as usize] == 0
 }
 
 /// Of a vertex and another, if there is one, the one that goes first.
@@ -61,15 +52,16 @@ fn better(graph: &Graph, best: Option<VertexId>, v: VertexId) -> VertexId
 }
 
 /// The ready vertex that goes first, if one is ready.
-pub fn first_ready(graph: &Graph, taken: &[bool]) -> Option<VertexId>
-    requires { length taken.now ≡ length graph.now.vertices }
+pub fn first_ready(graph: &Graph, taken: &[bool], counters: &[u32]) -> Option<VertexId>
+    requires flags { length taken.now ≡ length graph.now.vertices }
+    requires counters { AreCounters graph.now taken.now counters.now }
     ensures some { MatchOption result (length taken.now ≡ length taken.now) (λ v. IsNextAt graph.now taken.now v) }
     ensures none { MatchOption result ((u : VertexId) → u.number < length graph.now.vertices → ¬ IsReadyAt graph.now taken.now u) (λ v. length taken.now ≡ length taken.now) }
 {
     let mut best = None;
     for i in 0..graph.len() {
         let v = VertexId { number: i as u32 };
-        if is_ready(graph, taken, v) {
+        if is_ready(taken, counters, v) {
             best = Some(better(graph, best, v));
         }
     }

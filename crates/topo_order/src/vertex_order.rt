@@ -8,6 +8,7 @@ ghost use Rattle.topo_order.specs.OrderOf.{IsOrderOf, IfCycle};
 ghost use Rattle.topo_order.specs.GivenCycle.{IsGivenCycle};
 ghost use Rattle.topo_order.specs.declared.vertex_order.OrderFault.TheVariants.{Memory};
 
+use crate::counting::{count_down, first_counters};
 use crate::left::least_left;
 use crate::ready::first_ready;
 use crate::ring::given_cycle;
@@ -124,9 +125,11 @@ pub fn order(alloc: Global, graph: &Graph) -> Result<VertexOrder, OrderFault>
     ensures cycle { IfCycle result (λ cycle. IsCycle (digraph_of graph.now) cycle) }
 {
     let mut taken = vec![in alloc; false; graph.len()]?;
+    let mut counters = first_counters(alloc, graph)?;
     let mut ids = VertexOrder::new(alloc);
-    while let Some(v) = first_ready(graph, &taken) {
+    while let Some(v) = first_ready(graph, &taken, &counters) {
         taken[v.number as usize] = true;
+        count_down(graph, &mut counters, v);
         ids.push(v)?;
     }
     match least_left(graph, &taken) {
