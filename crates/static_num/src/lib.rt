@@ -1,0 +1,13 @@
+#![tactic(auto)]
+//! Values of static expressions, and angles.
+
+pub mod angles;
+mod fraction;
+pub mod statics;
+#[cfg(test)]
+mod tests;
+pub mod values;
+
+pub use angles::{angle, AngleFault};
+pub use statics::Statics;
+pub use values::{eval, StaticFault};
