@@ -4,9 +4,9 @@ ghost use Rattle.std.specs.Prelude.{◌≡◌, ◌<◌, length, IfOk};
 ghost use Rattle.silq_tree.specs.Arena.{expr_at};
 ghost use Rattle.static_num.specs.Angle.{is_turn, fraction, turn_of, number_turn_of, angle_of};
 
-use crate::fraction::{eighths_at, scale, shrink, Fraction};
+use crate::fraction::{Fraction, eighths_at, scale, shrink};
 use crate::statics::Statics;
-use crate::values::{is_static_at, value_at, StaticFault};
+use crate::values::{StaticFault, is_static_at, value_at};
 use silq_tree::node::{BinaryOp, Expr, ExprId, UnaryOp};
 use silq_tree::tree::Tree;
 
@@ -27,17 +27,29 @@ fn is_turn_at(tree: &Tree, e: ExprId, statics: &Statics) -> bool
 {
     match tree.expr(e) {
         Expr::Pi { .. } => true,
-        Expr::Unary { op: UnaryOp::Neg, arg, .. } => is_turn_at(tree, *arg, statics),
-        Expr::Binary { op: BinaryOp::Mul, left, right, .. } => {
+        Expr::Unary {
+            op: UnaryOp::Neg,
+            arg,
+            ..
+        } => is_turn_at(tree, *arg, statics),
+        Expr::Binary {
+            op: BinaryOp::Mul,
+            left,
+            right,
+            ..
+        } => {
             if is_static_at(tree, *left, statics) {
                 is_turn_at(tree, *right, statics)
             } else {
                 is_turn_at(tree, *left, statics) && is_static_at(tree, *right, statics)
             }
         }
-        Expr::Binary { op: BinaryOp::Div, left, right, .. } => {
-            is_turn_at(tree, *left, statics) && is_static_at(tree, *right, statics)
-        }
+        Expr::Binary {
+            op: BinaryOp::Div,
+            left,
+            right,
+            ..
+        } => { is_turn_at(tree, *left, statics) && is_static_at(tree, *right, statics) }
         _ => false,
     }
 }
@@ -50,12 +62,25 @@ fn fraction_at(tree: &Tree, e: ExprId, statics: &Statics) -> Result<Fraction, St
     ensures positive { IfOk result (λ f. 0 < f.bottom) }
 {
     match tree.expr(e) {
-        Expr::Pi { .. } => Ok(Fraction { negative: false, top: 1, bottom: 1 }),
-        Expr::Unary { op: UnaryOp::Neg, arg, .. } => {
+        Expr::Pi { .. } => Ok(Fraction {
+            negative: false,
+            top: 1,
+            bottom: 1,
+        }),
+        Expr::Unary {
+            op: UnaryOp::Neg,
+            arg,
+            ..
+        } => {
             let f = fraction_at(tree, *arg, statics)?;
             scale(f, -1)
         }
-        Expr::Binary { op: BinaryOp::Mul, left, right, .. } => {
+        Expr::Binary {
+            op: BinaryOp::Mul,
+            left,
+            right,
+            ..
+        } => {
             if is_static_at(tree, *left, statics) {
                 let s = value_at(tree, *left, statics)?;
                 let f = fraction_at(tree, *right, statics)?;
@@ -66,7 +91,12 @@ fn fraction_at(tree: &Tree, e: ExprId, statics: &Statics) -> Result<Fraction, St
                 scale(f, s)
             }
         }
-        Expr::Binary { op: BinaryOp::Div, left, right, .. } => {
+        Expr::Binary {
+            op: BinaryOp::Div,
+            left,
+            right,
+            ..
+        } => {
             let f = fraction_at(tree, *left, statics)?;
             let s = value_at(tree, *right, statics)?;
             shrink(f, s)

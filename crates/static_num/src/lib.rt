@@ -8,6 +8,6 @@ pub mod statics;
 mod tests;
 pub mod values;
 
-pub use angles::{angle, AngleFault};
+pub use angles::{AngleFault, angle};
 pub use statics::Statics;
-pub use values::{eval, StaticFault};
+pub use values::{StaticFault, eval};
