@@ -1,6 +1,7 @@
 -- Angles: fractions of pi in lowest terms, and the eighths of a turn that they are.
 use Rattle.std.specs.Ordering.{int_eq}
-use Rattle.std.specs.Prelude.{ℕ, zero, suc, ◌+◌, ◌-◌, ◌*◌, ◌/◌, ◌%◌, ◌^◌, nat_lt, Bool, true, false, not, ◌&&◌, ◌||◌, ◌==◌, cond, if◌then◌else◌, List, Result, Ok, Err, ℤ, pos, negsuc, unsigned_abs}
+use Rattle.std.specs.Int.{IsGcd}
+use Rattle.std.specs.Prelude.{ℕ, zero, suc, ◌<◌, ◌+◌, ◌-◌, ◌*◌, ◌/◌, ◌%◌, ◌^◌, nat_lt, Bool, true, false, not, ◌&&◌, ◌||◌, ◌==◌, cond, if◌then◌else◌, List, Result, Ok, Err, ℤ, pos, negsuc, unsigned_abs}
 use Rattle.silq_tree.specs.declared.node.NameId.{NameId}
 use Rattle.silq_tree.specs.declared.node.UnaryOp.TheVariants.{Neg}
 use Rattle.silq_tree.specs.declared.node.BinaryOp.TheVariants.{Mul, Div}
@@ -32,6 +33,10 @@ bounded negative top bottom = if fits negative top bottom then Ok (record { nega
 -- a fraction in lowest terms
 abbrev pub lowest : Bool → ℕ → ℕ → Result Fraction StaticFault
 lowest negative top bottom = bounded negative (top / greatest_divisor top bottom) (bottom / greatest_divisor top bottom)
+
+-- in lowest terms, with a denominator above 0
+abbrev pub IsLowest : Fraction → Type 0
+IsLowest f = IsGcd f.top f.bottom 1 × (0 < f.bottom)
 
 -- the sign of a product or a quotient
 abbrev pub with_sign : Bool → ℤ → Bool

@@ -1,7 +1,10 @@
 //! Angles.
 
-ghost use Rattle.std.specs.Prelude.{◌≡◌, ◌<◌, length, IfOk};
+ghost use Rattle.std.specs.Prelude.{◌≡◌, ◌<◌, ◌↔◌, ◌||◌, false, Err, length, IfOk};
 ghost use Rattle.silq_tree.specs.Arena.{expr_at};
+ghost use Rattle.static_num.specs.declared.values.StaticFault.TheVariants.{NotStatic};
+ghost use Rattle.static_num.specs.declared.angles.AngleFault.TheVariants.{Static};
+ghost use Rattle.static_num.specs.Static.{is_static};
 ghost use Rattle.static_num.specs.Angle.{is_turn, fraction, turn_of, number_turn_of, angle_of};
 
 use crate::fraction::{Fraction, eighths_at, scale, shrink};
@@ -133,7 +136,9 @@ fn number_turn(tree: &Tree, e: ExprId, statics: &Statics) -> Result<u8, AngleFau
 /// An angle is `pi`, `-A`, `s * A`, `A * s` or `A / s` with an angle A and a static s, or a static expression. With `pi` it is a fraction of pi, kept in lowest terms; an operation after which its numerator or denominator is outside the range of 64 bits overflows. Takes no memory.
 pub fn angle(tree: &Tree, e: ExprId, statics: &Statics) -> Result<u8, AngleFault>
     requires { e.number < length tree.now.exprs }
-    ensures { result ≡ angle_of statics.now (expr_at tree.now e) }
+    ensures value { result ≡ angle_of statics.now (expr_at tree.now e) }
+    ensures not_static { (result ≡ Err (Static NotStatic)) ↔ ((is_static statics.now (expr_at tree.now e) || is_turn statics.now (expr_at tree.now e)) ≡ false) }
+    ensures turn { IfOk result (λ k. k < 8) }
 {
     if is_static_at(tree, e, statics) {
         number_turn(tree, e, statics)

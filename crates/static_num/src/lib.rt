@@ -3,6 +3,7 @@
 
 pub mod angles;
 mod fraction;
+pub mod laws;
 pub mod statics;
 #[cfg(test)]
 mod tests;

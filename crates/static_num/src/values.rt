@@ -1,8 +1,9 @@
 //! Values of static expressions.
 
-ghost use Rattle.std.specs.Prelude.{◌≡◌, ◌<◌, None, length};
+ghost use Rattle.std.specs.Prelude.{◌≡◌, ◌<◌, ◌↔◌, false, None, Err, length};
 ghost use Rattle.silq_tree.specs.Arena.{expr_at};
 ghost use Rattle.static_num.specs.Static.{value_of_name, is_static, value, eval_of, applied, joined};
+ghost use Rattle.static_num.specs.declared.values.StaticFault.TheVariants.{NotStatic};
 
 use crate::statics::Statics;
 use silq_tree::node::{BinaryOp, Expr, ExprId, NameId, UnaryOp};
@@ -34,7 +35,7 @@ fn value_of(pairs: &[(NameId, i64)], name: NameId) -> Option<i64>
 
 /// Whether an expression is static.
 #[tactic(auto, unfolding(crate::specs::Static::is_static), using(silq_tree::proofs::Lists::ids))]
-pub fn is_static_at(tree: &Tree, e: ExprId, statics: &Statics) -> bool
+pub(crate) fn is_static_at(tree: &Tree, e: ExprId, statics: &Statics) -> bool
     requires { e.number < length tree.now.exprs }
     ensures { result ≡ is_static statics.now (expr_at tree.now e) }
 {
@@ -92,7 +93,7 @@ fn join(op: BinaryOp, x: i64, y: i64) -> Result<i64, StaticFault>
 
 /// The value of an expression that is static, or its first failing operation in walk order.
 #[tactic(auto, unfolding(crate::specs::Static::value), using(silq_tree::proofs::Lists::ids))]
-pub fn value_at(tree: &Tree, e: ExprId, statics: &Statics) -> Result<i64, StaticFault>
+pub(crate) fn value_at(tree: &Tree, e: ExprId, statics: &Statics) -> Result<i64, StaticFault>
     requires { e.number < length tree.now.exprs }
     ensures { result ≡ value statics.now (expr_at tree.now e) }
 {
@@ -132,10 +133,11 @@ pub fn value_at(tree: &Tree, e: ExprId, statics: &Statics) -> Result<i64, Static
 
 /// The value of a static expression.
 ///
-/// One that is not static is told before each failing operation. Both sides of `&&` and `||` are computed. Takes no memory.
+/// `NotStatic` comes exactly where it is not static, before each failing operation. Both sides of `&&` and `||` are computed. Takes no memory.
 pub fn eval(tree: &Tree, e: ExprId, statics: &Statics) -> Result<i64, StaticFault>
     requires { e.number < length tree.now.exprs }
-    ensures { result ≡ eval_of statics.now (expr_at tree.now e) }
+    ensures value { result ≡ eval_of statics.now (expr_at tree.now e) }
+    ensures not_static { (result ≡ Err NotStatic) ↔ (is_static statics.now (expr_at tree.now e) ≡ false) }
 {
     if is_static_at(tree, e, statics) {
         value_at(tree, e, statics)
