@@ -1,5 +1,5 @@
 -- A static expression has a value or a failing operation, and so has an angle with `pi`.
-use Rattle.std.proofs.Common.{◌≡◌, ℤ, pos, negsuc, ℕ, Bool, true, false, Option, Some, None, Result, Ok, Err, List, refl, ap}
+use Rattle.std.proofs.Common.{◌≡◌, ℤ, pos, negsuc, Bool, true, false, Option, Some, None, Result, Ok, Err, List, refl}
 use Rattle.std.specs.Prelude.{◌^◌, ◌&&◌, ◌↔◌, if◌then◌else◌, is_some, nat_lt, int_div}
 use Rattle.std.specs.Ordering.{int_eq}
 use Rattle.silq_tree.specs.declared.node.NameId.{NameId}

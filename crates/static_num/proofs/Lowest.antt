@@ -1,5 +1,5 @@
 -- The fraction that an angle is has lowest terms.
-use Rattle.std.proofs.Common.{◌≡◌, ℕ, zero, suc, ◌*◌, ◌/◌, ◌<◌, ℤ, negsuc, Bool, true, false, Result, Ok, Err, List, refl, sym, arith}
+use Rattle.std.proofs.Common.{◌≡◌, ℕ, zero, suc, ◌*◌, ◌/◌, ◌<◌, ℤ, negsuc, Bool, true, false, Result, Ok, Err, List, refl, arith}
 use Rattle.std.specs.Prelude.{IfOk, if◌then◌else◌, unsigned_abs, pos}
 use Rattle.std.specs.Int.{IsGcd}
 use Rattle.std.specs.Ordering.{int_eq}
@@ -12,17 +12,20 @@ use Rattle.static_num.specs.declared.values.StaticFault.{StaticFault}
 use Rattle.static_num.specs.declared.values.StaticFault.TheVariants.{Overflow, ZeroDivisor}
 use Rattle.static_num.specs.declared.fraction.Fraction.{Fraction}
 use Rattle.static_num.specs.Static.{is_static, value, ◌>>=◌}
-use Rattle.static_num.specs.Angle.{greatest_divisor, bounded, fits, lowest, IsLowest, with_sign, scaled, shrunk, fraction}
+use Rattle.static_num.specs.Angle.{greatest_divisor, fits, lowest, IsLowest, with_sign, scaled, shrunk, fraction}
 use Rattle.static_num.proofs.Euclid.{is_greatest, quotient_above}
 
 -- divided by their greatest common divisor, two numbers have none but 1
 reduced : (a b g : ℕ) → 0 < b → IsGcd a b g → IsGcd (a / g) (b / g) 1
 reduced a b g p h =
-    let some : 0 < g = pos_of_dvd_of_pos h.1 p in
-    (one-dvd (a / g), one-dvd (b / g), λ d q r.
-        let left = rw (mul-div_cancel' g h.0) at (mul-dvd-mul_left d g q) in
-        let right = rw (mul-div_cancel' g h.1) at (mul-dvd-mul_left d g r) in
-        dvd_of_mul-dvd-mul_left d some (rw (mul-one g) (h.2 (g * d) left right)))
+    let some : 0 < g = pos_of_dvd_of_pos h.1 p in (
+      one-dvd (a / g),
+      one-dvd (b / g),
+      λ d q r.
+          let left = rw (mul-div_cancel' g h.0) at (mul-dvd-mul_left d g q) in
+          let right = rw (mul-div_cancel' g h.1) at (mul-dvd-mul_left d g r) in
+          dvd_of_mul-dvd-mul_left d some (rw (mul-one g) (h.2 (g * d) left right)),
+    )
 
 within : (b : Bool) (f : Fraction) → IsLowest f → IfOk (if b then Ok f else Err Overflow) IsLowest
 within true f p = p

@@ -1,5 +1,5 @@
 -- A checked operation gives a value in range.
-use Rattle.std.proofs.Common.{◌≡◌, ℕ, zero, suc, false, ◌^◌, ◌<◌, ℤ, pos, negsuc, Option, Some, None, Ok, Err, refl, arith, w64}
+use Rattle.std.proofs.Common.{◌≡◌, zero, suc, false, ℤ, pos, negsuc, Option, Some, None, Err, arith, w64}
 use Rattle.std.specs.Prelude.{SomeIff, FitsSigned, int_div, if◌then◌else◌}
 use Rattle.std.specs.Int.{CanDivide, IsNonZero}
 use Rattle.std.specs.Ordering.{int_eq}
@@ -7,7 +7,6 @@ use Rattle.std.specs.Option.{ok_or}
 use Rattle.std.proofs.lemmas.Int.{ints}
 use Rattle.std.proofs.lemmas.Grind.{common_steps}
 use Rattle.static_num.specs.Static.{in_range}
-use Rattle.static_num.specs.declared.values.StaticFault.{StaticFault}
 use Rattle.static_num.specs.declared.values.StaticFault.TheVariants.{Overflow, ZeroDivisor}
 
 pub checked : (o : Option ℤ) (z : ℤ) → SomeIff o (FitsSigned w64 z) z → ok_or o Overflow ≡ in_range z

@@ -1,5 +1,5 @@
 -- An angle has eighths of a turn or a fault of its own.
-use Rattle.std.proofs.Common.{◌≡◌, ℕ, zero, suc, ◌<◌, ◌*◌, ◌/◌, ◌%◌, ◌==◌, ℤ, pos, negsuc, Bool, true, false, Result, Ok, Err, List, refl, arith}
+use Rattle.std.proofs.Common.{◌≡◌, ℕ, ◌*◌, ◌/◌, ◌%◌, ◌==◌, ℤ, pos, negsuc, Bool, true, false, Result, Ok, Err, List, refl}
 use Rattle.std.specs.Prelude.{◌&&◌, ◌||◌, ◌↔◌, if◌then◌else◌, unsigned_abs}
 use Rattle.std.specs.Ordering.{int_eq}
 use Rattle.silq_tree.specs.declared.node.NameId.{NameId}
@@ -78,11 +78,13 @@ right_holds true b p h = cc
 right_holds false b p h = cc
 
 pub number_told : (statics : List (NameId × ℤ)) (e : Expression) → is_static statics e ≡ true → (number_turn_of statics e ≡ Err (Static NotStatic)) ↔ ((is_static statics e || is_turn statics e) ≡ false)
-number_told statics e s =
-    (λ h. absurd (fault_told (value statics e) number_eighths (static_told statics e s) (λ z. eighth_told (int_eq z (pos 0)) 0) h),
-     λ h. absurd (left_holds (is_static statics e) (is_turn statics e) s h))
+number_told statics e s = (
+  λ h. absurd (fault_told (value statics e) number_eighths (static_told statics e s) (λ z. eighth_told (int_eq z (pos 0)) 0) h),
+  λ h. absurd (left_holds (is_static statics e) (is_turn statics e) s h),
+)
 
 pub fraction_told : (statics : List (NameId × ℤ)) (e : Expression) → is_turn statics e ≡ true → (turn_of statics e ≡ Err (Static NotStatic)) ↔ ((is_static statics e || is_turn statics e) ≡ false)
-fraction_told statics e t =
-    (λ h. absurd (fault_told (fraction statics e) eighths (turn_told statics e t) (λ f. eighth_told ((4 * f.top) % f.bottom == 0) (turned f.negative (4 * f.top / f.bottom))) h),
-     λ h. absurd (right_holds (is_static statics e) (is_turn statics e) t h))
+fraction_told statics e t = (
+  λ h. absurd (fault_told (fraction statics e) eighths (turn_told statics e t) (λ f. eighth_told ((4 * f.top) % f.bottom == 0) (turned f.negative (4 * f.top / f.bottom))) h),
+  λ h. absurd (right_holds (is_static statics e) (is_turn statics e) t h),
+)

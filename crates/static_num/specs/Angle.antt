@@ -1,7 +1,7 @@
 -- Angles: fractions of pi in lowest terms, and the eighths of a turn that they are.
 use Rattle.std.specs.Ordering.{int_eq}
 use Rattle.std.specs.Int.{IsGcd}
-use Rattle.std.specs.Prelude.{ℕ, zero, suc, ◌<◌, ◌+◌, ◌-◌, ◌*◌, ◌/◌, ◌%◌, ◌^◌, nat_lt, Bool, true, false, not, ◌&&◌, ◌||◌, ◌==◌, cond, if◌then◌else◌, List, Result, Ok, Err, ℤ, pos, negsuc, unsigned_abs}
+use Rattle.std.specs.Prelude.{ℕ, zero, suc, ◌<◌, ◌+◌, ◌-◌, ◌*◌, ◌/◌, ◌%◌, ◌^◌, nat_lt, Bool, true, false, not, ◌&&◌, ◌==◌, cond, if◌then◌else◌, List, Result, Ok, Err, ℤ, pos, negsuc, unsigned_abs}
 use Rattle.silq_tree.specs.declared.node.NameId.{NameId}
 use Rattle.silq_tree.specs.declared.node.UnaryOp.TheVariants.{Neg}
 use Rattle.silq_tree.specs.declared.node.BinaryOp.TheVariants.{Mul, Div}
@@ -11,7 +11,7 @@ use Rattle.static_num.specs.declared.values.StaticFault.TheVariants.{NotStatic, 
 use Rattle.static_num.specs.declared.angles.AngleFault.{AngleFault}
 use Rattle.static_num.specs.declared.angles.AngleFault.TheVariants.{NotEighth, Static}
 use Rattle.static_num.specs.declared.fraction.Fraction.{Fraction}
-use Rattle.static_num.specs.Static.{is_static, value, is_true, ◌>>=◌}
+use Rattle.static_num.specs.Static.{is_static, value, ◌>>=◌}
 
 -- the greatest common divisor, by at most so many divisions with a remainder
 unfoldable pub divisor : ℕ → ℕ → ℕ → ℕ

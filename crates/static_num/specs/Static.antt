@@ -1,6 +1,6 @@
 -- The value of a static expression.
 use Rattle.std.specs.Ordering.{int_eq}
-use Rattle.std.specs.Prelude.{ℕ, ◌^◌, nat_lt, if◌then◌else◌, ◌||◌, ℤ, pos, negsuc, ◌+ℤ◌, ◌-ℤ◌, ◌*ℤ◌, neg_ℤ, int_div, int_lt, int_le, Bool, true, false, ◌&&◌, not, cond, ◌==◌, List, [], ◌∷◌, Option, Some, None, is_some, Result, Ok, Err}
+use Rattle.std.specs.Prelude.{◌^◌, nat_lt, if◌then◌else◌, ◌||◌, ℤ, pos, negsuc, ◌+ℤ◌, ◌-ℤ◌, ◌*ℤ◌, neg_ℤ, int_div, int_lt, int_le, Bool, true, false, ◌&&◌, not, cond, ◌==◌, List, [], ◌∷◌, Option, Some, None, is_some, Result, Ok, Err}
 use Rattle.silq_tree.specs.declared.node.NameId.{NameId}
 use Rattle.silq_tree.specs.declared.node.UnaryOp.{UnaryOp}
 use Rattle.silq_tree.specs.declared.node.UnaryOp.TheVariants.{Not, Neg}

@@ -1,6 +1,4 @@
-use Rattle.std.proofs.Common.{◌≡◌, ◌<◌, ◌∙◌, sym, arith}
-use Rattle.std.specs.Int.{IsGcd}
-use Rattle.static_num.specs.Angle.{greatest_divisor}
+use Rattle.std.proofs.Common.{◌∙◌, sym, arith}
 use Rattle.static_num.proofs.Euclid.{euclid_step, euclid_end, is_greatest, is_above}
 use Rattle.static_num.proofs.fraction.common_divisor.Goals as goal
 

@@ -1,4 +1,3 @@
-use Rattle.std.proofs.Common.{◌≡◌, ◌<◌, ◌/◌, IfOk}
 use Rattle.static_num.proofs.Euclid.{quotient_above, bounded_above}
 use Rattle.static_num.proofs.fraction.reduce.Goals as goal
 

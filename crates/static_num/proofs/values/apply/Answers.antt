@@ -1,4 +1,4 @@
-use Rattle.std.proofs.Common.{◌≡◌, ◌∙◌, to_z-of_z, SFits, w64}
+use Rattle.std.proofs.Common.{◌∙◌, to_z-of_z, SFits, w64}
 use Rattle.static_num.proofs.Range.{checked}
 use Rattle.static_num.proofs.values.apply.Goals as goal
 

@@ -1,4 +1,4 @@
-use Rattle.std.proofs.Common.{◌≡◌, ◌<◌, ◌∙◌, to_z-of_z, SFits, w64, arith}
+use Rattle.std.proofs.Common.{◌∙◌, to_z-of_z, SFits, w64, arith}
 use Rattle.std.specs.Int.{IsNonZero}
 use Rattle.static_num.proofs.Range.{checked, divided}
 use Rattle.static_num.proofs.values.join.Goals as goal
