@@ -17,10 +17,21 @@ use silq_io::{Failed, MemSink, Sink};
 use std::alloc::{AllocError, Global};
 use std::test::Fail;
 
-// The moves of a form, their width, the wires of the parameters and of the results, each in a list of its own, and the
-// text that is wanted.
+// The forms of which a text is written.
+#[derive(Clone, Copy)]
+enum Form {
+    XorOfAnds,
+    HadamardAfterUncopy,
+    TwoAnds,
+    Teleportation,
+    ControlledHadamards,
+}
+
+// A form, its moves, their width, the wires of the parameters and of the results, each in a list of its own, and the text
+// that is wanted.
 #[derive(Clone, Copy)]
 struct Row<'a> {
+    form: Form,
     moves: &'a str,
     width: u32,
     ins: &'a [u32],
@@ -29,6 +40,7 @@ struct Row<'a> {
 }
 
 const XOR_OF_ANDS: Row<'static> = Row {
+    form: Form::XorOfAnds,
     moves: "up0 up1 do2 down1 down0",
     width: 6,
     ins: &[0, 1, 2, 3],
@@ -53,6 +65,7 @@ ccx q[0],q[1],q[4];
 };
 
 const HADAMARD_AFTER_UNCOPY: Row<'static> = Row {
+    form: Form::HadamardAfterUncopy,
     moves: "up0 do2 down0 do1",
     width: 3,
     ins: &[0, 1],
@@ -72,6 +85,7 @@ h q[0];
 };
 
 const TWO_ANDS: Row<'static> = Row {
+    form: Form::TwoAnds,
     moves: "up0 up1 do2 do3 down1 do4 down0",
     width: 7,
     ins: &[0, 1, 2, 3, 4],
@@ -100,6 +114,7 @@ ccx q[0],q[1],q[5];
 };
 
 const RECOMPUTED: Row<'static> = Row {
+    form: Form::TwoAnds,
     moves: "up0 do2 down0 up1 do3 down1 up0 do4 down0",
     width: 6,
     ins: &[0, 1, 2, 3, 4],
@@ -130,6 +145,7 @@ ccx q[0],q[1],q[5];
 };
 
 const TELEPORTATION: Row<'static> = Row {
+    form: Form::Teleportation,
     moves: "do0 do1 do2 do3 do4 do5 do6 free1 up7 do8 down7 free0",
     width: 3,
     ins: &[0],
@@ -157,6 +173,7 @@ if (m0==1) x q[0];
 };
 
 const CONTROLLED_HADAMARDS: Row<'static> = Row {
+    form: Form::ControlledHadamards,
     moves: "do0 do1",
     width: 2,
     ins: &[0, 1],
@@ -237,18 +254,29 @@ fn placed(
     })
 }
 
-// A form placed by a row, or nothing where the moves are not valid or have another width.
-fn placed_by(alloc: Global, flat: &Flat, row: &Row<'_>) -> Result<Option<PlacedForm>, TableFault> {
+fn form_of(alloc: Global, form: Form) -> Result<Flat, TableFault> {
+    match form {
+        Form::XorOfAnds => forms::xor_of_ands(alloc),
+        Form::HadamardAfterUncopy => forms::hadamard_after_uncopy(alloc),
+        Form::TwoAnds => forms::two_ands(alloc),
+        Form::Teleportation => forms::teleportation(alloc),
+        Form::ControlledHadamards => forms::controlled_hadamards(alloc),
+    }
+}
+
+// The placed form of a row, or nothing where the moves are not valid or have another width.
+fn placed_by(alloc: Global, row: &Row<'_>) -> Result<Option<PlacedForm>, TableFault> {
+    let flat = form_of(alloc, row.form)?;
     let list = words::moves(alloc, row.moves)?;
     let moves = list.as_slice();
-    let mut rows = Rows::new(alloc, flat)?;
+    let mut rows = Rows::new(alloc, &flat)?;
     if row.width > 100_000
-        || !rows.valid(flat, moves)
-        || rows.width(flat, moves) != row.width as usize
+        || !rows.valid(&flat, moves)
+        || rows.width(&flat, moves) != row.width as usize
     {
         return Ok(None);
     }
-    Ok(Some(placed(alloc, flat, moves, row)?))
+    Ok(Some(placed(alloc, &flat, moves, row)?))
 }
 
 // Writes the text of a placed form.
@@ -261,17 +289,17 @@ fn write<S: Sink>(out: &mut S, placed: &PlacedForm) -> Result<(), Failed> {
     writer.finish(&placed.outs)
 }
 
+// Whether the whole text of a row is written.
+fn is_written(alloc: Global, row: &Row<'_>) -> Result<bool, TableFault> {
+    let mut out = MemSink::new(alloc, 1_000, Vec::new(alloc))?;
+    let Some(placed) = placed_by(alloc, row)? else {
+        return Ok(false);
+    };
+    Ok(write(&mut out, &placed).is_ok() && out.bytes() == row.text.as_bytes())
+}
+
 #[test]
 fn whole_texts(rt: HostRuntime) -> Result<(), Fail> {
-    let alloc = rt.alloc();
-    let forms = [
-        forms::xor_of_ands(alloc)?,
-        forms::hadamard_after_uncopy(alloc)?,
-        forms::two_ands(alloc)?,
-        forms::two_ands(alloc)?,
-        forms::teleportation(alloc)?,
-        forms::controlled_hadamards(alloc)?,
-    ];
     let rows = [
         XOR_OF_ANDS,
         HADAMARD_AFTER_UNCOPY,
@@ -280,11 +308,8 @@ fn whole_texts(rt: HostRuntime) -> Result<(), Fail> {
         TELEPORTATION,
         CONTROLLED_HADAMARDS,
     ];
-    for (flat, row) in forms.iter().zip(rows.iter()) {
-        let mut out = MemSink::new(alloc, 1_000, Vec::new(alloc))?;
-        let wrote = placed_by(alloc, flat, row)?.map(|placed| write(&mut out, &placed));
-        assert_eq!(rt; wrote, Some(Ok(())));
-        assert_eq!(rt; out.bytes(), row.text.as_bytes());
+    for row in &rows {
+        assert!(rt; is_written(rt.alloc(), row)?, "{}", row.moves);
     }
     Ok(())
 }
@@ -306,21 +331,32 @@ impl<T: Sink> Sink for Slow<T> {
     }
 }
 
+// Writes to a sink of which the put with a number fails. It tells whether just the text before that put was written, and
+// the fault told.
+fn breaks_at(
+    alloc: Global,
+    placed: &PlacedForm,
+    text: &[u8],
+    put: usize,
+) -> Result<bool, AllocError> {
+    let fails = vec![in alloc; put as u64 + 1; 1]?;
+    let inner = MemSink::new(alloc, 1_000, fails)?;
+    let mut out = Slow { inner };
+    let wrote = write(&mut out, placed);
+    Ok(wrote == Err(Failed) && Some(out.inner.bytes()) == text.get(..put))
+}
+
 // Each put is of one byte, and each of them fails once.
 #[test]
 fn each_put_may_fail(rt: HostRuntime) -> Result<(), Fail> {
-    let alloc = rt.alloc();
     let row = HADAMARD_AFTER_UNCOPY;
-    let flat = forms::hadamard_after_uncopy(alloc)?;
-    let placed = placed_by(alloc, &flat, &row)?.unwrap();
     let text = row.text.as_bytes();
-    for put in 0..text.len() {
-        let fails = vec![in alloc; put as u64 + 1; 1]?;
-        let mut out = Slow {
-            inner: MemSink::new(alloc, 1_000, fails)?,
-        };
-        assert_eq!(rt; write(&mut out, &placed), Err(Failed));
-        assert_eq!(rt; out.inner.bytes(), &text[..put]);
+    let placed = placed_by(rt.alloc(), &row)?;
+    assert!(rt; placed.is_some());
+    if let Some(placed) = placed {
+        for put in 0..text.len() {
+            assert!(rt; breaks_at(rt.alloc(), &placed, text, put)?, "put {put}");
+        }
     }
     Ok(())
 }
