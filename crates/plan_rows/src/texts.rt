@@ -299,18 +299,38 @@ fn is_written(alloc: Global, row: &Row<'_>) -> Result<bool, TableFault> {
 }
 
 #[test]
-fn whole_texts(rt: HostRuntime) -> Result<(), Fail> {
-    let rows = [
-        XOR_OF_ANDS,
-        HADAMARD_AFTER_UNCOPY,
-        TWO_ANDS,
-        RECOMPUTED,
-        TELEPORTATION,
-        CONTROLLED_HADAMARDS,
-    ];
-    for row in &rows {
-        assert!(rt; is_written(rt.alloc(), row)?, "{}", row.moves);
-    }
+fn xor_of_ands(rt: HostRuntime) -> Result<(), Fail> {
+    assert!(rt; is_written(rt.alloc(), &XOR_OF_ANDS)?);
+    Ok(())
+}
+
+#[test]
+fn hadamard_after_uncopy(rt: HostRuntime) -> Result<(), Fail> {
+    assert!(rt; is_written(rt.alloc(), &HADAMARD_AFTER_UNCOPY)?);
+    Ok(())
+}
+
+#[test]
+fn two_ands(rt: HostRuntime) -> Result<(), Fail> {
+    assert!(rt; is_written(rt.alloc(), &TWO_ANDS)?);
+    Ok(())
+}
+
+#[test]
+fn recomputed(rt: HostRuntime) -> Result<(), Fail> {
+    assert!(rt; is_written(rt.alloc(), &RECOMPUTED)?);
+    Ok(())
+}
+
+#[test]
+fn teleportation(rt: HostRuntime) -> Result<(), Fail> {
+    assert!(rt; is_written(rt.alloc(), &TELEPORTATION)?);
+    Ok(())
+}
+
+#[test]
+fn controlled_hadamards(rt: HostRuntime) -> Result<(), Fail> {
+    assert!(rt; is_written(rt.alloc(), &CONTROLLED_HADAMARDS)?);
     Ok(())
 }
 
@@ -331,19 +351,13 @@ impl<T: Sink> Sink for Slow<T> {
     }
 }
 
-// Writes to a sink of which the put with a number fails. It tells whether just the text before that put was written, and
-// the fault told.
-fn breaks_at(
-    alloc: Global,
-    placed: &PlacedForm,
-    text: &[u8],
-    put: usize,
-) -> Result<bool, AllocError> {
-    let fails = vec![in alloc; put as u64 + 1; 1]?;
+// Whether just this front of the text is written, and the fault told, where the put behind it fails.
+fn breaks_behind(alloc: Global, placed: &PlacedForm, front: &[u8]) -> Result<bool, AllocError> {
+    let fails = vec![in alloc; front.len() as u64 + 1; 1]?;
     let inner = MemSink::new(alloc, 1_000, fails)?;
     let mut out = Slow { inner };
     let wrote = write(&mut out, placed);
-    Ok(wrote == Err(Failed) && Some(out.inner.bytes()) == text.get(..put))
+    Ok(wrote == Err(Failed) && out.inner.bytes() == front)
 }
 
 // Each put is of one byte, and each of them fails once.
@@ -355,7 +369,10 @@ fn each_put_may_fail(rt: HostRuntime) -> Result<(), Fail> {
     assert!(rt; placed.is_some());
     if let Some(placed) = placed {
         for put in 0..text.len() {
-            assert!(rt; breaks_at(rt.alloc(), &placed, text, put)?, "put {put}");
+            assert!(rt;
+                breaks_behind(rt.alloc(), &placed, &text[..put])?,
+                "put {put}"
+            );
         }
     }
     Ok(())

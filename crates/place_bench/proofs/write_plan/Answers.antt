@@ -8,16 +8,16 @@ use Rattle.plan_gates.proofs.Told.{placers_tell_lists, places_at_end}
 use Rattle.place_bench.proofs.write_plan.Goals as goal
 
 pub new-requires-clause-inputs : goal.new-requires-clause-inputs
-new-requires-clause-inputs c = inputs_fit c.args.flat.now c.args.moves.now c.args.width c.requires.fits
+new-requires-clause-inputs g c = inputs_fit c.args.flat.now c.args.moves.now c.args.width c.requires.fits
 
 pub qubit_lists-requires : goal.qubit_lists-requires
-qubit_lists-requires c =
+qubit_lists-requires g c =
     let e = c.in_ok-placer.ensures in
     subst (λ (lists : List (List WireId)). All (All (λ w. IsSome (qubit_told c.in_ok-placer.placer w))) lists) (sym c.ins.ensures)
     (placers_tell_lists.of_parameters c.args.flat.now c.in_ok-placer.placer c.steps-steps.ensures.sound e.going e.progress e.places).on_qubits
 
 pub loop-mv-init : goal.loop-mv-init
-loop-mv-init c =
+loop-mv-init g c =
     let e = c.in_ok-placer.ensures in
     record {
       made = e.made;
@@ -30,15 +30,15 @@ loop-mv-init c =
     }
 
 pub emit_next-row-requires-clause-stands : goal.emit_next-row-requires-clause-stands
-emit_next-row-requires-clause-stands c =
+emit_next-row-requires-clause-stands g c =
     (next_move c.args.flat.now _ c.args.moves.now c.loop-mv.mv-index _ _ c.loop-mv-test.true c.loop-mv.invariant.goes_on).stands
 
 pub emit_next-row-requires-clause-fits : goal.emit_next-row-requires-clause-fits
-emit_next-row-requires-clause-fits c =
+emit_next-row-requires-clause-fits g c =
     (next_move c.args.flat.now _ c.args.moves.now c.loop-mv.mv-index _ _ c.loop-mv-test.true c.loop-mv.invariant.goes_on).fits
 
 pub loop-mv-preserved : goal.loop-mv-preserved
-loop-mv-preserved c =
+loop-mv-preserved g c =
     let e = c.emit_next-row.ensures in
     let inv = c.loop-mv.invariant in
     record {
@@ -52,14 +52,14 @@ loop-mv-preserved c =
     }
 
 pub finish-requires-clause-fits : goal.finish-requires-clause-fits
-finish-requires-clause-fits c =
+finish-requires-clause-fits g c =
     let inv = c.loop-mv.invariant in
     end_fits c.args.flat.now (progress_of c.loop-mv.placer) c.args.moves.now c.args.width c.loop-mv.placer.width
     (last_leads c.args.flat.now _ inv.place c.args.moves.now c.loop-mv.mv-index _ _ c.loop-mv-test.false inv.leads).0
     inv.width c.requires.fits
 
 pub qubit_lists-requires-2 : goal.qubit_lists-requires-2
-qubit_lists-requires-2 c =
+qubit_lists-requires-2 g c =
     let inv = c.loop-mv.invariant in
     let last = last_leads c.args.flat.now _ inv.place c.args.moves.now c.loop-mv.mv-index _ _ c.loop-mv-test.false inv.leads in
     subst (λ (lists : List (List WireId)). All (All (λ w. IsSome (qubit_told c.finish.new.self w))) lists) (sym c.outs.ensures)

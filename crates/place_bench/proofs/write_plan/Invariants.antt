@@ -7,7 +7,7 @@ use Rattle.plan_gates.proofs.Loops.{GoesOn, LeadsTo}
 use Rattle.place_bench.proofs.write_plan.Given as goal
 
 abbrev pub invariant-loop-mv : goal.invariant-loop-mv
-invariant-loop-mv l = record {
+invariant-loop-mv g l = record {
   made : IsMadeFor l.flat l.placer;
   going : l.placer.finished ≡ false;
   width : l.placer.width ≡ l.width;
