@@ -146,3 +146,12 @@ pub fn every_kind(alloc: Global) -> Result<Flat, TableFault> {
         ],
     )
 }
+
+/// `if c { x := H(x); x := H(x); }`: c is wire 0 and x is wire 1.
+pub fn controlled_hadamards(alloc: Global) -> Result<Flat, TableFault> {
+    flat_of(
+        alloc,
+        &[input(Output), input(Output)],
+        &[at(1, hadamard(1, on(0))), at(1, hadamard(1, on(0)))],
+    )
+}

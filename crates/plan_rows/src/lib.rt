@@ -14,4 +14,6 @@ mod reads;
 #[cfg(test)]
 mod rows;
 #[cfg(test)]
+mod texts;
+#[cfg(test)]
 mod words;
