@@ -29,9 +29,9 @@ fn shown(alloc: Global, text: &str) -> Result<String, AllocError> {
 }
 
 /// Each text is answered so.
-fn check_rows(rt: &HostRuntime, rows: &[(&str, &str)]) -> Result<(), Fail> {
+fn check_rows(rt: &impl Abort, alloc: Global, rows: &[(&str, &str)]) -> Result<(), Fail> {
     for (text, want) in rows {
-        assert_eq!(rt; shown(rt.alloc(), text)?.as_str(), *want, "{text}");
+        assert_eq!(rt; shown(alloc, text)?.as_str(), *want, "{text}");
     }
     Ok(())
 }
@@ -40,6 +40,7 @@ fn check_rows(rt: &HostRuntime, rows: &[(&str, &str)]) -> Result<(), Fail> {
 fn programs(rt: HostRuntime) -> Result<(), Fail> {
     check_rows(
         &rt,
+        rt.alloc(),
         &[
             ("", "fine"),
             (" // nothing\n/* at all */", "fine"),
@@ -77,6 +78,7 @@ fn programs(rt: HostRuntime) -> Result<(), Fail> {
 fn headers(rt: HostRuntime) -> Result<(), Fail> {
     check_rows(
         &rt,
+        rt.alloc(),
         &[
             ("def", "1:4 form"),
             ("def main", "1:9 form"),
@@ -108,6 +110,7 @@ fn headers(rt: HostRuntime) -> Result<(), Fail> {
 fn statements(rt: HostRuntime) -> Result<(), Fail> {
     check_rows(
         &rt,
+        rt.alloc(),
         &[
             ("def f() { x }", "1:13 form"),
             ("def f() { x = 1; }", "1:13 form"),
@@ -139,6 +142,7 @@ fn statements(rt: HostRuntime) -> Result<(), Fail> {
 fn expressions(rt: HostRuntime) -> Result<(), Fail> {
     check_rows(
         &rt,
+        rt.alloc(),
         &[
             ("def f() { a := b == c == d; }", "1:23 form"),
             ("def f() { a := (b; }", "1:18 form"),
@@ -158,6 +162,7 @@ fn expressions(rt: HostRuntime) -> Result<(), Fail> {
 fn first_faults(rt: HostRuntime) -> Result<(), Fail> {
     check_rows(
         &rt,
+        rt.alloc(),
         &[
             ("def f() {\n  x := $;\n}", "2:8 character"),
             ("def f() { x := 9223372036854775808; }", "1:16 number"),
