@@ -25,8 +25,6 @@ mod statement;
 mod stop;
 mod target;
 mod terminal;
-#[cfg(test)]
-mod tests;
 mod tokens;
 mod types;
 
