@@ -1,0 +1,14 @@
+#![tactic(auto)]
+//! Values of static expressions, and angles.
+
+pub mod angles;
+mod fraction;
+pub mod laws;
+pub mod statics;
+#[cfg(test)]
+mod tests;
+pub mod values;
+
+pub use angles::{AngleFault, angle};
+pub use statics::Statics;
+pub use values::{StaticFault, eval};
