@@ -24,6 +24,9 @@ Statics = List (NameId × ℤ)
 abbrev pub value_of : Statics → NameId → Option ℤ
 value_of statics x = value_of_name statics x None
 
+abbrev pub same_name : NameId → NameId → Bool
+same_name x y = x.number == y.number
+
 -- ---- types
 
 abbrev pub single_shape : Scalar → Shape
@@ -149,6 +152,10 @@ size_names (Some e) = names e
 abbrev pub first_unknown : (NameId → Bool) → List (NameId × Spot) → Option Spot
 first_unknown known [] = None
 first_unknown known (n ∷ rest) = if known n.0 then first_unknown known rest else Some n.1
+
+abbrev pub count : Expressions → ℕ
+count none = 0
+count (more e es) = count es + 1
 
 -- the place of an expression's first token
 abbrev pub at : Expression → Spot

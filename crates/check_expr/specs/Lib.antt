@@ -1,0 +1,4 @@
+pub mod Walk
+pub mod Context
+pub mod Uses
+pub mod Expression
