@@ -14,7 +14,6 @@ use Rattle.silq_types.specs.declared.values.Var.{Var}
 use Rattle.silq_types.specs.declared.signature.InstanceKey.{InstanceKey}
 use Rattle.silq_types.specs.declared.signature.Signature.{Signature}
 use Rattle.silq_types.specs.Rules.{Fault, rule, unknown_name}
-use Rattle.silq_types.specs.Known.{all_equal}
 use Rattle.silq_types.specs.Types.{Statics, value_of, same_name, single_shape, first_unknown, names, needed_at, at}
 use Rattle.check_expr.specs.Walk.{Walk, answer, broken, counted, asked, bind}
 
@@ -106,8 +105,13 @@ is_prefix (a ∷ rest) (b ∷ bs) = int_eq a b && is_prefix rest bs
 abbrev pub overlaps : Part → Part → Bool
 overlaps p q = same_name p.name q.name && (is_prefix (indices p) (indices q) || is_prefix (indices q) (indices p))
 
+abbrev pub same_index : Option ℤ → Option ℤ → Bool
+same_index None None = true
+same_index (Some i) (Some j) = int_eq i j
+same_index _ _ = false
+
 abbrev pub same_part : Part → Part → Bool
-same_part p q = same_name p.name q.name && all_equal (indices p) (indices q)
+same_part p q = same_name p.name q.name && (same_index p.first q.first && same_index p.second q.second)
 
 abbrev pub overlaps_any : List Part → Part → Bool
 overlaps_any [] p = false

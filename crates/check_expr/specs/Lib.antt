@@ -2,3 +2,5 @@ pub mod Walk
 pub mod Context
 pub mod Uses
 pub mod Expression
+pub mod Reading
+pub mod Owners

@@ -1,0 +1,4 @@
+pub mod Alike
+pub mod Quiet
+pub mod Readings
+pub mod Owners
