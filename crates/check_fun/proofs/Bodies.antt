@@ -4,7 +4,7 @@ use mathlib.Core.Path.{sym, ap, ◌∙◌, subst}
 use native.Mathlib.Omega.{arith}
 use Rattle.std.proofs.lemmas.Bool.{eqb-true, eq-eqb}
 use Rattle.check_expr.proofs.Alike.{some_same, same_key_same}
-use Rattle.check_expr.proofs.Owners.{gives-bind, o_bind, o_then, o_back, o_fail, o_rules}
+use Rattle.check_expr.proofs.Owners.{gives-bind, o_bind, o_then, o_back, o_fail, o_rules, o_from}
 use Rattle.check_expr.specs.Context.{BuiltIn, Scope, Context, ◌>>◌}
 use Rattle.check_expr.specs.Expression.{paired}
 use Rattle.check_expr.specs.Owners.{owners, owned, Sole, Proper, ProperFor, Gives, Ensures, fun_at, IsProper, AreProper}
@@ -14,9 +14,9 @@ use Rattle.check_fun.proofs.Blocks.{Z, s_stmt, s_returned, s_end_from, s_count}
 use Rattle.check_fun.proofs.Given.{returned-proper}
 use Rattle.check_fun.proofs.Growth.{ok_inside, ok_same, met_known}
 use Rattle.check_fun.specs.Program.{param_vars, instance_walk, kept, check_one, instances}
-use Rattle.check_fun.specs.Statement.{stmt, whole_body, results_or_fault, end_from, ended_with}
+use Rattle.check_fun.specs.Statement.{stmt, body, whole_body, results_or_fault, end_from, ended_with}
 use Rattle.silq_io.specs.declared.limit.LimitKind.TheVariants.{Walked}
-use Rattle.silq_tree.specs.Syntax.{Function, Parameter, Statement, assign, spread, update, forget, forget_value, phase, choice, loop, call, Statements, done, next, body, Block, block, return_nothing, return_value}
+use Rattle.silq_tree.specs.Syntax.{Function, Parameter, Statement, assign, spread, update, forget, forget_value, phase, choice, loop, call, Statements, done, next, Block, block, return_nothing, return_value}
 use Rattle.silq_tree.specs.declared.node.NameId.{NameId}
 use Rattle.silq_tree.specs.declared.node.Spot.{Spot}
 use Rattle.silq_types.specs.Known.{Signatures, same_key, signature_of}
