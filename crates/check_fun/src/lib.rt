@@ -3,3 +3,5 @@
 //!
 //! The definition of the walk stands in `specs`: `Statement` (statements, blocks and a function's body) and `Program` (headers,
 //! instances and the entry).
+
+pub mod laws;
