@@ -31,7 +31,7 @@ pub struct Signature {
 }
 
 /// A function with values for its static parameters.
-#[derive(Drop)]
+#[derive(Drop, PartialEq, Eq, Hash)]
 pub struct InstanceKey {
     pub fun: FunId,
     pub statics: StaticList,
