@@ -8,7 +8,6 @@ use Rattle.check_expr.specs.Walk.{Walk, answer, broken, counted, asked, bind}
 use Rattle.check_expr.specs.declared.need.Need.{Need}
 use Rattle.silq_tree.specs.Syntax.{Expression, Expressions, number, typed_number, truth, pi, place, called, tuple, unary, binary, none, more, ScalarType, Place}
 use Rattle.silq_tree.specs.declared.node.BinaryOp.{BinaryOp}
-use Rattle.silq_tree.specs.declared.node.NameId.{NameId}
 use Rattle.silq_tree.specs.declared.node.Spot.{Spot}
 use Rattle.silq_tree.specs.declared.node.UnaryOp.{UnaryOp}
 use Rattle.silq_types.specs.Rules.{Fault, rule}

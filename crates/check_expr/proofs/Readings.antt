@@ -8,7 +8,6 @@ use Rattle.silq_types.specs.Known.{Signatures}
 use Rattle.silq_types.specs.Rules.{and_then, Fault, over}
 use Rattle.silq_types.specs.declared.signature.InstanceKey.{InstanceKey}
 use Rattle.silq_types.specs.declared.signature.Signature.{Signature}
-use Rattle.check_expr.specs.declared.need.Need.TheVariants as needs
 
 and_then-assoc : {A B C E : Type 0} (r : Result A E) (f : A → Result B E) (g : B → Result C E) → and_then (and_then r f) g ≡ and_then r (λ a. and_then (f a) g)
 and_then-assoc (Ok a) f g = refl

@@ -4,7 +4,6 @@ use Rattle.check_expr.specs.Walk.{Walk, answer, broken, counted, asked, known, n
 use Rattle.silq_types.specs.Rules.{and_then, Fault}
 use Rattle.silq_types.specs.declared.signature.InstanceKey.{InstanceKey}
 use Rattle.silq_types.specs.declared.signature.Signature.{Signature}
-use Rattle.check_expr.specs.declared.need.Need.TheVariants as needs
 
 -- a walk in which no statement is counted, as that of an expression
 abbrev pub Uncounted : {A : Type 0} → Walk A → Type 0

@@ -1,5 +1,5 @@
 -- A walk as a tree of its steps, and its two readings: with the signatures that are known, and with instances checked where they are met.
-use Rattle.std.specs.Prelude.{ℕ, suc, max, ◌+◌, Bool, if◌then◌else◌, List, length, Option, Some, None, Result, Ok, Err, nat_lt}
+use Rattle.std.specs.Prelude.{ℕ, suc, max, ◌+◌, Bool, if◌then◌else◌, length, Option, Some, None, Result, Ok, Err, nat_lt}
 use Rattle.silq_io.specs.declared.limit.LimitKind.{LimitKind}
 use Rattle.silq_io.specs.declared.limit.LimitKind.TheVariants.{Walked, Instances, Depth}
 use Rattle.silq_types.specs.declared.signature.InstanceKey.{InstanceKey}

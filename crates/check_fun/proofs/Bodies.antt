@@ -27,7 +27,6 @@ use Rattle.silq_types.specs.declared.signature.Param.{Param}
 use Rattle.silq_types.specs.declared.signature.Signature.{Signature}
 use Rattle.silq_types.specs.declared.types.Ty.{Ty}
 use Rattle.silq_types.specs.declared.values.Value.{Value}
-use Rattle.check_expr.specs.declared.need.Need.TheVariants as needs
 
 -- ---- one body
 

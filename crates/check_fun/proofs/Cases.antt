@@ -5,9 +5,9 @@ use Rattle.silq_tree.specs.declared.node.Spot.{Spot}
 use Rattle.silq_tree.specs.declared.node.Mark.{Mark}
 use Rattle.silq_tree.specs.declared.node.Mark.TheVariants as marks
 use Rattle.silq_tree.specs.declared.node.UnaryOp.TheVariants.{Not}
-use Rattle.silq_tree.specs.declared.node.BinaryOp.TheVariants.{And, Add, Eq, Div}
+use Rattle.silq_tree.specs.declared.node.BinaryOp.TheVariants.{And, Add, Eq}
 use Rattle.silq_tree.specs.declared.node.UpdateOp.TheVariants as updates
-use Rattle.silq_tree.specs.Syntax.{Expression, Expressions, ScalarType, number, typed_number, pi, place, called, tuple, unary, binary, none, more, bit, uint, whole, part, Statement, Statements, Block, assign, spread, update, forget, forget_value, phase, choice, loop, return_nothing, return_value, call, block, else_block, done, next, WrittenType, scalar, array, Parameter, Function}
+use Rattle.silq_tree.specs.Syntax.{Expression, number, typed_number, pi, place, called, tuple, unary, binary, none, more, bit, uint, whole, part, Statement, Statements, Block, assign, spread, update, forget, forget_value, phase, choice, loop, return_value, call, block, else_block, done, next, WrittenType, scalar, array, Parameter, Function}
 use Rattle.static_num.specs.Static.{is_static, value, in_range}
 use Rattle.static_num.specs.Angle.{is_turn, fraction, divisor}
 use Rattle.silq_types.specs.Rules.{Fault, rule, unsupported, over}

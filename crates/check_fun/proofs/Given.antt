@@ -6,7 +6,6 @@ use Rattle.check_fun.specs.Program.{given_on, returned_as}
 use Rattle.silq_types.specs.declared.signature.Param.{Param}
 use Rattle.silq_types.specs.declared.types.Ty.{Ty}
 use Rattle.silq_types.specs.declared.values.Value.{Value}
-use Rattle.check_expr.specs.declared.need.Need.TheVariants as needs
 
 -- the weight of the consumed parameter at a place
 abbrev weight_at : (ℕ → ℕ) → ℕ → List Param → ℕ → ℕ

@@ -1,9 +1,9 @@
 -- The checker of a program's instances is steady: it adds instances of earlier functions alone, and keeps the depth within its limit.
-use Rattle.std.specs.Prelude.{◌≡◌, refl, ℕ, suc, max, ◌+◌, ◌<◌, ◌≤◌, Bool, true, false, cond, ◌&&◌, ◌==◌, List, [], ◌∷◌, ◌++◌, length, Option, Some, None, Result, Ok, Err, ℤ, pos, negsuc, nat_lt, ⊤}
+use Rattle.std.specs.Prelude.{◌≡◌, refl, ℕ, suc, max, ◌+◌, ◌<◌, ◌≤◌, Bool, true, false, cond, ◌==◌, List, [], ◌∷◌, ◌++◌, length, Option, Some, None, Result, Ok, Err, nat_lt, ⊤}
 use mathlib.Core.Path.{sym, ap, ◌∙◌, subst}
 use native.Mathlib.Omega.{arith}
 use Rattle.std.proofs.lemmas.List.{append_assoc, append-nil}
-use Rattle.std.proofs.lemmas.Bool.{eqb-true, eq-eqb, ltb-false, le-ltb}
+use Rattle.std.proofs.lemmas.Bool.{eqb-true, ltb-false, le-ltb}
 use Rattle.check_expr.proofs.Alike.{same_key_refl, same_key_fun}
 use Rattle.check_expr.specs.Context.{BuiltIn}
 use Rattle.check_expr.specs.Expression.{paired}
@@ -14,13 +14,11 @@ use Rattle.silq_io.specs.declared.limit.LimitKind.TheVariants.{Walked, Depth, In
 use Rattle.silq_tree.specs.Syntax.{Function}
 use Rattle.silq_tree.specs.declared.node.NameId.{NameId}
 use Rattle.silq_tree.specs.declared.node.Spot.{Spot}
-use Rattle.silq_types.specs.Known.{Signatures, same_key, all_equal, signature_of}
+use Rattle.silq_types.specs.Known.{Signatures, same_key, signature_of}
 use Rattle.silq_types.specs.Rules.{and_then, over}
 use Rattle.silq_types.specs.Types.{header_of}
 use Rattle.silq_types.specs.declared.signature.InstanceKey.{InstanceKey}
 use Rattle.silq_types.specs.declared.signature.Signature.{Signature}
-use Rattle.std.specs.Ordering.{int_eq}
-use Rattle.check_expr.specs.declared.need.Need.TheVariants as needs
 
 -- ---- lists of known instances
 
