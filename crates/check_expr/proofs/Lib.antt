@@ -2,3 +2,4 @@ pub mod Alike
 pub mod Quiet
 pub mod Readings
 pub mod Owners
+pub mod Sequence

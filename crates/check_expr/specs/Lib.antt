@@ -4,3 +4,5 @@ pub mod Uses
 pub mod Expression
 pub mod Reading
 pub mod Owners
+pub mod State
+pub mod Steps
