@@ -1,0 +1,5 @@
+pub mod Alike
+pub mod Quiet
+pub mod Readings
+pub mod Owners
+pub mod Sequence

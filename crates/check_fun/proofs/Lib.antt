@@ -1,0 +1,6 @@
+mod Cases
+mod Samples
+pub mod Growth
+pub mod Given
+pub mod Blocks
+pub mod Bodies

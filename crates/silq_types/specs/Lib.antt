@@ -1,0 +1,3 @@
+pub mod Rules
+pub mod Types
+pub mod Known
