@@ -1,0 +1,4 @@
+pub mod Bared
+pub mod BareTexts
+pub mod BareTrees
+pub mod Alike
