@@ -2,3 +2,4 @@ pub mod Bared
 pub mod BareTexts
 pub mod BareTrees
 pub mod Alike
+pub mod WaysTrees
