@@ -3,3 +3,4 @@ pub mod BareTexts
 pub mod BareTrees
 pub mod Alike
 pub mod WaysTrees
+pub mod DerivedTrees

@@ -125,19 +125,19 @@ best_stands k e s = (least_stands (bare_expr e) (ways k e) s).is
 
 -- lists of expressions
 
-abbrev listed : List Expr → tree.Expressions
+abbrev pub listed : List Expr → tree.Expressions
 listed [] = tree.none
 listed (d ∷ ds) = tree.more (bare_expr (expr_tree d)) (listed ds)
 
-exprs_listed : (d : Expr) (ds : List Expr) → bare_exprs (exprs_tree (exprs_of (d ∷ ds))) ≡ listed (d ∷ ds)
+pub exprs_listed : (d : Expr) (ds : List Expr) → bare_exprs (exprs_tree (exprs_of (d ∷ ds))) ≡ listed (d ∷ ds)
 exprs_listed d [] = refl
 exprs_listed d (e ∷ es) = ap (λ w. tree.more (bare_expr (expr_tree d)) w) (exprs_listed e es)
 
-args_listed : (ds : List Expr) → bare_exprs (args_tree (args_of ds)) ≡ listed ds
+pub args_listed : (ds : List Expr) → bare_exprs (args_tree (args_of ds)) ≡ listed ds
 args_listed [] = refl
 args_listed (d ∷ ds) = exprs_listed d ds
 
-call_listed : (f : NameId) (ss ds : List Expr) → bare_expr (call_tree (call_of f ss ds)) ≡ tree.called f (listed ss) (listed ds) nowhere
+pub call_listed : (f : NameId) (ss ds : List Expr) → bare_expr (call_tree (call_of f ss ds)) ≡ tree.called f (listed ss) (listed ds) nowhere
 call_listed f [] ds = ap (λ w. tree.called f tree.none w nowhere) (args_listed ds)
 call_listed f (s ∷ ss) ds = λ i. tree.called f (exprs_listed s ss i) (args_listed ds i) nowhere
 

@@ -6,6 +6,7 @@ use Rattle.silq_grammar.specs.Spelled.{program_text}
 use Rattle.silq_grammar.specs.Trees.{program_tree}
 use Rattle.silq_grammar.specs.Outcome.{Fine, program_outcome}
 use Rattle.silq_print.specs.Bare.{bare_token, bare_program}
+use Rattle.silq_print.specs.Derived.{derived}
 
 -- the same tokens, places aside
 abbrev pub AreAlike : List Token → List Token → Type 0
@@ -15,3 +16,7 @@ AreAlike ts us = map bare_token ts ≡ map bare_token us
 pub record PlacesAside : Type 0 where
   pub fine : (ts us : List Token) → AreAlike ts us → program_outcome ts ≡ Fine → program_outcome us ≡ Fine
   pub trees : (p q : Program) → AreAlike (program_text p) (program_text q) → bare_program (program_tree p) ≡ bare_program (program_tree q)
+
+-- the derivation of a program's tree stands for that tree, places aside
+abbrev pub DerivedStands : Type 0
+DerivedStands = (p : Program) → bare_program (program_tree (derived (program_tree p))) ≡ bare_program (program_tree p)

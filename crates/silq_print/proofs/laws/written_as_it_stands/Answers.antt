@@ -1,0 +1,5 @@
+use Rattle.silq_print.proofs.DerivedTrees.{derived_stands}
+use Rattle.silq_print.proofs.laws.written_as_it_stands.Goals as goal
+
+pub returns : goal.returns
+returns c = derived_stands
