@@ -4,3 +4,4 @@ pub mod BareTrees
 pub mod Alike
 pub mod WaysTrees
 pub mod DerivedTrees
+pub mod Tops
