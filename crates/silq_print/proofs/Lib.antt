@@ -5,3 +5,5 @@ pub mod Alike
 pub mod WaysTrees
 pub mod DerivedTrees
 pub mod Tops
+pub mod Chains
+pub mod Lowest
