@@ -7,3 +7,4 @@ pub mod DerivedTrees
 pub mod Tops
 pub mod Chains
 pub mod Lowest
+pub mod DerivedNests
