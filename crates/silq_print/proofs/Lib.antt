@@ -8,3 +8,4 @@ pub mod Tops
 pub mod Chains
 pub mod Lowest
 pub mod DerivedNests
+pub mod Even

@@ -17,6 +17,8 @@ pub record PlacesAside : Type 0 where
   pub fine : (ts us : List Token) → AreAlike ts us → program_outcome ts ≡ Fine → program_outcome us ≡ Fine
   pub trees : (p q : Program) → AreAlike (program_text p) (program_text q) → bare_program (program_tree p) ≡ bare_program (program_tree q)
 
--- the derivation of a program's tree stands for that tree, places aside
-abbrev pub DerivedStands : Type 0
-DerivedStands = (p : Program) → bare_program (program_tree (derived (program_tree p))) ≡ bare_program (program_tree p)
+-- The derivation of a program's tree stands for that tree, places aside, and is a program within the limits where one of that tree is:
+-- no parentheses are missing, and none make it too deep.
+pub record DerivedStands : Type 0 where
+  pub tree : (p : Program) → bare_program (program_tree (derived (program_tree p))) ≡ bare_program (program_tree p)
+  pub fine : (p : Program) → program_outcome (program_text p) ≡ Fine → program_outcome (program_text (derived (program_tree p))) ≡ Fine

@@ -7,7 +7,7 @@ pub fn places_aside()
     ensures { PlacesAside }
 {}
 
-/// What a program is written as has its tree, places aside.
+/// What a program is written as has its tree, places aside, and is within the limits where the program is.
 pub fn written_as_it_stands()
     ensures { DerivedStands }
 {}
