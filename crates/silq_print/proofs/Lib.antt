@@ -1,0 +1,11 @@
+pub mod Bared
+pub mod BareTexts
+pub mod BareTrees
+pub mod Alike
+pub mod WaysTrees
+pub mod DerivedTrees
+pub mod Tops
+pub mod Chains
+pub mod Lowest
+pub mod DerivedNests
+pub mod Even

@@ -1,0 +1,4 @@
+pub mod Bare
+pub mod Laws
+pub mod Ways
+pub mod Derived
