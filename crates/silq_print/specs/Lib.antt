@@ -2,3 +2,4 @@ pub mod Bare
 pub mod Laws
 pub mod Ways
 pub mod Derived
+pub mod Printed
