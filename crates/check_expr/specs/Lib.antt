@@ -4,5 +4,10 @@ pub mod Uses
 pub mod Expression
 pub mod Reading
 pub mod Owners
+pub mod Words
+pub mod Library
+pub mod Undo
+pub mod Headers
 pub mod State
+pub mod Faults
 pub mod Steps
