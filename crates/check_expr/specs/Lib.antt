@@ -8,6 +8,7 @@ pub mod Words
 pub mod Library
 pub mod Undo
 pub mod Headers
+pub mod Asks
 pub mod State
 pub mod Faults
 pub mod Steps

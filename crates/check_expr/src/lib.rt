@@ -5,6 +5,8 @@
 //! walk sees and what it changes), `Uses` (the parts that an expression names) and `Expression` (the walk of an expression).
 //! `State`, `Library` and `Steps` say how the code is held against it.
 
+mod asked;
+mod calls;
 pub mod context;
 pub mod expr;
 pub mod fault;
