@@ -3,3 +3,5 @@ pub mod Quiet
 pub mod Readings
 pub mod Owners
 pub mod Sequence
+pub mod Overlapping
+pub mod Named
