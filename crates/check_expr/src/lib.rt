@@ -16,6 +16,7 @@ pub mod library;
 pub mod need;
 mod obey;
 pub mod places;
+pub mod rule;
 pub mod uses;
 pub mod words;
 
