@@ -4,3 +4,5 @@ pub mod Readings
 pub mod Owners
 pub mod Sequence
 pub mod Obeyed
+pub mod Searching
+pub mod Undoing
