@@ -5,3 +5,7 @@ pub mod Owners
 pub mod Sequence
 pub mod Overlapping
 pub mod Named
+pub mod Obeyed
+pub mod Searching
+pub mod Undoing
+pub mod Reached

@@ -2,12 +2,14 @@ pub mod Walk
 pub mod Context
 pub mod Uses
 pub mod Used
+pub mod Reach
 pub mod Expression
 pub mod Reading
 pub mod Owners
 pub mod Words
 pub mod Library
 pub mod Undo
+pub mod First
 pub mod Headers
 pub mod Asks
 pub mod State

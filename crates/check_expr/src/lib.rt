@@ -15,7 +15,10 @@ pub mod laws;
 pub mod library;
 pub mod need;
 mod obey;
+mod parts;
 pub mod places;
+mod reach;
+pub mod rule;
 pub mod uses;
 pub mod words;
 

@@ -5,7 +5,7 @@ ghost use Rattle.silq_tree.specs.Arena.{expr_at};
 ghost use Rattle.silq_tree.specs.Children.{place_exprs, scalar_exprs, AreExprsBelow, HasFirst};
 ghost use Rattle.silq_tree.specs.Standing.{expressions_of, place_of, scalar_of};
 ghost use Rattle.silq_types.specs.Types.{place_indices, is_lifted as lifted};
-ghost use Rattle.check_expr.specs.Context.{find_var, indices, is_prefix, overlaps, part_at, variable};
+ghost use Rattle.check_expr.specs.Context.{find_var, indices, part_at, variable};
 ghost use Rattle.check_expr.specs.Expression.{operand_clash};
 ghost use Rattle.check_expr.specs.Library.{found_at};
 ghost use Rattle.check_expr.specs.State.{scope_in};
@@ -15,6 +15,7 @@ ghost use Rattle.check_expr.specs.Uses.{is_consumed as consumed, uses, all_uses,
 use crate::context::Context;
 use crate::library::Library;
 use crate::need::Need;
+use crate::parts::overlaps;
 use crate::places::part_type;
 use crate::words::BuiltIn;
 use silq_tree::node::{Expr, Mark, ParamNode, PlaceNode, ScalarNode};
@@ -55,31 +56,12 @@ fn is_used(wanted: Need, need: Need) -> bool
     }
 }
 
-/// Whether the index values of one part are the first of the other's.
-fn begins(p: Part, q: Part) -> bool
-    ensures { result ≡ is_prefix (indices p) (indices q) }
-{
-    match (p.first, p.second) {
-        (None, None) => true,
-        (Some(i), None) => q.first.or(q.second) == Some(i),
-        (None, Some(i)) => q.first.or(q.second) == Some(i),
-        (Some(i), Some(j)) => q.first == Some(i) && q.second == Some(j),
-    }
-}
-
-/// Whether one of two parts lies within the other.
-pub(crate) fn overlap(p: Part, q: Part) -> bool
-    ensures { result ≡ overlaps p q }
-{
-    p.name.number == q.name.number && (begins(p, q) || begins(q, p))
-}
-
 /// Whether a part overlaps one of these that are consumed, or of these that are held.
 fn meets(wanted: Need, part: Part, uses: &[Use]) -> bool
     ensures { result ≡ some_meets (used wanted) part uses.now }
 {
     for other in uses {
-        if is_used(wanted, other.need) && overlap(part, other.part) {
+        if is_used(wanted, other.need) && overlaps(part, other.part) {
             return true;
         }
     }
