@@ -9,3 +9,4 @@ pub mod Obeyed
 pub mod Searching
 pub mod Undoing
 pub mod Reached
+pub mod Chained

@@ -1,8 +1,12 @@
 //! The faults of a check.
 
+ghost use Rattle.std.specs.Prelude.{◌≡◌};
+ghost use Rattle.check_expr.specs.declared.fault.CheckFault.TheVariants as checks;
+
 use silq_io::{LimitKind, What};
 use silq_tree::Spot;
 use silq_types::InstanceKey;
+use std::alloc::AllocError;
 
 /// Why a program is refused. Of several faults the first in the order of the walk is told.
 #[derive(Clone, Copy, Debug, PartialEq, Eq)]
@@ -29,4 +33,12 @@ pub enum ExprFault {
     Fault(CheckFault),
     /// The walk reaches a call of this instance, whose signature is not known, before any fault.
     Wanted(InstanceKey),
+}
+
+impl From<AllocError> for CheckFault {
+    ghost from_gives = { λ _ fault. fault ≡ checks.Memory };
+
+    fn from(_: AllocError) -> CheckFault {
+        CheckFault::Memory
+    }
 }
