@@ -10,3 +10,4 @@ pub mod Searching
 pub mod Undoing
 pub mod Reached
 pub mod Chained
+pub mod HeaderLists

@@ -261,6 +261,7 @@ fn is_lifted(mark: Mark) -> bool
 }
 
 /// The types of parameters.
+#[tactic(auto, using(crate::proofs::HeaderLists::param_below))]
 fn param_types(alloc: Global, tree: &Tree, statics: &Statics, mark: Mark, at: Option<Spot>, params: &[ParamNode]) -> Result<ParamList, CheckFault>
     requires { AreExprsBelow (length tree.now.exprs) (flat_map param_exprs params.now) }
     ensures value { IfOk result (λ ps. types_of_params statics.now mark (spot_at at) (map (param_of (expr_at tree.now)) params.now) ≡ Ok ps) }
@@ -276,6 +277,7 @@ fn param_types(alloc: Global, tree: &Tree, statics: &Statics, mark: Mark, at: Op
 }
 
 /// The types of results.
+#[tactic(auto, using(crate::proofs::HeaderLists::result_below))]
 fn result_types(alloc: Global, tree: &Tree, statics: &Statics, at: Option<Spot>, results: &[TypeNode]) -> Result<TyList, CheckFault>
     requires { AreExprsBelow (length tree.now.exprs) (flat_map type_exprs results.now) }
     ensures value { IfOk result (λ ts. types_of_results statics.now (spot_at at) (map (type_of (expr_at tree.now)) results.now) ≡ Ok ts) }
@@ -283,7 +285,8 @@ fn result_types(alloc: Global, tree: &Tree, statics: &Statics, at: Option<Spot>,
 {
     let mut types = TyList::new(alloc);
     for ty in results {
-        types.push(header_type(tree, statics, *ty, spot_or(at, ty.at))?)?;
+        let typed = header_type(tree, statics, *ty, spot_or(at, ty.at))?;
+        types.push(typed)?;
     }
     Ok(types)
 }
