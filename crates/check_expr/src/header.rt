@@ -1,6 +1,6 @@
 //! Types as they are written, under static values.
 
-ghost use Rattle.std.specs.Prelude.{◌≡◌, ◌<◌, ◌++◌, if◌then◌else◌, [], map, flat_map, nat_abs, length, option_map, Ok, Err, IfOk, IfErr, Option, Some, None};
+ghost use Rattle.std.specs.Prelude.{◌≡◌, ◌<◌, ◌||◌, ◌++◌, if◌then◌else◌, [], map, flat_map, nat_abs, length, option_map, Ok, Err, IfOk, IfErr, Option, Some, None};
 ghost use Rattle.silq_tree.specs.declared.node.ExprId.{ExprId as ExprNumber};
 ghost use Rattle.silq_tree.specs.Syntax.{Expression};
 ghost use Rattle.silq_tree.specs.Arena.{expr_at};
@@ -260,6 +260,13 @@ fn is_lifted(mark: Mark) -> bool
     }
 }
 
+/// Whether a call holds the argument for this parameter of a function with this mark.
+fn is_held(param: ParamNode, mark: Mark) -> bool
+    ensures { result ≡ (param.held || lifted mark) }
+{
+    param.held || is_lifted(mark)
+}
+
 /// The types of parameters.
 #[tactic(auto, using(crate::proofs::HeaderLists::param_below))]
 fn param_types(alloc: Global, tree: &Tree, statics: &Statics, mark: Mark, at: Option<Spot>, params: &[ParamNode]) -> Result<ParamList, CheckFault>
@@ -270,7 +277,7 @@ fn param_types(alloc: Global, tree: &Tree, statics: &Statics, mark: Mark, at: Op
     let mut types = ParamList::new(alloc);
     for param in params {
         let ty = header_type(tree, statics, param.ty, spot_or(at, param.ty.at))?;
-        let held = param.held || is_lifted(mark);
+        let held = is_held(*param, mark);
         types.push(Param { ty, held })?;
     }
     Ok(types)
