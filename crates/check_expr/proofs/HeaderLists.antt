@@ -1,5 +1,5 @@
 -- The types of parameters and of results, one after another.
-use Rattle.std.specs.Prelude.{◌≡◌, refl, ℕ, ◌+◌, ◌<◌, zero, suc, Bool, ◌||◌, List, [], ◌∷◌, ◌++◌, length, map, flat_map, drop, Option, Some, None, Result, Ok, Err}
+use Rattle.std.specs.Prelude.{◌≡◌, refl, ℕ, ◌+◌, ◌<◌, zero, suc, Bool, true, false, ◌||◌, ◌&&◌, if◌then◌else◌, List, [], ◌∷◌, ◌++◌, length, map, flat_map, drop, Option, Some, None, Result, Ok, Err}
 use Rattle.std.proofs.Common.{get_or, append_assoc}
 use Rattle.std.proofs.lemmas.List.{append-nil, at_drop_more}
 use mathlib.Core.Path.{sym, ap, ◌∙◌, subst}
@@ -11,15 +11,15 @@ use Rattle.silq_tree.specs.declared.node.TypeNode.{TypeNode}
 use Rattle.silq_tree.specs.declared.node.ParamNode.{ParamNode}
 use Rattle.silq_tree.specs.Children.{type_exprs, param_exprs, AreExprsBelow}
 use Rattle.silq_tree.specs.Standing.{type_of, sized, param_of}
-use Rattle.silq_tree.specs.Syntax.{Expression}
+use Rattle.silq_tree.specs.Syntax.{Expression, Function}
 use Rattle.silq_tree.proofs.Lists.{exprs_below_front, exprs_below_back}
 use Rattle.silq_types.specs.declared.types.Ty.{Ty}
 use Rattle.silq_types.specs.declared.signature.Param.{Param}
-use Rattle.silq_types.specs.Rules.{Fault, and_then}
-use Rattle.silq_types.specs.Types.{Statics, header_type, written_at, is_lifted, param_types, result_types}
+use Rattle.silq_types.specs.Rules.{Fault, rule, and_then, lifted_without_result}
+use Rattle.silq_types.specs.Types.{Statics, header_type, written_at, is_lifted, is_empty, param_types, result_types, Header, header_of}
 use Rattle.check_expr.specs.Steps.{IsFirst}
 use Rattle.check_expr.specs.declared.fault.CheckFault.{CheckFault}
-use Rattle.check_expr.proofs.Chained.{then_given, then_first, first_along}
+use Rattle.check_expr.proofs.Chained.{then_given, then_first, then_later, first_along}
 
 -- the expressions of one of them
 pub param_below : (n : ℕ) (ps : List ParamNode) (i : ℕ) (d : ParamNode) → AreExprsBelow n (flat_map param_exprs ps) → i < length ps → AreExprsBelow n (param_exprs (get_or ps i d))
@@ -100,3 +100,22 @@ module _ (statics : Statics) (place_of : Spot → Spot) (at : ExprId → Express
         first_along f _ _ (at_drop_more (λ xs. behind done (param_types statics m place_of (map (param_of at) xs))) ps i d l
           ∙ ap (λ s. behind done (and_then (header_type statics (type_of at p.ty) (place_of s)) (λ t. and_then rest (λ ts. Ok (param_at p t ∷ ts))))) (sized_at at p.ty p.ty.size))
         (then_first f (and_then (typed_at p.ty) (λ t. and_then rest (λ ts. Ok (param_at p t ∷ ts)))) _ (then_first f (typed_at p.ty) _ h))
+
+-- ---- a whole header
+
+module _ (statics : Statics) (place_of : Spot → Spot) (f : Function) where
+  pub header_without_params : (c : CheckFault) → IsFirst c (param_types statics f.mark place_of f.params) → IsFirst c (header_of statics place_of f)
+  header_without_params c h = then_first c (param_types statics f.mark place_of f.params) _ h
+
+  module _ (ps : List Param) (e : param_types statics f.mark place_of f.params ≡ Ok ps) where
+    pub header_without_results : (c : CheckFault) → IsFirst c (result_types statics place_of f.results) → IsFirst c (header_of statics place_of f)
+    header_without_results c h = then_later c (param_types statics f.mark place_of f.params) _ ps e (then_first c (result_types statics place_of f.results) _ h)
+
+    abbrev pub whole_header : List Ty → Bool → Result Header Fault
+    whole_header rs b = if b then Err (rule lifted_without_result f.at) else Ok (record { params = ps; results = rs })
+
+    pub header_given : (rs : List Ty) (b : Bool) → result_types statics place_of f.results ≡ Ok rs → b ≡ (is_lifted f.mark && is_empty f.results) → header_of statics place_of f ≡ whole_header rs b
+    header_given rs b h t =
+        then_given (param_types statics f.mark place_of f.params) _ ps e
+        ∙ then_given (result_types statics place_of f.results) _ rs h
+        ∙ ap (λ x. whole_header rs x) (sym t)

@@ -1,13 +1,13 @@
 //! Types as they are written, under static values.
 
-ghost use Rattle.std.specs.Prelude.{◌≡◌, ◌<◌, ◌||◌, ◌++◌, if◌then◌else◌, [], map, flat_map, nat_abs, length, option_map, Ok, Err, IfOk, IfErr, Option, Some, None};
+ghost use Rattle.std.specs.Prelude.{◌≡◌, ◌<◌, ◌||◌, ◌&&◌, ◌++◌, if◌then◌else◌, [], map, flat_map, nat_abs, length, option_map, Ok, Err, IfOk, IfErr, Option, Some, None};
 ghost use Rattle.silq_tree.specs.declared.node.ExprId.{ExprId as ExprNumber};
 ghost use Rattle.silq_tree.specs.Syntax.{Expression};
 ghost use Rattle.silq_tree.specs.Arena.{expr_at};
 ghost use Rattle.silq_tree.specs.Children.{scalar_exprs, type_exprs, param_exprs, listed, AreExprsBelow};
 ghost use Rattle.silq_tree.specs.Standing.{scalar_of, type_of, param_of};
 ghost use Rattle.silq_types.specs.Rules.{bad_size};
-ghost use Rattle.silq_types.specs.Types.{all_known as known_all, first_unknown as first_of, header_of, header_type as header_type_of, is_count as is_counted, is_lifted as lifted, length_of as length_at, most_bits, most_items, moved_to as moved, names, needed_at as needed_value, param_types as types_of_params, result_types as types_of_results, scalar_by as scalar_of_width, scalar_names, scalar_type as scalar_type_of, shape_by as shape_of_length, single_shape as shape_of_single, size_names, width_of as width_at, width_spot as spot_of_width};
+ghost use Rattle.silq_types.specs.Types.{all_known as known_all, first_unknown as first_of, header_of, header_type as header_type_of, is_count as is_counted, is_empty, is_lifted as lifted, length_of as length_at, most_bits, most_items, moved_to as moved, names, needed_at as needed_value, param_types as types_of_params, result_types as types_of_results, scalar_by as scalar_of_width, scalar_names, scalar_type as scalar_type_of, shape_by as shape_of_length, single_shape as shape_of_single, size_names, width_of as width_at, width_spot as spot_of_width};
 ghost use Rattle.check_expr.specs.declared.fault.CheckFault.TheVariants as checks;
 ghost use Rattle.check_expr.specs.Context.{is_known_name};
 ghost use Rattle.check_expr.specs.Headers.{spot_or as spot_at};
@@ -298,6 +298,16 @@ fn result_types(alloc: Global, tree: &Tree, statics: &Statics, at: Option<Spot>,
     Ok(types)
 }
 
+/// Whether a function with this mark lacks a result.
+fn lacks_result(mark: Mark, results: &[TypeNode]) -> bool
+    ensures { (grown : ExprNumber → Expression) → result ≡ (lifted mark && is_empty (map (type_of grown) results.now)) }
+{
+    match results {
+        [] => is_lifted(mark),
+        [_, ..] => false,
+    }
+}
+
 /// The types of the parameters and of the results of a function. Each fault stands at its type, or where a place is given, there.
 pub fn header_types(library: &Library, statics: &Statics, fun: u32, at: Option<Spot>) -> Result<Header, CheckFault>
     requires { fun < length library.now.funs }
@@ -308,7 +318,7 @@ pub fn header_types(library: &Library, statics: &Statics, fun: u32, at: Option<S
     let tree = library.tree();
     let params = param_types(library.alloc(), tree, statics, node.mark, at, node.params.as_slice())?;
     let results = result_types(library.alloc(), tree, statics, at, node.results.as_slice())?;
-    if is_lifted(node.mark) && node.results.as_slice().is_empty() {
+    if lacks_result(node.mark, node.results.as_slice()) {
         return Err(CheckFault::Broken { rule: rule::LIFTED_WITHOUT_RESULT, at: node.at });
     }
     Ok(Header { params, results })
