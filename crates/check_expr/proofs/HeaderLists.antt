@@ -74,7 +74,7 @@ module _ (statics : Statics) (place_of : Spot → Spot) (at : ExprId → Express
       let r = get_or rs i d in
       let rest = result_types statics place_of (map (type_of at) (drop (i + 1) rs)) in
       first_along f _ _ (at_drop_more (λ xs. behind done (result_types statics place_of (map (type_of at) xs))) rs i d l
-        ∙ ap (λ s. behind done (and_then (header_type statics (type_of at r) (place_of s)) (λ t. and_then rest (λ ts. Ok (t ∷ ts))))) (sized_at at r r.size))
+      ∙ ap (λ s. behind done (and_then (header_type statics (type_of at r) (place_of s)) (λ t. and_then rest (λ ts. Ok (t ∷ ts))))) (sized_at at r r.size))
       (then_first f (and_then (typed_at r) (λ t. and_then rest (λ ts. Ok (t ∷ ts)))) _ (then_first f (typed_at r) _ h))
 
   module _ (m : Mark) where
@@ -83,7 +83,7 @@ module _ (statics : Statics) (place_of : Spot → Spot) (at : ExprId → Express
 
     pub params_turn : (ps : List ParamNode) (i : ℕ) (d : ParamNode) (done : List Param) (t : Ty) → i < length ps → typed_at (get_or ps i d).ty ≡ Ok t
         → behind done (param_types statics m place_of (map (param_of at) (drop i ps)))
-          ≡ behind (done ++ param_at (get_or ps i d) t ∷ []) (param_types statics m place_of (map (param_of at) (drop (i + 1) ps)))
+        ≡ behind (done ++ param_at (get_or ps i d) t ∷ []) (param_types statics m place_of (map (param_of at) (drop (i + 1) ps)))
     params_turn ps i d done t l e =
         let p = get_or ps i d in
         let rest = param_types statics m place_of (map (param_of at) (drop (i + 1) ps)) in
@@ -98,7 +98,7 @@ module _ (statics : Statics) (place_of : Spot → Spot) (at : ExprId → Express
         let p = get_or ps i d in
         let rest = param_types statics m place_of (map (param_of at) (drop (i + 1) ps)) in
         first_along f _ _ (at_drop_more (λ xs. behind done (param_types statics m place_of (map (param_of at) xs))) ps i d l
-          ∙ ap (λ s. behind done (and_then (header_type statics (type_of at p.ty) (place_of s)) (λ t. and_then rest (λ ts. Ok (param_at p t ∷ ts))))) (sized_at at p.ty p.ty.size))
+        ∙ ap (λ s. behind done (and_then (header_type statics (type_of at p.ty) (place_of s)) (λ t. and_then rest (λ ts. Ok (param_at p t ∷ ts))))) (sized_at at p.ty p.ty.size))
         (then_first f (and_then (typed_at p.ty) (λ t. and_then rest (λ ts. Ok (param_at p t ∷ ts)))) _ (then_first f (typed_at p.ty) _ h))
 
 -- ---- a whole header

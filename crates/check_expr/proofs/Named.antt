@@ -23,7 +23,7 @@ use Rattle.check_expr.specs.Library.{Shelf, function_at, found_at}
 
 pub part_uses_are : (at : ExprId → Expression) (x : NameId) (i j : Option ExprId) (s : Spot) (sc : Scope) (vars : List Var) (need : Need)
     → uses (place (part_of at x i j) s) sc vars need
-        ≡ place_use sc.statics (find_var vars (variable x)) (place_indices (part_of at x i j)) need ++ all_uses (place_indices (part_of at x i j)) sc vars []
+    ≡ place_use sc.statics (find_var vars (variable x)) (place_indices (part_of at x i j)) need ++ all_uses (place_indices (part_of at x i j)) sc vars []
 part_uses_are at x None j s sc vars need = sym (append-nil (place_use sc.statics (find_var vars (variable x)) (place_indices (part_of at x None j)) need))
 part_uses_are at x (Some i) None s sc vars need = ap (λ us. place_use sc.statics (find_var vars (variable x)) (place_indices (part_of at x (Some i) None)) need ++ us) (sym (append-nil (uses (at i) sc vars needs.Held)))
 part_uses_are at x (Some i) (Some j) s sc vars need = simp (append-nil, append_assoc)
@@ -31,7 +31,7 @@ part_uses_are at x (Some i) (Some j) s sc vars need = simp (append-nil, append_a
 -- the uses of a place are its own part, and those of its indices
 pub place_uses_are : (at : ExprId → Expression) (p : PlaceNode) (s : Spot) (sc : Scope) (vars : List Var) (need : Need)
     → uses (place (place_of at p) s) sc vars need
-        ≡ place_use sc.statics (find_var vars (variable p.name)) (place_indices (place_of at p)) need ++ all_uses (place_indices (place_of at p)) sc vars []
+    ≡ place_use sc.statics (find_var vars (variable p.name)) (place_indices (place_of at p)) need ++ all_uses (place_indices (place_of at p)) sc vars []
 place_uses_are at p s sc vars need = part_uses_are at p.name p.first p.second s sc vars need
 
 pub param_needs_are : (at : ExprId → Expression) (f : Function) (ps : List ParamNode) → map (param_need f) (map (param_of at) ps) ≡ map (node_need f.mark) ps

@@ -49,7 +49,10 @@ fn all_known(unknown: Option<Spot>) -> Result<(), CheckFault>
 {
     match unknown {
         None => Ok(()),
-        Some(at) => Err(CheckFault::Broken { rule: rule::UNKNOWN_NAME, at }),
+        Some(at) => Err(CheckFault::Broken {
+            rule: rule::UNKNOWN_NAME,
+            at,
+        }),
     }
 }
 
@@ -61,12 +64,20 @@ fn needed_at(tree: &Tree, statics: &Statics, e: ExprId, at: Spot) -> Result<i64,
 {
     match eval(tree, e, statics) {
         Ok(value) => Ok(value),
-        Err(_) => Err(CheckFault::Broken { rule: rule::NOT_STATIC, at }),
+        Err(_) => Err(CheckFault::Broken {
+            rule: rule::NOT_STATIC,
+            at,
+        }),
     }
 }
 
 /// The width of a type.
-fn width_of(tree: &Tree, statics: &Statics, ty: ScalarNode, at: Spot) -> Result<Option<i64>, CheckFault>
+fn width_of(
+    tree: &Tree,
+    statics: &Statics,
+    ty: ScalarNode,
+    at: Spot,
+) -> Result<Option<i64>, CheckFault>
     requires { AreExprsBelow (length tree.now.exprs) (scalar_exprs ty) }
     ensures value { IfOk result (λ w. width_at statics.now (scalar_of (expr_at tree.now) ty) at ≡ Ok w) }
     ensures fault { IfErr result (λ f. IsFirst f (width_at statics.now (scalar_of (expr_at tree.now) ty) at)) }
@@ -79,7 +90,12 @@ fn width_of(tree: &Tree, statics: &Statics, ty: ScalarNode, at: Spot) -> Result<
 }
 
 /// The length of an array's type.
-fn length_of(tree: &Tree, statics: &Statics, size: Option<ExprId>, at: Spot) -> Result<Option<i64>, CheckFault>
+fn length_of(
+    tree: &Tree,
+    statics: &Statics,
+    size: Option<ExprId>,
+    at: Spot,
+) -> Result<Option<i64>, CheckFault>
     requires { AreExprsBelow (length tree.now.exprs) (listed size) }
     ensures value { IfOk result (λ n. length_at statics.now (option_map (expr_at tree.now) size) at ≡ Ok n) }
     ensures fault { IfErr result (λ f. IsFirst f (length_at statics.now (option_map (expr_at tree.now) size) at)) }
@@ -96,7 +112,10 @@ fn sized(most: u32, size: i64, at: Spot) -> Result<u32, CheckFault>
 {
     match u32::try_from(size) {
         Ok(n) if 0 < n && n <= most => Ok(n),
-        _ => Err(CheckFault::Broken { rule: rule::BAD_SIZE, at }),
+        _ => Err(CheckFault::Broken {
+            rule: rule::BAD_SIZE,
+            at,
+        }),
     }
 }
 
@@ -150,7 +169,12 @@ fn width_spot(tree: &Tree, ty: ScalarNode, at: Spot) -> Spot
 }
 
 /// Each name in the width of a type is known.
-fn width_known(tree: &Tree, statics: &Statics, vars: &[Var], ty: ScalarNode) -> Result<(), CheckFault>
+fn width_known(
+    tree: &Tree,
+    statics: &Statics,
+    vars: &[Var],
+    ty: ScalarNode,
+) -> Result<(), CheckFault>
     requires { AreExprsBelow (length tree.now.exprs) (scalar_exprs ty) }
     ensures value { IfOk result (λ u. known_all (first_of (is_in_reach statics.now vars.now) (scalar_names (scalar_of (expr_at tree.now) ty))) ≡ Ok u) }
     ensures fault { IfErr result (λ f. IsFirst f (known_all (first_of (is_in_reach statics.now vars.now) (scalar_names (scalar_of (expr_at tree.now) ty))))) }
@@ -159,7 +183,12 @@ fn width_known(tree: &Tree, statics: &Statics, vars: &[Var], ty: ScalarNode) -> 
 }
 
 /// The width of a type, with its fault at its first token.
-fn own_width(tree: &Tree, statics: &Statics, ty: ScalarNode, at: Spot) -> Result<Option<i64>, CheckFault>
+fn own_width(
+    tree: &Tree,
+    statics: &Statics,
+    ty: ScalarNode,
+    at: Spot,
+) -> Result<Option<i64>, CheckFault>
     requires { AreExprsBelow (length tree.now.exprs) (scalar_exprs ty) }
     ensures value { IfOk result (λ w. width_at statics.now (scalar_of (expr_at tree.now) ty) (spot_of_width (scalar_of (expr_at tree.now) ty) at) ≡ Ok w) }
     ensures fault { IfErr result (λ f. IsFirst f (width_at statics.now (scalar_of (expr_at tree.now) ty) (spot_of_width (scalar_of (expr_at tree.now) ty) at))) }
@@ -168,7 +197,13 @@ fn own_width(tree: &Tree, statics: &Statics, ty: ScalarNode, at: Spot) -> Result
 }
 
 /// The type of a number at this place, where these variables are in reach.
-fn scalar_in_reach(tree: &Tree, statics: &Statics, vars: &[Var], ty: ScalarNode, at: Spot) -> Result<Scalar, CheckFault>
+fn scalar_in_reach(
+    tree: &Tree,
+    statics: &Statics,
+    vars: &[Var],
+    ty: ScalarNode,
+    at: Spot,
+) -> Result<Scalar, CheckFault>
     requires { AreExprsBelow (length tree.now.exprs) (scalar_exprs ty) }
     ensures value { IfOk result (λ k. scalar_type_of statics.now (is_in_reach statics.now vars.now) (scalar_of (expr_at tree.now) ty) at ≡ Ok k) }
     ensures fault { IfErr result (λ f. IsFirst f (scalar_type_of statics.now (is_in_reach statics.now vars.now) (scalar_of (expr_at tree.now) ty) at)) }
@@ -180,7 +215,12 @@ fn scalar_in_reach(tree: &Tree, statics: &Statics, vars: &[Var], ty: ScalarNode,
 }
 
 /// The type of a number at this place: the names of its width first, then the width's value, then its size, 1 to 64.
-pub fn scalar_type(library: &Library, cx: &Context, ty: ScalarNode, at: Spot) -> Result<Scalar, CheckFault>
+pub fn scalar_type(
+    library: &Library,
+    cx: &Context,
+    ty: ScalarNode,
+    at: Spot,
+) -> Result<Scalar, CheckFault>
     requires { AreExprsBelow (length library.now.nodes.exprs) (scalar_exprs ty) }
     ensures value { IfOk result (λ k. scalar_type_of cx.now.statics (is_known_name (scope_in library.now cx.now) cx.now.vars) (scalar_of (expr_at library.now.nodes) ty) at ≡ Ok k) }
     ensures fault { IfErr result (λ f. IsFirst f (scalar_type_of cx.now.statics (is_known_name (scope_in library.now cx.now) cx.now.vars) (scalar_of (expr_at library.now.nodes) ty) at)) }
@@ -235,7 +275,10 @@ fn header_type(tree: &Tree, statics: &Statics, ty: TypeNode, at: Spot) -> Result
     let len = length_of(tree, statics, ty.size, at)?;
     let scalar = scalar_by(ty.scalar, width, at)?;
     let shape = shape_by(scalar, len, at)?;
-    Ok(Ty { classical: ty.classical, shape })
+    Ok(Ty {
+        classical: ty.classical,
+        shape,
+    })
 }
 
 /// The place itself, or one that is given.
@@ -269,7 +312,14 @@ fn is_held(param: ParamNode, mark: Mark) -> bool
 
 /// The types of parameters.
 #[tactic(auto, using(crate::proofs::HeaderLists::param_below))]
-fn param_types(alloc: Global, tree: &Tree, statics: &Statics, mark: Mark, at: Option<Spot>, params: &[ParamNode]) -> Result<ParamList, CheckFault>
+fn param_types(
+    alloc: Global,
+    tree: &Tree,
+    statics: &Statics,
+    mark: Mark,
+    at: Option<Spot>,
+    params: &[ParamNode],
+) -> Result<ParamList, CheckFault>
     requires { AreExprsBelow (length tree.now.exprs) (flat_map param_exprs params.now) }
     ensures value { IfOk result (λ ps. types_of_params statics.now mark (spot_at at) (map (param_of (expr_at tree.now)) params.now) ≡ Ok ps) }
     ensures fault { IfErr result (λ f. IsFirst f (types_of_params statics.now mark (spot_at at) (map (param_of (expr_at tree.now)) params.now))) }
@@ -285,7 +335,13 @@ fn param_types(alloc: Global, tree: &Tree, statics: &Statics, mark: Mark, at: Op
 
 /// The types of results.
 #[tactic(auto, using(crate::proofs::HeaderLists::result_below))]
-fn result_types(alloc: Global, tree: &Tree, statics: &Statics, at: Option<Spot>, results: &[TypeNode]) -> Result<TyList, CheckFault>
+fn result_types(
+    alloc: Global,
+    tree: &Tree,
+    statics: &Statics,
+    at: Option<Spot>,
+    results: &[TypeNode],
+) -> Result<TyList, CheckFault>
     requires { AreExprsBelow (length tree.now.exprs) (flat_map type_exprs results.now) }
     ensures value { IfOk result (λ ts. types_of_results statics.now (spot_at at) (map (type_of (expr_at tree.now)) results.now) ≡ Ok ts) }
     ensures fault { IfErr result (λ f. IsFirst f (types_of_results statics.now (spot_at at) (map (type_of (expr_at tree.now)) results.now))) }
@@ -309,17 +365,32 @@ fn lacks_result(mark: Mark, results: &[TypeNode]) -> bool
 }
 
 /// The types of the parameters and of the results of a function. Each fault stands at its type, or where a place is given, there.
-pub fn header_types(library: &Library, statics: &Statics, fun: u32, at: Option<Spot>) -> Result<Header, CheckFault>
+pub fn header_types(
+    library: &Library,
+    statics: &Statics,
+    fun: u32,
+    at: Option<Spot>,
+) -> Result<Header, CheckFault>
     requires { fun < length library.now.funs }
     ensures value { IfOk result (λ h. header_of statics.now (spot_at at) (function_at library.now fun) ≡ Ok (record { params = h.params; results = h.results })) }
     ensures fault { IfErr result (λ f. IsFirst f (header_of statics.now (spot_at at) (function_at library.now fun))) }
 {
     let node = library.fun(fun);
     let tree = library.tree();
-    let params = param_types(library.alloc(), tree, statics, node.mark, at, node.params.as_slice())?;
+    let params = param_types(
+        library.alloc(),
+        tree,
+        statics,
+        node.mark,
+        at,
+        node.params.as_slice(),
+    )?;
     let results = result_types(library.alloc(), tree, statics, at, node.results.as_slice())?;
     if lacks_result(node.mark, node.results.as_slice()) {
-        return Err(CheckFault::Broken { rule: rule::LIFTED_WITHOUT_RESULT, at: node.at });
+        return Err(CheckFault::Broken {
+            rule: rule::LIFTED_WITHOUT_RESULT,
+            at: node.at,
+        });
     }
     Ok(Header { params, results })
 }

@@ -10,8 +10,8 @@ ghost use Rattle.check_expr.specs.Context.{is_variable as among_variables};
 ghost use Rattle.check_expr.specs.Reach.{is_in_reach as reached};
 
 use crate::parts::same_part;
-use silq_tree::node::{Expr, ExprId, NameId, PlaceNode, ScalarNode, Spot};
 use silq_tree::Tree;
+use silq_tree::node::{Expr, ExprId, NameId, PlaceNode, ScalarNode, Spot};
 use silq_types::{Part, Var};
 use static_num::Statics;
 
@@ -32,7 +32,11 @@ fn value_of(pairs: &[(NameId, i64)], name: NameId) -> Option<i64>
 fn is_variable(vars: &[Var], name: NameId) -> bool
     ensures { result ≡ among_variables vars.now name }
 {
-    let whole = Part { name, first: None, second: None };
+    let whole = Part {
+        name,
+        first: None,
+        second: None,
+    };
     for var in vars {
         if same_part(var.part, whole) {
             return true;
@@ -68,7 +72,13 @@ pub(crate) fn spot_of(tree: &Tree, e: ExprId) -> Spot
 /// The first name in a place, which stands there, that is not in reach.
 #[cycle(reach)]
 #[tactic(auto, using(silq_tree::proofs::Lists::ids, crate::proofs::Reached::first_unknown_in_both))]
-fn unknown_in_place(tree: &Tree, statics: &Statics, vars: &[Var], place: PlaceNode, at: Spot) -> Option<Spot>
+fn unknown_in_place(
+    tree: &Tree,
+    statics: &Statics,
+    vars: &[Var],
+    place: PlaceNode,
+    at: Spot,
+) -> Option<Spot>
     requires { AreExprsBelow (length tree.now.exprs) (place_exprs place) }
     ensures { result ≡ first_of (reached statics.now vars.now) (names (placed (place_of (expr_at tree.now) place) at)) }
 {
@@ -90,7 +100,12 @@ fn unknown_in_place(tree: &Tree, statics: &Statics, vars: &[Var], place: PlaceNo
 /// The first name in the width of a type that is not in reach.
 #[cycle(reach)]
 #[tactic(auto, using(silq_tree::proofs::Lists::ids, crate::proofs::Reached::first_unknown_in_both))]
-pub(crate) fn unknown_in_width(tree: &Tree, statics: &Statics, vars: &[Var], ty: ScalarNode) -> Option<Spot>
+pub(crate) fn unknown_in_width(
+    tree: &Tree,
+    statics: &Statics,
+    vars: &[Var],
+    ty: ScalarNode,
+) -> Option<Spot>
     requires { AreExprsBelow (length tree.now.exprs) (scalar_exprs ty) }
     ensures { result ≡ first_of (reached statics.now vars.now) (scalar_names (scalar_of (expr_at tree.now) ty)) }
 {
@@ -131,7 +146,11 @@ pub(crate) fn first_unknown(tree: &Tree, statics: &Statics, vars: &[Var], e: Exp
         Expr::Truth { .. } => None,
         Expr::Pi { .. } => None,
         Expr::Place { place, at } => unknown_in_place(tree, statics, vars, *place, *at),
-        Expr::Call { statics: given, args, .. } => {
+        Expr::Call {
+            statics: given,
+            args,
+            ..
+        } => {
             if let Some(spot) = unknown_in_all(tree, statics, vars, given.as_slice()) {
                 return Some(spot);
             }

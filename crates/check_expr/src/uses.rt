@@ -153,7 +153,11 @@ fn param_needs(alloc: Global, mark: Mark, params: &[ParamNode]) -> Result<List<N
 {
     let mut asked = List::new(alloc);
     for param in params {
-        let need = if param.held || is_lifted(mark) { Need::Held } else { Need::Consumed };
+        let need = if param.held || is_lifted(mark) {
+            Need::Held
+        } else {
+            Need::Consumed
+        };
         asked.push(need)?;
     }
     Ok(asked)
@@ -191,7 +195,11 @@ fn needs_of_own(library: &Library, found: Option<u32>) -> Result<List<Need>, All
 }
 
 /// What a call of the function with this name asks.
-pub(crate) fn needs_of(library: &Library, cx: &Context, fun: NameId) -> Result<List<Need>, AllocError>
+pub(crate) fn needs_of(
+    library: &Library,
+    cx: &Context,
+    fun: NameId,
+) -> Result<List<Need>, AllocError>
     ensures { IfOk result (λ asked. asked ≡ asked_by (scope_in library.now cx.now) fun) }
 {
     match library.built_in(fun) {
@@ -229,14 +237,26 @@ fn indexed(library: &Library, cx: &Context, name: NameId, place: PlaceNode) -> O
     ensures part { IfSome result (λ part. part ≡ part_at name (indices part)) }
 {
     let Some(i) = place.first else {
-        return Some(Part { name, first: None, second: None });
+        return Some(Part {
+            name,
+            first: None,
+            second: None,
+        });
     };
     let first = eval(library.tree(), i, cx.statics()).ok()?;
     let Some(j) = place.second else {
-        return Some(Part { name, first: Some(first), second: None });
+        return Some(Part {
+            name,
+            first: Some(first),
+            second: None,
+        });
     };
     let second = eval(library.tree(), j, cx.statics()).ok()?;
-    Some(Part { name, first: Some(first), second: Some(second) })
+    Some(Part {
+        name,
+        first: Some(first),
+        second: Some(second),
+    })
 }
 
 /// The part that a place of this variable names; all of the variable where an index is not static, fails or is out of range.
@@ -257,11 +277,21 @@ fn named_part(library: &Library, cx: &Context, var: Var, place: PlaceNode) -> Pa
 }
 
 /// Adds the part that a place names.
-fn add_part(library: &Library, cx: &Context, place: PlaceNode, need: Need, out: &mut UseList) -> Result<(), AllocError>
+fn add_part(
+    library: &Library,
+    cx: &Context,
+    place: PlaceNode,
+    need: Need,
+    out: &mut UseList,
+) -> Result<(), AllocError>
     requires { AreExprsBelow (length library.now.nodes.exprs) (place_exprs place) }
     ensures { OnOk result (out.new ≡ out.old ++ place_use cx.now.statics (find_var cx.now.vars (variable place.name)) (place_indices (place_of (expr_at library.now.nodes) place)) need) }
 {
-    let whole = Part { name: place.name, first: None, second: None };
+    let whole = Part {
+        name: place.name,
+        first: None,
+        second: None,
+    };
     match cx.find(whole) {
         None => Ok(()),
         Some(var) => {
@@ -275,7 +305,12 @@ fn add_part(library: &Library, cx: &Context, place: PlaceNode, need: Need, out: 
 /// Adds the parts that the indices of a place name.
 #[cycle(uses)]
 #[tactic(auto, using(silq_tree::proofs::Lists::ids, crate::proofs::Named::place_uses_are))]
-fn add_indices(library: &Library, cx: &Context, place: PlaceNode, out: &mut UseList) -> Result<(), AllocError>
+fn add_indices(
+    library: &Library,
+    cx: &Context,
+    place: PlaceNode,
+    out: &mut UseList,
+) -> Result<(), AllocError>
     requires { AreExprsBelow (length library.now.nodes.exprs) (place_exprs place) }
     ensures { OnOk result (out.new ≡ out.old ++ all_uses (place_indices (place_of (expr_at library.now.nodes) place)) (scope_in library.now cx.now) cx.now.vars []) }
 {
@@ -292,7 +327,12 @@ fn add_indices(library: &Library, cx: &Context, place: PlaceNode, out: &mut UseL
 /// Adds the parts that the width of a type names.
 #[cycle(uses)]
 #[tactic(auto, using(silq_tree::proofs::Lists::ids, crate::proofs::Named::place_uses_are))]
-fn add_width(library: &Library, cx: &Context, ty: ScalarNode, out: &mut UseList) -> Result<(), AllocError>
+fn add_width(
+    library: &Library,
+    cx: &Context,
+    ty: ScalarNode,
+    out: &mut UseList,
+) -> Result<(), AllocError>
     requires { AreExprsBelow (length library.now.nodes.exprs) (scalar_exprs ty) }
     ensures { OnOk result (out.new ≡ out.old ++ scalar_uses (scalar_of (expr_at library.now.nodes) ty) (scope_in library.now cx.now) cx.now.vars) }
 {
@@ -306,7 +346,13 @@ fn add_width(library: &Library, cx: &Context, ty: ScalarNode, out: &mut UseList)
 /// Adds the parts that expressions name, where they are asked so.
 #[cycle(uses)]
 #[tactic(auto, using(silq_tree::proofs::Lists::ids, crate::proofs::Named::place_uses_are))]
-fn add_all(library: &Library, cx: &Context, items: &[ExprId], asked: &[Need], out: &mut UseList) -> Result<(), AllocError>
+fn add_all(
+    library: &Library,
+    cx: &Context,
+    items: &[ExprId],
+    asked: &[Need],
+    out: &mut UseList,
+) -> Result<(), AllocError>
     requires { AreExprsBelow (length library.now.nodes.exprs) items.now }
     ensures { OnOk result (out.new ≡ out.old ++ all_uses (expressions_of (expr_at library.now.nodes) items.now) (scope_in library.now cx.now) cx.now.vars asked.now) }
 {
@@ -321,7 +367,13 @@ fn add_all(library: &Library, cx: &Context, items: &[ExprId], asked: &[Need], ou
 /// Adds the parts that an expression names, itself used so.
 #[cycle(uses)]
 #[tactic(auto, using(silq_tree::proofs::Lists::ids, crate::proofs::Named::place_uses_are))]
-fn add_uses(library: &Library, cx: &Context, e: ExprId, need: Need, out: &mut UseList) -> Result<(), AllocError>
+fn add_uses(
+    library: &Library,
+    cx: &Context,
+    e: ExprId,
+    need: Need,
+    out: &mut UseList,
+) -> Result<(), AllocError>
     requires { e.number < length library.now.nodes.exprs }
     ensures { OnOk result (out.new ≡ out.old ++ uses (expr_at library.now.nodes e) (scope_in library.now cx.now) cx.now.vars need) }
 {
@@ -336,7 +388,12 @@ fn add_uses(library: &Library, cx: &Context, e: ExprId, need: Need, out: &mut Us
             add_part(library, cx, *place, need, out)?;
             add_indices(library, cx, *place, out)
         }
-        Expr::Call { fun, statics, args, .. } => {
+        Expr::Call {
+            fun,
+            statics,
+            args,
+            ..
+        } => {
             add_all(library, cx, statics.as_slice(), &[], out)?;
             let asked = needs_of(library, cx, *fun)?;
             add_all(library, cx, args.as_slice(), asked.as_slice(), out)
@@ -351,7 +408,12 @@ fn add_uses(library: &Library, cx: &Context, e: ExprId, need: Need, out: &mut Us
 }
 
 /// The parts that an expression names, itself used so.
-pub fn uses_of(library: &Library, cx: &Context, e: ExprId, need: Need) -> Result<UseList, AllocError>
+pub fn uses_of(
+    library: &Library,
+    cx: &Context,
+    e: ExprId,
+    need: Need,
+) -> Result<UseList, AllocError>
     requires { e.number < length library.now.nodes.exprs }
     ensures { IfOk result (λ us. us ≡ uses (expr_at library.now.nodes e) (scope_in library.now cx.now) cx.now.vars need) }
 {
@@ -362,7 +424,12 @@ pub fn uses_of(library: &Library, cx: &Context, e: ExprId, need: Need) -> Result
 
 /// The parts that each argument of a call names, where the call asks them so; past the end of the list they are held.
 #[tactic(auto, using(silq_tree::proofs::Lists::ids))]
-pub fn argument_parts(library: &Library, cx: &Context, args: &[ExprId], needs: &[Need]) -> Result<List<UseList>, AllocError>
+pub fn argument_parts(
+    library: &Library,
+    cx: &Context,
+    args: &[ExprId],
+    needs: &[Need],
+) -> Result<List<UseList>, AllocError>
     requires { AreExprsBelow (length library.now.nodes.exprs) args.now }
     ensures { IfOk result (λ parts. parts ≡ argument_uses (expressions_of (expr_at library.now.nodes) args.now) (scope_in library.now cx.now) cx.now.vars needs.now) }
 {
@@ -376,7 +443,12 @@ pub fn argument_parts(library: &Library, cx: &Context, args: &[ExprId], needs: &
 }
 
 /// Whether one operand consumes a part that overlaps one which the other holds.
-pub fn operands_clash(library: &Library, cx: &Context, left: ExprId, right: ExprId) -> Result<bool, AllocError>
+pub fn operands_clash(
+    library: &Library,
+    cx: &Context,
+    left: ExprId,
+    right: ExprId,
+) -> Result<bool, AllocError>
     requires left { left.number < length library.now.nodes.exprs }
     requires right { right.number < length library.now.nodes.exprs }
     ensures { IfOk result (λ clash. clash ≡ operand_clash (scope_in library.now cx.now) (expr_at library.now.nodes left) (expr_at library.now.nodes right) cx.now.vars) }

@@ -27,7 +27,7 @@ returns-in_err-params-clause-fault c =
     let p = spot_or c.args.at in
     let f = fun_grown (expr_at l) (stmt_at l) c.fun-node.result.now in
     let h = first_along c.in_err-params.field-0.0 _ _ (ap (header_of c.args.statics.now p) c.fun-node.ensures.tree)
-        (header_without_params c.args.statics.now p f _ (rw (c.tree-tree.ensures, c.as_slice.ensures) at c.in_err-params.ensures.fault)) in
+    (header_without_params c.args.statics.now p f _ (rw (c.tree-tree.ensures, c.as_slice.ensures) at c.in_err-params.ensures.fault)) in
     search rules
 
 pub returns-in_err-results-clause-fault : goal.returns-in_err-results-clause-fault
@@ -36,8 +36,8 @@ returns-in_err-results-clause-fault c =
     let p = spot_or c.args.at in
     let f = fun_grown (expr_at l) (stmt_at l) c.fun-node.result.now in
     let h = first_along c.in_err-results.field-0.0 _ _ (ap (header_of c.args.statics.now p) c.fun-node.ensures.tree)
-        (header_without_results c.args.statics.now p f _ (rw (c.tree-tree.ensures, c.as_slice.ensures) at c.in_ok-params.ensures.value) _
-        (rw (c.tree-tree.ensures, c.as_slice-2.ensures) at c.in_err-results.ensures.fault)) in
+    (header_without_results c.args.statics.now p f _ (rw (c.tree-tree.ensures, c.as_slice.ensures) at c.in_ok-params.ensures.value) _
+    (rw (c.tree-tree.ensures, c.as_slice-2.ensures) at c.in_err-results.ensures.fault)) in
     search rules
 
 pub returns-then-lacks_result-clause-fault : goal.returns-then-lacks_result-clause-fault
@@ -47,7 +47,7 @@ returns-then-lacks_result-clause-fault c =
     let f = fun_grown (expr_at l) (stmt_at l) c.fun-node.result.now in
     ap (header_of c.args.statics.now p) c.fun-node.ensures.tree
     ∙ header_given c.args.statics.now p f _ (rw (c.tree-tree.ensures, c.as_slice.ensures) at c.in_ok-params.ensures.value) _ true
-        (rw (c.tree-tree.ensures, c.as_slice-2.ensures) at c.in_ok-results.ensures.value) (rw c.as_slice-3.ensures at (c.if-lacks_result.ensures (expr_at l)))
+    (rw (c.tree-tree.ensures, c.as_slice-2.ensures) at c.in_ok-results.ensures.value) (rw c.as_slice-3.ensures at (c.if-lacks_result.ensures (expr_at l)))
 
 pub returns-clause-value : goal.returns-clause-value
 returns-clause-value c =
@@ -56,4 +56,4 @@ returns-clause-value c =
     let f = fun_grown (expr_at l) (stmt_at l) c.fun-node.result.now in
     ap (header_of c.args.statics.now p) c.fun-node.ensures.tree
     ∙ header_given c.args.statics.now p f _ (rw (c.tree-tree.ensures, c.as_slice.ensures) at c.in_ok-params.ensures.value) _ false
-        (rw (c.tree-tree.ensures, c.as_slice-2.ensures) at c.in_ok-results.ensures.value) (rw c.as_slice-3.ensures at (c.if-lacks_result.ensures (expr_at l)))
+    (rw (c.tree-tree.ensures, c.as_slice-2.ensures) at c.in_ok-results.ensures.value) (rw c.as_slice-3.ensures at (c.if-lacks_result.ensures (expr_at l)))

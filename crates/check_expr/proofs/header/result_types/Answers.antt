@@ -1,11 +1,10 @@
-use Rattle.std.proofs.Common.{◌≡◌, ◌∙◌, ap, length, map, drop, rules, Ok}
+use Rattle.std.proofs.Common.{◌∙◌, length, map, rules}
 use Rattle.silq_tree.specs.Arena.{expr_at}
 use Rattle.silq_tree.specs.Standing.{type_of}
 use Rattle.silq_types.specs.Types.{result_types}
 use Rattle.check_expr.specs.Headers.{spot_or}
-use Rattle.check_expr.specs.Steps.{IsFirst}
 use Rattle.check_expr.proofs.Chained.{first_along}
-use Rattle.check_expr.proofs.HeaderLists.{behind, behind_start, behind_none, result_below, results_turn, results_stop}
+use Rattle.check_expr.proofs.HeaderLists.{behind_start, result_below, results_turn, results_stop}
 use Rattle.check_expr.proofs.header.result_types.Goals as goal
 
 pub loop-ty-init : goal.loop-ty-init
@@ -17,12 +16,12 @@ header_type-requires c = result_below (length c.args.tree.now.exprs) c.args.resu
 pub returns-in_err-typed-clause-fault : goal.returns-in_err-typed-clause-fault
 returns-in_err-typed-clause-fault c =
     let h = first_along c.in_err-typed.field-0.0 _ _ c.loop-ty.invariant
-        (results_stop c.args.statics.now (spot_or c.args.at) (expr_at c.args.tree.now) c.args.results.now c.loop-ty.ty-index _ c.loop-ty.types c.in_err-typed.field-0.0
-        c.loop-ty-test.true (rw c.spot_or.ensures at c.in_err-typed.ensures.fault)) in
+    (results_stop c.args.statics.now (spot_or c.args.at) (expr_at c.args.tree.now) c.args.results.now c.loop-ty.ty-index _ c.loop-ty.types c.in_err-typed.field-0.0
+    c.loop-ty-test.true (rw c.spot_or.ensures at c.in_err-typed.ensures.fault)) in
     search rules
 
 pub loop-ty-preserved : goal.loop-ty-preserved
 loop-ty-preserved c =
     rw c.in_ok-push.ensures.ok (c.loop-ty.invariant
     ∙ results_turn c.args.statics.now (spot_or c.args.at) (expr_at c.args.tree.now) c.args.results.now c.loop-ty.ty-index _ c.loop-ty.types c.in_ok-typed.typed
-        c.loop-ty-test.true (rw c.spot_or.ensures at c.in_ok-typed.ensures.value))
+    c.loop-ty-test.true (rw c.spot_or.ensures at c.in_ok-typed.ensures.value))

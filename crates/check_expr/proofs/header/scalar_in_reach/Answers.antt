@@ -2,7 +2,7 @@ use Rattle.std.proofs.Common.{rules}
 use Rattle.silq_tree.specs.Arena.{expr_at}
 use Rattle.silq_tree.specs.Standing.{scalar_of}
 use Rattle.check_expr.specs.Reach.{is_in_reach}
-use Rattle.check_expr.proofs.Chained.{scalar_unknown, scalar_without_width, scalar_sized, first_along}
+use Rattle.check_expr.proofs.Chained.{scalar_unknown}
 use Rattle.check_expr.proofs.header.scalar_in_reach.Goals as goal
 
 pub returns-in_err-width_known-clause-fault : goal.returns-in_err-width_known-clause-fault
