@@ -7,7 +7,7 @@ ghost use Rattle.silq_tree.specs.Arena.{expr_at};
 ghost use Rattle.silq_tree.specs.Children.{scalar_exprs, type_exprs, param_exprs, listed, AreExprsBelow};
 ghost use Rattle.silq_tree.specs.Standing.{scalar_of, type_of, param_of};
 ghost use Rattle.silq_types.specs.Rules.{bad_size};
-ghost use Rattle.silq_types.specs.Types.{all_known as known_all, first_unknown as first_of, header_of, header_type as header_type_of, is_count as is_counted, is_empty, is_lifted as lifted, length_of as length_at, most_bits, most_items, moved_to as moved, names, needed_at as needed_value, param_types as types_of_params, result_types as types_of_results, scalar_by as scalar_of_width, scalar_names, scalar_type as scalar_type_of, shape_by as shape_of_length, single_shape as shape_of_single, size_names, width_of as width_at, width_spot as spot_of_width};
+ghost use Rattle.silq_types.specs.Types.{all_known as known_all, first_unknown as first_of, header_of, header_type as header_type_of, is_count as is_counted, is_empty, is_lifted as lifted, length_of as length_at, moved_to as moved, needed_at as needed_value, param_types as types_of_params, result_types as types_of_results, scalar_by as scalar_of_width, scalar_names, scalar_type as scalar_type_of, shape_by as shape_of_length, single_shape as shape_of_single, size_names, width_of as width_at, width_spot as spot_of_width};
 ghost use Rattle.check_expr.specs.declared.fault.CheckFault.TheVariants as checks;
 ghost use Rattle.check_expr.specs.Context.{is_known_name};
 ghost use Rattle.check_expr.specs.Headers.{spot_or as spot_at};
@@ -304,7 +304,7 @@ fn is_lifted(mark: Mark) -> bool
 }
 
 /// Whether a call holds the argument for this parameter of a function with this mark.
-fn is_held(param: ParamNode, mark: Mark) -> bool
+pub(crate) fn is_held(param: ParamNode, mark: Mark) -> bool
     ensures { result ≡ (param.held || lifted mark) }
 {
     param.held || is_lifted(mark)

@@ -2,9 +2,9 @@
 
 ghost use Rattle.std.specs.Prelude.{◌≡◌, ◌<◌, [], ◌++◌, length, map, option_map, IfOk, IfSome, OnOk};
 ghost use Rattle.silq_tree.specs.Arena.{expr_at};
-ghost use Rattle.silq_tree.specs.Children.{place_exprs, scalar_exprs, AreExprsBelow, HasFirst};
+ghost use Rattle.silq_tree.specs.Children.{place_exprs, scalar_exprs, AreExprsBelow};
 ghost use Rattle.silq_tree.specs.Standing.{expressions_of, place_of, scalar_of};
-ghost use Rattle.silq_types.specs.Types.{place_indices, is_lifted as lifted};
+ghost use Rattle.silq_types.specs.Types.{place_indices};
 ghost use Rattle.check_expr.specs.Context.{find_var, indices, part_at, variable};
 ghost use Rattle.check_expr.specs.Expression.{operand_clash};
 ghost use Rattle.check_expr.specs.Library.{found_at};
@@ -13,6 +13,7 @@ ghost use Rattle.check_expr.specs.Used.{is_used as used, uses_clash, node_need};
 ghost use Rattle.check_expr.specs.Uses.{is_consumed as consumed, uses, all_uses, scalar_uses, place_use, argument_uses, index_values, named_part as part_named, needs_of as asked_by, needs_of_built_in as asked_by_built_in, needs_of_own as asked_by_own, first_need as need_first, later_needs as needs_later, meets as some_meets, clash as some_clash, both_consume, consume_and_hold, some_with as with_some, some_pair};
 
 use crate::context::Context;
+use crate::header::is_held;
 use crate::library::Library;
 use crate::need::Need;
 use crate::parts::overlaps;
@@ -135,25 +136,13 @@ pub fn consume_held(parts: &[UseList]) -> bool
 
 // ---- what a call asks of its arguments; past the end of a list they are held
 
-/// Whether a function's parameters are all held.
-fn is_lifted(mark: Mark) -> bool
-    ensures { result ≡ lifted mark }
-{
-    match mark {
-        Mark::Lifted => true,
-        Mark::Plain => false,
-        Mark::Mfree => false,
-        Mark::Qfree => false,
-    }
-}
-
 /// What a call of a function with such parameters asks.
 fn param_needs(alloc: Global, mark: Mark, params: &[ParamNode]) -> Result<List<Need>, AllocError>
     ensures { IfOk result (λ asked. asked ≡ map (node_need mark) params.now) }
 {
     let mut asked = List::new(alloc);
     for param in params {
-        let need = if param.held || is_lifted(mark) {
+        let need = if is_held(*param, mark) {
             Need::Held
         } else {
             Need::Consumed
