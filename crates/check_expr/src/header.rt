@@ -10,7 +10,7 @@ ghost use Rattle.silq_types.specs.Rules.{bad_size};
 ghost use Rattle.silq_types.specs.Types.{all_known as known_all, first_unknown as first_of, header_of, header_type as header_type_of, is_count as is_counted, is_empty, is_lifted as lifted, length_of as length_at, moved_to as moved, needed_at as needed_value, param_types as types_of_params, result_types as types_of_results, scalar_by as scalar_of_width, scalar_names, scalar_type as scalar_type_of, shape_by as shape_of_length, single_shape as shape_of_single, size_names, width_of as width_at, width_spot as spot_of_width};
 ghost use Rattle.check_expr.specs.declared.fault.CheckFault.TheVariants as checks;
 ghost use Rattle.check_expr.specs.Context.{is_known_name};
-ghost use Rattle.check_expr.specs.Headers.{spot_or as spot_at};
+ghost use Rattle.check_expr.specs.Headers.{spot_or};
 ghost use Rattle.check_expr.specs.Library.{function_at};
 ghost use Rattle.check_expr.specs.Reach.{is_in_reach, type_known};
 ghost use Rattle.check_expr.specs.State.{scope_in};
@@ -282,8 +282,8 @@ fn header_type(tree: &Tree, statics: &Statics, ty: TypeNode, at: Spot) -> Result
 }
 
 /// The place itself, or one that is given.
-fn spot_or(at: Option<Spot>, spot: Spot) -> Spot
-    ensures { result ≡ spot_at at spot }
+fn given_or(at: Option<Spot>, spot: Spot) -> Spot
+    ensures { result ≡ spot_or at spot }
 {
     match at {
         None => spot,
@@ -321,12 +321,12 @@ fn param_types(
     params: &[ParamNode],
 ) -> Result<ParamList, CheckFault>
     requires { AreExprsBelow (length tree.now.exprs) (flat_map param_exprs params.now) }
-    ensures value { IfOk result (λ ps. types_of_params statics.now mark (spot_at at) (map (param_of (expr_at tree.now)) params.now) ≡ Ok ps) }
-    ensures fault { IfErr result (λ f. IsFirst f (types_of_params statics.now mark (spot_at at) (map (param_of (expr_at tree.now)) params.now))) }
+    ensures value { IfOk result (λ ps. types_of_params statics.now mark (spot_or at) (map (param_of (expr_at tree.now)) params.now) ≡ Ok ps) }
+    ensures fault { IfErr result (λ f. IsFirst f (types_of_params statics.now mark (spot_or at) (map (param_of (expr_at tree.now)) params.now))) }
 {
     let mut types = ParamList::new(alloc);
     for param in params {
-        let ty = header_type(tree, statics, param.ty, spot_or(at, param.ty.at))?;
+        let ty = header_type(tree, statics, param.ty, given_or(at, param.ty.at))?;
         let held = is_held(*param, mark);
         types.push(Param { ty, held })?;
     }
@@ -343,12 +343,12 @@ fn result_types(
     results: &[TypeNode],
 ) -> Result<TyList, CheckFault>
     requires { AreExprsBelow (length tree.now.exprs) (flat_map type_exprs results.now) }
-    ensures value { IfOk result (λ ts. types_of_results statics.now (spot_at at) (map (type_of (expr_at tree.now)) results.now) ≡ Ok ts) }
-    ensures fault { IfErr result (λ f. IsFirst f (types_of_results statics.now (spot_at at) (map (type_of (expr_at tree.now)) results.now))) }
+    ensures value { IfOk result (λ ts. types_of_results statics.now (spot_or at) (map (type_of (expr_at tree.now)) results.now) ≡ Ok ts) }
+    ensures fault { IfErr result (λ f. IsFirst f (types_of_results statics.now (spot_or at) (map (type_of (expr_at tree.now)) results.now))) }
 {
     let mut types = TyList::new(alloc);
     for ty in results {
-        let typed = header_type(tree, statics, *ty, spot_or(at, ty.at))?;
+        let typed = header_type(tree, statics, *ty, given_or(at, ty.at))?;
         types.push(typed)?;
     }
     Ok(types)
@@ -372,8 +372,8 @@ pub fn header_types(
     at: Option<Spot>,
 ) -> Result<Header, CheckFault>
     requires { fun < length library.now.funs }
-    ensures value { IfOk result (λ h. header_of statics.now (spot_at at) (function_at library.now fun) ≡ Ok (record { params = h.params; results = h.results })) }
-    ensures fault { IfErr result (λ f. IsFirst f (header_of statics.now (spot_at at) (function_at library.now fun))) }
+    ensures value { IfOk result (λ h. header_of statics.now (spot_or at) (function_at library.now fun) ≡ Ok (record { params = h.params; results = h.results })) }
+    ensures fault { IfErr result (λ f. IsFirst f (header_of statics.now (spot_or at) (function_at library.now fun))) }
 {
     let node = library.fun(fun);
     let tree = library.tree();

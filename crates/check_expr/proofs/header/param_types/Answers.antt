@@ -18,11 +18,11 @@ pub returns-in_err-ty-clause-fault : goal.returns-in_err-ty-clause-fault
 returns-in_err-ty-clause-fault c =
     let h = first_along c.in_err-ty.field-0.0 _ _ c.loop-param.invariant
     (params_stop c.args.statics.now (spot_or c.args.at) (expr_at c.args.tree.now) c.args.mark c.args.params.now c.loop-param.param-index _ c.loop-param.types
-    c.in_err-ty.field-0.0 c.loop-param-test.true (rw c.spot_or.ensures at c.in_err-ty.ensures.fault)) in
+    c.in_err-ty.field-0.0 c.loop-param-test.true (rw c.given_or.ensures at c.in_err-ty.ensures.fault)) in
     search rules
 
 pub loop-param-preserved : goal.loop-param-preserved
 loop-param-preserved c =
     rw (c.in_ok-push.ensures.ok, c.is_held-held.ensures) (c.loop-param.invariant
     ∙ params_turn c.args.statics.now (spot_or c.args.at) (expr_at c.args.tree.now) c.args.mark c.args.params.now c.loop-param.param-index _ c.loop-param.types c.in_ok-ty.ty
-    c.loop-param-test.true (rw c.spot_or.ensures at c.in_ok-ty.ensures.value))
+    c.loop-param-test.true (rw c.given_or.ensures at c.in_ok-ty.ensures.value))

@@ -17,11 +17,11 @@ pub returns-in_err-typed-clause-fault : goal.returns-in_err-typed-clause-fault
 returns-in_err-typed-clause-fault c =
     let h = first_along c.in_err-typed.field-0.0 _ _ c.loop-ty.invariant
     (results_stop c.args.statics.now (spot_or c.args.at) (expr_at c.args.tree.now) c.args.results.now c.loop-ty.ty-index _ c.loop-ty.types c.in_err-typed.field-0.0
-    c.loop-ty-test.true (rw c.spot_or.ensures at c.in_err-typed.ensures.fault)) in
+    c.loop-ty-test.true (rw c.given_or.ensures at c.in_err-typed.ensures.fault)) in
     search rules
 
 pub loop-ty-preserved : goal.loop-ty-preserved
 loop-ty-preserved c =
     rw c.in_ok-push.ensures.ok (c.loop-ty.invariant
     ∙ results_turn c.args.statics.now (spot_or c.args.at) (expr_at c.args.tree.now) c.args.results.now c.loop-ty.ty-index _ c.loop-ty.types c.in_ok-typed.typed
-    c.loop-ty-test.true (rw c.spot_or.ensures at c.in_ok-typed.ensures.value))
+    c.loop-ty-test.true (rw c.given_or.ensures at c.in_ok-typed.ensures.value))
