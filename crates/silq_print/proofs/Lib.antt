@@ -9,3 +9,5 @@ pub mod Chains
 pub mod Lowest
 pub mod DerivedNests
 pub mod Even
+pub mod ContentTexts
+pub mod ContentTrees
