@@ -11,3 +11,4 @@ pub mod DerivedNests
 pub mod Even
 pub mod ContentTexts
 pub mod ContentTrees
+pub mod ReadBack
