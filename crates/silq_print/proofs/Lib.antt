@@ -11,4 +11,5 @@ pub mod DerivedNests
 pub mod Even
 pub mod ContentTexts
 pub mod ContentTrees
+pub mod ContentNames
 pub mod ReadBack
