@@ -12,4 +12,6 @@ pub mod Even
 pub mod ContentTexts
 pub mod ContentTrees
 pub mod ContentNames
+pub mod ContentLexed
+pub mod ContentWritten
 pub mod ReadBack

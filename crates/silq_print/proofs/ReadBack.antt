@@ -16,12 +16,14 @@ use Rattle.silq_parse.specs.Faults.{first_fault, fault_by, fault_of_tokens}
 use Rattle.silq_parse.specs.declared.fault.ParseFault.{ParseFault}
 use Rattle.silq_parse.specs.declared.fault.ParseFault.TheVariants.{Long}
 use Rattle.silq_print.specs.Bare.{bare_token, bare_program}
-use Rattle.silq_print.specs.Content.{content}
+use Rattle.silq_print.specs.Content.{content, IsContent, AreWritten}
 use Rattle.silq_print.specs.Derived.{derived}
 use Rattle.silq_print.specs.Printed.{printed, program_printed}
 use Rattle.silq_print.specs.Laws.{AreAlike, IsOfText, ReadsBack, PrintedReadsBack}
 use Rattle.silq_print.proofs.Alike.{alike_fine, alike_trees}
 use Rattle.silq_print.proofs.ContentTrees.{derived_content}
+use Rattle.silq_print.proofs.ContentLexed.{lexed_content}
+use Rattle.silq_print.proofs.ContentWritten.{written_names, written_back}
 use Rattle.silq_print.proofs.DerivedTrees.{derived_stands}
 use Rattle.silq_print.proofs.Even.{derived_fine}
 
@@ -67,21 +69,26 @@ module _ (nodes : Forest) (names : List (List ℕ)) (funs : List FunId) (text : 
             ∙ sym (ap bare_program stands);
       }
 
--- what is lexed as it is written: what a text is lexed to, and with it all tokens of that content
-module _
-  (IsProper : List (List ℕ) → List Token → Type 0)
-  (by_content : (names : List (List ℕ)) (ts us : List Token) → content ts ≡ content us → IsProper names ts → IsProper names us)
-  (lexed_back : (names : List (List ℕ)) (ts : List Token) → IsProper names ts → AreLexed names ts (tokens_of (chars (printed names ts))))
-  (lexed_proper : (text : List ℕ) → IsProper (names_of (tokens_of (chars text)).items) (all_tokens (tokens_of (chars text)).items))
-  where
+-- tokens that are lexed as they are written are these
+pub from_written : (names : List (List ℕ)) (ts : List Token) (tokens : Tokens) (place : Place) → IsContent names (content ts) → tokens.ending ≡ End place
+    → AreWritten names ts tokens.items → AreLexed names ts tokens
+from_written names ts tokens place c e w = record {
+  place = place;
+  ending = e;
+  named = written_names names ts tokens.items c w;
+  alike = written_back names ts tokens.items c w;
+}
+
+-- where what is written is lexed to what it was, it reads back
+module _ (lexed_back : (names : List (List ℕ)) (ts : List Token) → IsContent names (content ts) → AreLexed names ts (tokens_of (chars (printed names ts)))) where
   pub printed_reads : PrintedReadsBack
   printed_reads nodes names funs o =
       let parsed = o.stands.parsed in
       let p = parsed.derivation in
+      let q = derived (program_tree p) in
       let all = all_tokens (tokens_of (chars o.text)).items in
-      let is_proper : IsProper names all = subst (λ (ns : List (List ℕ)). IsProper ns all) (sym o.stands.named) (lexed_proper o.text) in
-      let same : content all ≡ content (program_text (derived (program_tree p))) = ap content parsed.spelled ∙ sym (derived_content p) in
+      let named : IsContent names (content all) = subst (λ (ns : List (List ℕ)). IsContent ns (content all)) (sym o.stands.named) (lexed_content o.text) in
+      let same : content all ≡ content (program_text q) = ap content parsed.spelled ∙ sym (derived_content p) in
       let fine : program_outcome (program_text p) ≡ Fine = sym (ap program_outcome parsed.spelled) ∙ fine_text o.text o.fine in
-      let lexed = lexed_back names (program_text (derived (program_tree p))) (by_content names all (program_text (derived (program_tree p))) same is_proper) in
-      subst (λ (t : List ℕ). ReadsBack nodes names funs t) (sym (ap (program_printed names) parsed.stands))
-      (read_back nodes names funs (printed names (program_text (derived (program_tree p)))) p parsed.stands fine lexed)
+      let lexed = lexed_back names (program_text q) (subst (IsContent names) same named) in
+      subst (ReadsBack nodes names funs) (sym (ap (program_printed names) parsed.stands)) (read_back nodes names funs (printed names (program_text q)) p parsed.stands fine lexed)
