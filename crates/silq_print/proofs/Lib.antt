@@ -10,3 +10,4 @@ pub mod Lowest
 pub mod DerivedNests
 pub mod Even
 pub mod LexedText
+pub mod LexedTokens

@@ -3,3 +3,4 @@ pub mod Laws
 pub mod Ways
 pub mod Derived
 pub mod Printed
+pub mod Proper
