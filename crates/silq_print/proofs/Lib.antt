@@ -14,4 +14,7 @@ pub mod ContentTrees
 pub mod ContentNames
 pub mod ContentLexed
 pub mod ContentWritten
+pub mod ContentProper
+pub mod LexedText
+pub mod LexedTokens
 pub mod ReadBack

@@ -4,3 +4,4 @@ pub mod Ways
 pub mod Derived
 pub mod Printed
 pub mod Content
+pub mod Proper
