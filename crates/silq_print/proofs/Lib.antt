@@ -11,9 +11,6 @@ pub mod DerivedNests
 pub mod Even
 pub mod ContentTexts
 pub mod ContentTrees
-pub mod ContentNames
-pub mod ContentLexed
-pub mod ContentWritten
 pub mod ContentProper
 pub mod LexedText
 pub mod LexedTokens

@@ -1,17 +1,9 @@
 -- The names and numbers of tokens and of trees, in their order, without places.
-use Rattle.std.specs.Prelude.{◌≡◌, ◌⊎◌, ℕ, suc, ◌<◌, ◌≤◌, ℤ, pos, negsuc, List, [], ◌∷◌, ◌++◌, length, Some, encode_utf8_all}
-use Rattle.silq_lex.specs.declared.token.TokenKind.{TokenKind}
-use Rattle.silq_lex.specs.declared.token.TokenKind.TheVariants as kinds
-use Rattle.silq_lex.specs.Kinds.{kind_of}
-use Rattle.silq_lex.specs.Tokens.{Located}
-use Rattle.silq_tree.specs.Texts.{AreDifferent}
+use Rattle.std.specs.Prelude.{◌≡◌, ◌⊎◌, ℕ, suc, ◌<◌, ◌≤◌, ℤ, pos, negsuc, List, [], ◌∷◌, ◌++◌}
 use Rattle.silq_tree.specs.declared.node.NameId.{NameId}
 use Rattle.silq_tree.specs.Syntax.{Expression, ScalarType, Place, Expressions, number, typed_number, truth, pi, place, called, tuple, unary, binary, bit, uint, int, whole, part, part_of_part, none, more, Statement, Block, Otherwise, Statements, assign, spread, update, forget, forget_value, phase, choice, loop, return_nothing, return_value, call, block, else_block, else_choice, done, next, WrittenType, scalar, array, Parameter, Function, Program}
 use Rattle.silq_grammar.specs.declared.token.Token.{Token}
 use Rattle.silq_grammar.specs.declared.token.Token.TheVariants.{Name, Number, Fixed}
-use Rattle.silq_grammar.specs.declared.token.Terminal.{Terminal}
-use Rattle.silq_grammar.specs.declared.token.Terminal.TheVariants as t
-use Rattle.silq_print.specs.Printed.{token_text}
 
 pub data Word : Type 0 where
   a_name : NameId → Word
@@ -115,59 +107,3 @@ AreReadable [] = Unit {0}
 AreReadable (a_name id ∷ ws) = AreReadable ws
 AreReadable (a_number (pos n) ∷ ws) = (n ≤ 9223372036854775807) × AreReadable ws
 AreReadable (a_number (negsuc n) ∷ ws) = ⊥
-
--- bytes of a name
-pub record IsName (text : List ℕ) : Type 0 where
-  pub characters : List ℕ
-  pub encoded : text ≡ encode_utf8_all characters
-  pub kind : kind_of characters ≡ Some kinds.Name
-
-abbrev pub AreNames : List (List ℕ) → Type 0
-AreNames [] = Unit {0}
-AreNames (text ∷ names) = IsName text × AreNames names
-
--- names and numbers that a text has, in their order, with the texts of the names
-pub record IsContent (names : List (List ℕ)) (ws : List Word) : Type 0 where
-  pub texts : AreNames names
-  pub different : AreDifferent names
-  pub numbered : AreNumbered 0 ws (length names)
-  pub readable : AreReadable ws
-
--- the kind of a token, as it is written
-abbrev pub fixed_kind : Terminal → TokenKind
-fixed_kind t.Def = kinds.Word
-fixed_kind t.Return = kinds.Word
-fixed_kind t.If = kinds.Word
-fixed_kind t.Else = kinds.Word
-fixed_kind t.For = kinds.Word
-fixed_kind t.In = kinds.Word
-fixed_kind t.Forget = kinds.Word
-fixed_kind t.Phase = kinds.Word
-fixed_kind t.Const = kinds.Word
-fixed_kind t.Qfree = kinds.Word
-fixed_kind t.Mfree = kinds.Word
-fixed_kind t.Lifted = kinds.Word
-fixed_kind t.True = kinds.Word
-fixed_kind t.False = kinds.Word
-fixed_kind t.Pi = kinds.Word
-fixed_kind t.Bit = kinds.Word
-fixed_kind t.Natural = kinds.Word
-fixed_kind t.UInt = kinds.Word
-fixed_kind t.Int = kinds.Word
-fixed_kind _ = kinds.Sign
-
-abbrev pub written_kind : Token → TokenKind
-written_kind (Name id at) = kinds.Name
-written_kind (Number value at) = kinds.Number
-written_kind (Fixed t at) = fixed_kind t
-
-pub record IsWritten (names : List (List ℕ)) (t : Token) (item : Located) : Type 0 where
-  pub kind : item.kind ≡ written_kind t
-  pub text : item.text ≡ token_text names t
-
--- as they are written
-abbrev pub AreWritten : List (List ℕ) → List Token → List Located → Type 0
-AreWritten names [] [] = Unit {0}
-AreWritten names [] (i ∷ items) = ⊥
-AreWritten names (t ∷ ts) [] = ⊥
-AreWritten names (t ∷ ts) (i ∷ items) = IsWritten names t i × AreWritten names ts items
