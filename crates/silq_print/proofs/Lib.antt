@@ -11,3 +11,5 @@ pub mod DerivedNests
 pub mod Even
 pub mod LexedText
 pub mod LexedTokens
+pub mod LexedRows
+pub mod LexedNames
