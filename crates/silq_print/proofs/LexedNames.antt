@@ -26,7 +26,7 @@ in_front [] ys i l = absurd (omega arith)
 in_front (x ∷ xs) ys zero l = refl
 in_front (x ∷ xs) ys (suc i) l = in_front xs ys i (omega arith)
 
-at_seam : {X : Type 0} (xs ys : List X) (y : X) → slice_get (xs ++ y ∷ ys) (length xs) ≡ Some y
+pub at_seam : {X : Type 0} (xs ys : List X) (y : X) → slice_get (xs ++ y ∷ ys) (length xs) ≡ Some y
 at_seam [] ys y = refl
 at_seam (x ∷ xs) ys y = at_seam xs ys y
 

@@ -200,7 +200,7 @@ digits_lexed (d ∷ ds) h l n = record {
   front = digits_front (d ∷ ds) (digits_kind d ds h) n;
 }
 
-digits_chars : (ds : List ℕ) → list_all is_digit ds ≡ true → chars ds ≡ ds
+pub digits_chars : (ds : List ℕ) → list_all is_digit ds ≡ true → chars ds ≡ ds
 digits_chars ds h = ap chars (sym (digits_encode ds h)) ∙ chars-encodes ds (digits_scalar ds h)
 
 module _ (n : ℕ) (small : n ≤ 9223372036854775807) where

@@ -13,3 +13,6 @@ pub mod LexedText
 pub mod LexedTokens
 pub mod LexedRows
 pub mod LexedNames
+pub mod LexedBack
+pub mod LexedMade
+pub mod LexedProper
