@@ -89,11 +89,11 @@ has b cs = list_any (λ c. c == b) cs
 
 -- what is told of a blank that is put behind tokens
 pub record IsSpace (b : ℕ) : Type 0 where
-  blank : is_blank b ≡ true
-  low : b < 42
-  no_name : continues_name b ≡ false
-  no_digit : is_digit b ≡ false
-  no_sign : list_all (λ s. not (list_any (λ c. c == b) s)) signs ≡ true
+  pub blank : is_blank b ≡ true
+  pub low : b < 42
+  pub no_name : continues_name b ≡ false
+  pub no_digit : is_digit b ≡ false
+  pub no_sign : list_all (λ s. not (list_any (λ c. c == b) s)) signs ≡ true
 
 pub feed_space : IsSpace 10
 unfolding unicode_ident

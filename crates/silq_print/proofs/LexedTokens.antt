@@ -1,5 +1,5 @@
 -- The text of each token is lexed as one token, which is it.
-use Rattle.std.proofs.Common.{◌≡◌, ℕ, ◌+◌, ◌<◌, ◌≤◌, ◌^◌, Bool, true, false, cond, not, ◌&&◌, ◌||◌, List, [], ◌∷◌, ◌++◌, Option, Some, None, length, map, nat_le, ◌==◌, if◌then◌else◌, pos, negsuc, refl, sym, ◌∙◌, ap, subst, leb-true, le-leb, arith}
+use Rattle.std.proofs.Common.{◌≡◌, ℕ, ◌+◌, ◌<◌, ◌≤◌, ◌^◌, ◌⊎◌, inl, inr, suc, Bool, true, false, cond, not, ◌&&◌, ◌||◌, List, [], ◌∷◌, ◌++◌, Option, Some, None, length, map, nat_le, ◌==◌, if◌then◌else◌, pos, negsuc, refl, sym, ◌∙◌, ap, subst, leb-true, le-leb, arith}
 use Rattle.std.specs.Prelude.{codes, is_some, decimal, slice_get, slice_index_or}
 use Rattle.std.specs.List.{list_all}
 use Rattle.std.specs.Str.{all_scalars, encode_utf8_all, chars}
@@ -7,11 +7,12 @@ use lib.Utf8.{encode}
 use Rattle.std.proofs.Math.Utf8.{low_scalar}
 use Rattle.std.proofs.lemmas.Str.{chars-encodes}
 use Rattle.std.proofs.lemmas.Fmt.{digits_decimal, digits_value-decimal, decimal_nonempty}
-use Rattle.std.proofs.lemmas.Option.{get_or_from_slice_get}
+use Rattle.std.proofs.lemmas.Option.{slice_get-get_or}
 use Rattle.ucd_table.proofs.Facts.{Stepped-below}
 use Rattle.ucd_derived.proofs.BinaryLemmas.{is_xid_start_stepped}
 use Rattle.unicode_ident.specs.Ident.{is_xid_start}
 use Rattle.unicode_ident.proofs.Computing.{unicode_ident}
+use Rattle.silq_tree.specs.declared.node.NameId.{NameId}
 use Rattle.silq_tree.specs.declared.node.Spot.{Spot}
 use Rattle.silq_lex.specs.declared.token.TokenKind.{TokenKind}
 use Rattle.silq_lex.specs.declared.token.TokenKind.TheVariants.{Word, Sign}
@@ -28,7 +29,7 @@ use Rattle.silq_parse.specs.Spelling.{spelled}
 use Rattle.silq_parse.specs.Lexed.{named, token_as, fixed}
 use Rattle.silq_print.specs.Bare.{nowhere, bare_token}
 use Rattle.silq_print.specs.Printed.{fixed_text, token_text}
-use Rattle.silq_print.specs.Proper.{IsNameText}
+use Rattle.silq_print.specs.Proper.{IsNameText, AreInOrder, AreSmall}
 use Rattle.silq_print.proofs.LexedText.{name_scalars}
 
 -- a text is characters that stand as a token
@@ -199,7 +200,7 @@ digits_lexed (d ∷ ds) h l n = record {
   front = digits_front (d ∷ ds) (digits_kind d ds h) n;
 }
 
-digits_chars : (ds : List ℕ) → list_all is_digit ds ≡ true → chars ds ≡ ds
+pub digits_chars : (ds : List ℕ) → list_all is_digit ds ≡ true → chars ds ≡ ds
 digits_chars ds h = ap chars (sym (digits_encode ds h)) ∙ chars-encodes ds (digits_scalar ds h)
 
 module _ (n : ℕ) (small : n ≤ 9223372036854775807) where
@@ -225,3 +226,42 @@ name_lexed text h = of h.0 h.1 h.2
     of : (cs : List ℕ) → text ≡ encode_utf8_all cs → kind_of cs ≡ Some kinds.Name → IsLexed text kinds.Name
     of [] e k = cc
     of (c ∷ cs) e k = record { first = c; rest = cs; bytes = e; scalars = name_scalars (c ∷ cs) k; kind = k; front = ap (λ o. kinded o (c ∷ cs)) k }
+
+-- ---- any token
+
+-- the token's text is lexed as the token
+pub record IsReadable (names : List (List ℕ)) (token : Token) : Type 0 where
+  pub kind : TokenKind
+  pub lexed : IsLexed (token_text names token) kind
+  pub reads : Reads names token kind (token_text names token)
+
+abbrev pub AreReadable : List (List ℕ) → List Token → Type 0
+AreReadable names [] = Unit {0}
+AreReadable names (t ∷ ts) = IsReadable names t × AreReadable names ts
+
+pub seen_of_all : (n seen : ℕ) (ts : List Token) → AreInOrder n seen ts → seen ≤ n
+seen_of_all n seen [] o = omega (arith, o)
+seen_of_all n seen (Name id at ∷ ts) (inl o) = seen_of_all n seen ts o.1
+seen_of_all n seen (Name id at ∷ ts) (inr o) = let l : suc seen ≤ n = seen_of_all n (suc seen) ts o.1 in omega arith
+seen_of_all n seen (Number v at ∷ ts) o = seen_of_all n seen ts o
+seen_of_all n seen (Fixed f at ∷ ts) o = seen_of_all n seen ts o
+
+module _ (names : List (List ℕ)) (texts : (i : ℕ) (text : List ℕ) → slice_get names i ≡ Some text → IsNameText text) where
+  name_readable : (id : NameId) (at : Spot) → id.number < length names → IsReadable names (Name id at)
+  name_readable id at l =
+      let stands : slice_get names id.number ≡ Some (slice_index_or names id.number []) = slice_get-get_or names id.number [] l in
+      record { kind = kinds.Name; lexed = name_lexed _ (texts id.number _ stands); reads = (refl, stands) }
+
+  pub all_readable : (seen : ℕ) (ts : List Token) → AreInOrder (length names) seen ts → AreSmall ts → AreReadable names ts
+  all_readable seen [] o s = tt
+  all_readable seen (Name id at ∷ ts) (inl o) s =
+      let l : seen ≤ length names = seen_of_all _ _ ts o.1 in
+      let h : id.number < seen = o.0 in (name_readable id at (omega arith), all_readable seen ts o.1 s)
+  all_readable seen (Name id at ∷ ts) (inr o) s =
+      let l : suc seen ≤ length names = seen_of_all _ _ ts o.1 in
+      let h : id.number ≡ seen = o.0 in (name_readable id at (omega arith), all_readable (suc seen) ts o.1 s)
+  all_readable seen (Number (pos n) at ∷ ts) o s =
+      (record { kind = kinds.Number; lexed = number_lexed n s.0; reads = number_same n s.0 }, all_readable seen ts o s.1)
+  all_readable seen (Number (negsuc n) at ∷ ts) o s = absurd s
+  all_readable seen (Fixed f at ∷ ts) o s =
+      (record { kind = fixed_kind f; lexed = fixed_lexed f; reads = fixed_same f }, all_readable seen ts o s)

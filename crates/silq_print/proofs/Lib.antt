@@ -14,4 +14,9 @@ pub mod ContentTrees
 pub mod ContentProper
 pub mod LexedText
 pub mod LexedTokens
+pub mod LexedRows
+pub mod LexedNames
+pub mod LexedBack
+pub mod LexedMade
+pub mod LexedProper
 pub mod ReadBack
