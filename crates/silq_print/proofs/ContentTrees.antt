@@ -5,7 +5,7 @@ use Rattle.silq_grammar.specs.Grammar as g
 use Rattle.silq_grammar.specs.Spelled.{program_text}
 use Rattle.silq_grammar.specs.Trees.{program_tree}
 use Rattle.silq_print.specs.Bare.{bare_expr, bare_scalar, bare_place, bare_exprs, bare_stmt, bare_block, bare_otherwise, bare_stmts, bare_type, bare_param, bare_function, bare_program}
-use Rattle.silq_print.specs.Content.{Word, a_name, a_number, content, names_content, expr_content, scalar_content, place_content, exprs_content, stmt_content, block_content, otherwise_content, stmts_content, type_content, types_content, param_content, params_content, function_content, tree_content}
+use Rattle.silq_print.specs.Content.{a_name, a_number, content, names_content, expr_content, scalar_content, place_content, exprs_content, stmt_content, block_content, otherwise_content, stmts_content, type_content, types_content, params_content, function_content, tree_content}
 use Rattle.silq_print.specs.Derived.{derived}
 use Rattle.silq_print.proofs.DerivedTrees.{derived_stands}
 use Rattle.silq_print.proofs.ContentTexts.{program_says}

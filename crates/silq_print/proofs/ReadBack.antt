@@ -1,17 +1,14 @@
 -- What a program is written as reads back.
 use Rattle.std.proofs.Common.{◌≡◌, ℕ, Bool, true, false, List, [], ◌∷◌, map, length, nat_lt, Option, Some, None, if◌then◌else◌, refl, sym, ◌∙◌, ap, subst}
 use Rattle.std.specs.Str.{chars}
-use Rattle.silq_lex.specs.Tokens.{Ending, End, Fault, Tokens, tokens_of}
-use Rattle.silq_lex.specs.declared.token.Place.{Place}
+use Rattle.silq_lex.specs.Tokens.{Ending, tokens_of}
 use Rattle.silq_tree.specs.declared.node.FunId.{FunId}
 use Rattle.silq_tree.specs.Arena.{Forest, program_at}
-use Rattle.silq_grammar.specs.declared.token.Token.{Token}
 use Rattle.silq_grammar.specs.Grammar.{Program}
 use Rattle.silq_grammar.specs.Spelled.{program_text}
 use Rattle.silq_grammar.specs.Trees.{program_tree}
 use Rattle.silq_grammar.specs.Outcome.{Outcome, Fine, Syntax, Deep, program_outcome}
-use Rattle.silq_parse.specs.Lexed.{all_tokens, names_of}
-use Rattle.silq_parse.specs.Stands.{StandsFor}
+use Rattle.silq_parse.specs.Lexed.{all_tokens}
 use Rattle.silq_parse.specs.Faults.{first_fault, fault_by, fault_of_tokens}
 use Rattle.silq_parse.specs.declared.fault.ParseFault.{ParseFault}
 use Rattle.silq_parse.specs.declared.fault.ParseFault.TheVariants.{Long}
@@ -20,7 +17,7 @@ use Rattle.silq_print.specs.Content.{content}
 use Rattle.silq_print.specs.Derived.{derived}
 use Rattle.silq_print.specs.Printed.{printed, program_printed}
 use Rattle.silq_print.specs.Proper.{IsProper}
-use Rattle.silq_print.specs.Laws.{AreAlike, IsOfText, ReadsBack, PrintedReadsBack}
+use Rattle.silq_print.specs.Laws.{ReadsBack, PrintedReadsBack}
 use Rattle.silq_print.proofs.Alike.{alike_fine, alike_trees}
 use Rattle.silq_print.proofs.ContentTrees.{derived_content}
 use Rattle.silq_print.proofs.ContentProper.{proper_by_content}
