@@ -1,13 +1,12 @@
 -- Printed tokens are lexed back: the same names, and the same tokens, places aside.
-use Rattle.std.proofs.Common.{◌≡◌, ℕ, List, [], ◌∷◌, map, refl, ◌∙◌, ap}
+use Rattle.std.proofs.Common.{◌≡◌, ℕ, List, [], map, refl, ◌∙◌, ap}
 use Rattle.std.specs.Str.{chars}
 use Rattle.std.proofs.lemmas.Str.{chars-encodes}
 use Rattle.silq_lex.specs.declared.token.Place.{Place}
-use Rattle.silq_lex.specs.Tokens.{Tokens, End, tokens_of, tokens_from}
+use Rattle.silq_lex.specs.Tokens.{Tokens, End, tokens_of}
 use Rattle.silq_grammar.specs.declared.token.Token.{Token}
-use Rattle.silq_parse.specs.Lexed.{names_of, all_tokens, token_of}
+use Rattle.silq_parse.specs.Lexed.{names_of, all_tokens}
 use Rattle.silq_print.specs.Bare.{bare_token}
-use Rattle.silq_print.specs.Laws.{AreAlike}
 use Rattle.silq_print.specs.Printed.{printed}
 use Rattle.silq_print.specs.Proper.{IsProper}
 use Rattle.silq_print.proofs.LexedTokens.{all_readable}

@@ -1,22 +1,22 @@
 -- Names and numbers of names of tokens that were read.
-use Rattle.std.proofs.Common.{◌≡◌, ℕ, zero, suc, ◌<◌, ◌≤◌, ◌⊎◌, inl, inr, Bool, true, false, ◌||◌, List, [], ◌∷◌, ◌++◌, Some, None, length, map, slice_get, if◌then◌else◌, append-nil, append_assoc, length-append, refl, sym, ◌∙◌, ap, arith}
+use Rattle.std.proofs.Common.{◌≡◌, ℕ, zero, suc, ◌<◌, ◌≤◌, inl, inr, Bool, true, false, ◌||◌, List, [], ◌∷◌, ◌++◌, Some, length, map, slice_get, append-nil, append_assoc, length-append, refl, sym, ◌∙◌, ap, arith}
 use Rattle.std.specs.List.{list_any}
 use Rattle.std.specs.Str.{bytes_eq}
 use Rattle.std.proofs.lemmas.Slice.Eq.{bytes_eq-Decides}
 use Rattle.std.proofs.lemmas.Option.{slice_get_within}
 use Rattle.silq_tree.specs.declared.node.NameId.{NameId}
 use Rattle.silq_tree.specs.declared.node.Spot.{Spot}
-use Rattle.silq_tree.specs.Texts.{with_name, AreDifferent}
+use Rattle.silq_tree.specs.Texts.{AreDifferent}
 use Rattle.silq_lex.specs.declared.token.TokenKind.{TokenKind}
 use Rattle.silq_lex.specs.declared.token.TokenKind.TheVariants as kinds
 use Rattle.silq_lex.specs.Tokens.{Located}
 use Rattle.silq_grammar.specs.declared.token.Token.{Token}
 use Rattle.silq_grammar.specs.declared.token.Token.TheVariants.{Name, Number, Fixed}
-use Rattle.silq_parse.specs.Lexed.{index_of, name_in, named, names_with, token_as, token_of, spot_at}
+use Rattle.silq_parse.specs.Lexed.{named, names_with, token_as, token_of, spot_at}
 use Rattle.silq_parse.proofs.Naming.{index_at}
 use Rattle.silq_print.specs.Bare.{nowhere, bare_token}
 use Rattle.silq_print.specs.Proper.{AreInOrder}
-use Rattle.silq_print.proofs.LexedTokens.{Reads, IsSame, seen_of_all}
+use Rattle.silq_print.proofs.LexedTokens.{seen_of_all}
 use Rattle.silq_print.proofs.LexedRows.{AreRead}
 
 -- ---- a text among names

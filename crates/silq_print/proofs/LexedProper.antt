@@ -1,26 +1,26 @@
 -- The names and the tokens of a text are ones that a text may have.
-use Rattle.std.proofs.Common.{◌≡◌, ℕ, zero, suc, ◌<◌, ◌≤◌, ◌⊎◌, inl, inr, Bool, true, false, List, [], ◌∷◌, ◌++◌, Option, Some, None, length, map, slice_get, if◌then◌else◌, length-append, refl, sym, ◌∙◌, ap, arith}
-use Rattle.std.specs.Prelude.{pos, encode_utf8_all}
+use Rattle.std.proofs.Common.{◌≡◌, ℕ, zero, suc, ◌<◌, ◌≤◌, inl, inr, Bool, true, false, List, [], ◌∷◌, ◌++◌, Option, Some, None, length, map, slice_get, if◌then◌else◌, length-append, refl, sym, ◌∙◌, ap, arith}
+use Rattle.std.specs.Prelude.{encode_utf8_all}
 use Rattle.std.specs.List.{list_any, list_all}
 use Rattle.std.specs.Str.{chars, bytes_eq}
 use Rattle.std.proofs.lemmas.Option.{slice_get_within}
 use Rattle.silq_tree.specs.declared.node.Spot.{Spot}
-use Rattle.silq_tree.specs.Texts.{with_name, AreDifferent, KeepsNames}
+use Rattle.silq_tree.specs.Texts.{AreDifferent, KeepsNames}
 use Rattle.silq_tree.proofs.Interned.{nothing_different}
 use Rattle.silq_lex.specs.declared.token.TokenKind.{TokenKind}
 use Rattle.silq_lex.specs.declared.token.TokenKind.TheVariants as kinds
 use Rattle.silq_lex.specs.Characters.{is_digit}
-use Rattle.silq_lex.specs.Kinds.{kind_of, number_of}
+use Rattle.silq_lex.specs.Kinds.{number_of}
 use Rattle.silq_lex.specs.Tokens.{Located, tokens_of}
 use Rattle.silq_lex.proofs.Texts.{number_kind, number_digits, digits_encode}
 use Rattle.silq_grammar.specs.declared.token.Token.{Token}
-use Rattle.silq_grammar.specs.declared.token.Token.TheVariants.{Name, Number, Fixed}
+use Rattle.silq_grammar.specs.declared.token.Token.TheVariants.{Name}
 use Rattle.silq_grammar.specs.declared.token.Terminal.{Terminal}
 use Rattle.silq_parse.specs.Lexed.{index_of, name_in, named, names_with, names_of, token_as, token_of, all_tokens, fixed, spot_at}
 use Rattle.silq_parse.specs.Spelling.{spelled}
 use Rattle.silq_parse.proofs.Naming.{index_at, kept_all, different_all}
 use Rattle.silq_print.specs.Proper.{IsNameText, AreInOrder, AreSmall, IsProper}
-use Rattle.silq_print.proofs.LexedMade.{IsOfKind, IsMade, AreMade, tokens_made}
+use Rattle.silq_print.proofs.LexedMade.{IsOfKind, AreMade, tokens_made}
 use Rattle.silq_print.proofs.LexedNames.{place_of, at_seam}
 use Rattle.silq_print.proofs.LexedTokens.{digits_chars}
 

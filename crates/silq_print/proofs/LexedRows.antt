@@ -1,11 +1,11 @@
 -- The characters of printed tokens, and the tokens that are lexed from them.
-use Rattle.std.proofs.Common.{◌≡◌, ℕ, ◌<◌, true, ◌&&◌, List, [], ◌∷◌, ◌++◌, Some, refl, sym, ◌∙◌, ap, arith}
+use Rattle.std.proofs.Common.{◌≡◌, ℕ, ◌<◌, true, List, [], ◌∷◌, ◌++◌, refl, sym, ◌∙◌, ap, arith}
 use Rattle.std.specs.Prelude.{is_some}
 use Rattle.std.specs.Str.{all_scalars, encode_utf8_all}
 use Rattle.std.proofs.Math.Utf8.{low_scalar}
 use Rattle.std.proofs.lemmas.Str.{encodes-append, encode_ascii}
 use Rattle.silq_lex.specs.declared.token.Place.{Place}
-use Rattle.silq_lex.specs.Tokens.{Located, Tokens, End, is_token, behind, behind_all, tokens_from}
+use Rattle.silq_lex.specs.Tokens.{Located, Tokens, End, behind, behind_all, tokens_from}
 use Rattle.silq_lex.proofs.Steps.{tokens_from-nil}
 use Rattle.silq_lex.proofs.Texts.{and_left, and_right, and_true}
 use Rattle.silq_grammar.specs.declared.token.Token.{Token}
@@ -13,7 +13,7 @@ use Rattle.silq_grammar.specs.declared.token.Token.TheVariants.{Fixed}
 use Rattle.silq_grammar.specs.declared.token.Terminal.TheVariants as t
 use Rattle.silq_print.specs.Printed.{printed, token_text, blank_behind}
 use Rattle.silq_print.proofs.LexedText.{IsSpace, feed_space, blank_space, first_token}
-use Rattle.silq_print.proofs.LexedTokens.{IsLexed, Reads, IsReadable, AreReadable}
+use Rattle.silq_print.proofs.LexedTokens.{Reads, IsReadable, AreReadable}
 
 -- these are the tokens, one by one
 abbrev pub AreRead : List (List ℕ) → List Token → List Located → Type 0
@@ -65,7 +65,7 @@ longer_row names token ts b bytes s r w =
           ∙ ap (λ z. encode_utf8_all (c ∷ cs) ++ (z ++ encode_utf8_all w.characters)) (sym (encode_ascii b (omega arith)))
           ∙ sym (encodes-append (c ∷ cs) (b ∷ w.characters));
       scalars = joined (c ∷ cs) (b ∷ w.characters) r.lexed.scalars (and_true _ _ (low_scalar b (omega arith)) w.scalars);
-      tokens = λ at. 
+      tokens = λ at.
           let first = first_token at r.kind b c cs w.characters s (ap is_some r.lexed.kind) r.lexed.front in
           let others : IsRead names ts (tokens_from (behind (behind_all at (c ∷ cs)) b) w.characters) = w.tokens _ in
           let here : Reads names token r.kind (encode_utf8_all (c ∷ cs)) = rw (← r.lexed.bytes) r.reads in

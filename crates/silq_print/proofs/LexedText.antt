@@ -1,6 +1,5 @@
 -- A token with a blank behind it is what stands at its front.
-use Rattle.std.proofs.Common.{◌≡◌, ℕ, zero, suc, ◌<◌, ◌≤◌, ◌⊎◌, inl, inr, Bool, true, false, cond, not, ◌&&◌, ◌||◌, List, [], ◌∷◌, ◌++◌, Option, Some, None, length, drop, nat_eq, nat_le, ◌==◌, if◌then◌else◌, append-nil, refl, sym, ◌∙◌, ap, subst, leb-true, le-leb, lt-ltb, arith}
-use Rattle.std.specs.Prelude.{codes, is_some}
+use Rattle.std.proofs.Common.{◌≡◌, ℕ, ◌<◌, ◌≤◌, ◌⊎◌, inl, inr, Bool, true, false, cond, not, ◌&&◌, ◌||◌, List, [], ◌∷◌, ◌++◌, Option, Some, None, length, drop, nat_eq, nat_le, ◌==◌, if◌then◌else◌, append-nil, refl, sym, ◌∙◌, ap, subst, leb-true, lt-ltb, arith}
 use Rattle.std.specs.List.{list_all, list_any, starts_with}
 use Rattle.std.specs.Str.{all_scalars, bytes_eq}
 use Rattle.std.proofs.Math.Utf8.{scalar, low_scalar}
@@ -22,7 +21,7 @@ use Rattle.silq_lex.specs.Characters.{is_blank, is_digit, starts_name, continues
 use Rattle.silq_lex.specs.Kinds.{kind_of, is_name, is_number, is_one_of, reserved, signs}
 use Rattle.silq_lex.specs.Laws.{IsLongest}
 use Rattle.silq_lex.specs.Longest.{longest}
-use Rattle.silq_lex.specs.Tokens.{Front, gap, token, front_of, token_or_fault, is_token, put_in_front, located, with_first, behind, behind_all, tokens_from}
+use Rattle.silq_lex.specs.Tokens.{token, front_of, token_or_fault, is_token, put_in_front, located, with_first, behind, behind_all, tokens_from}
 use Rattle.silq_lex.proofs.Longests.{longest_is}
 use Rattle.silq_lex.proofs.Passing.{front_blank}
 use Rattle.silq_lex.proofs.Steps.{tokens_from-cons}
@@ -83,9 +82,6 @@ name_scalars cs e = of cs (name_kind cs e)
     of (x ∷ xs) h = and_true _ _ (starts_scalar x (and_left _ _ h)) (all_scalar xs (and_right (starts_name x) _ h))
 
 -- ---- no token has a blank
-
-has : ℕ → List ℕ → Bool
-has b cs = list_any (λ c. c == b) cs
 
 -- what is told of a blank that is put behind tokens
 pub record IsSpace (b : ℕ) : Type 0 where

@@ -1,6 +1,6 @@
 -- The text of each token is lexed as one token, which is it.
-use Rattle.std.proofs.Common.{◌≡◌, ℕ, ◌+◌, ◌<◌, ◌≤◌, ◌^◌, ◌⊎◌, inl, inr, suc, Bool, true, false, cond, not, ◌&&◌, ◌||◌, List, [], ◌∷◌, ◌++◌, Option, Some, None, length, map, nat_le, ◌==◌, if◌then◌else◌, pos, negsuc, refl, sym, ◌∙◌, ap, subst, leb-true, le-leb, arith}
-use Rattle.std.specs.Prelude.{codes, is_some, decimal, slice_get, slice_index_or}
+use Rattle.std.proofs.Common.{◌≡◌, ℕ, ◌<◌, ◌≤◌, ◌^◌, inl, inr, suc, Bool, true, false, not, ◌&&◌, ◌||◌, List, [], ◌∷◌, Some, length, ◌==◌, pos, negsuc, refl, sym, ◌∙◌, ap, le-leb, arith}
+use Rattle.std.specs.Prelude.{decimal, slice_get, slice_index_or}
 use Rattle.std.specs.List.{list_all}
 use Rattle.std.specs.Str.{all_scalars, encode_utf8_all, chars}
 use lib.Utf8.{encode}
@@ -18,15 +18,14 @@ use Rattle.silq_lex.specs.declared.token.TokenKind.{TokenKind}
 use Rattle.silq_lex.specs.declared.token.TokenKind.TheVariants.{Word, Sign}
 use Rattle.silq_lex.specs.declared.token.TokenKind.TheVariants as kinds
 use Rattle.silq_lex.specs.Characters.{is_digit, starts_name}
-use Rattle.silq_lex.specs.Kinds.{kind_of, is_name, is_number, is_one_of, signs, number_of}
+use Rattle.silq_lex.specs.Kinds.{kind_of, number_of}
 use Rattle.silq_lex.specs.Tokens.{token, kinded, token_or_fault}
 use Rattle.silq_lex.proofs.Texts.{and_left, and_right, and_true, digit_low, digits_encode, digits_model}
 use Rattle.silq_grammar.specs.declared.token.Token.{Token}
 use Rattle.silq_grammar.specs.declared.token.Token.TheVariants.{Name, Number, Fixed}
 use Rattle.silq_grammar.specs.declared.token.Terminal.{Terminal}
 use Rattle.silq_grammar.specs.declared.token.Terminal.TheVariants as t
-use Rattle.silq_parse.specs.Spelling.{spelled}
-use Rattle.silq_parse.specs.Lexed.{named, token_as, fixed}
+use Rattle.silq_parse.specs.Lexed.{named, token_as}
 use Rattle.silq_print.specs.Bare.{nowhere, bare_token}
 use Rattle.silq_print.specs.Printed.{fixed_text, token_text}
 use Rattle.silq_print.specs.Proper.{IsNameText, AreInOrder, AreSmall}
