@@ -6,3 +6,4 @@ pub mod Sequence
 pub mod Obeyed
 pub mod Searching
 pub mod Undoing
+pub mod Named
