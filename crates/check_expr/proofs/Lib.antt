@@ -7,3 +7,4 @@ pub mod Obeyed
 pub mod Searching
 pub mod Undoing
 pub mod Named
+pub mod UnknownNames

@@ -18,6 +18,7 @@ mod obey;
 mod parts;
 pub mod places;
 pub mod rule;
+mod unknown;
 pub mod uses;
 pub mod words;
 
