@@ -15,6 +15,7 @@ pub mod laws;
 pub mod library;
 pub mod need;
 mod obey;
+mod part_types;
 mod parts;
 pub mod places;
 pub mod rule;
