@@ -8,3 +8,4 @@ pub mod Searching
 pub mod Undoing
 pub mod Named
 pub mod UnknownNames
+pub mod PlaceSteps

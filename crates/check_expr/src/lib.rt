@@ -16,6 +16,7 @@ pub mod library;
 pub mod need;
 mod obey;
 mod part_types;
+mod part_uses;
 mod parts;
 pub mod places;
 pub mod rule;
