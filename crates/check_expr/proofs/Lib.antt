@@ -9,3 +9,4 @@ pub mod Undoing
 pub mod Named
 pub mod UnknownNames
 pub mod PlaceSteps
+pub mod PlaceBlocks

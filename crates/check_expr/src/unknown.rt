@@ -40,7 +40,7 @@ fn value_of(pairs: &[(NameId, i64)], name: NameId) -> Option<i64>
 }
 
 /// Whether a name has a static value or is a variable in reach.
-pub(crate) fn is_known_name(library: &Library, cx: &Context, name: NameId) -> bool
+pub fn is_known_name(library: &Library, cx: &Context, name: NameId) -> bool
     ensures { result ≡ is_known (scope_in library.now cx.now) cx.now.vars name }
 {
     value_of(cx.statics().as_slice(), name).is_some() || cx.find(variable(name)).is_some()
