@@ -1,16 +1,16 @@
 -- The blocks of a place: its indices, and its use.
-use Rattle.std.proofs.Common.{◌≡◌, refl, ℕ, not, List, [], ◌∷◌, Option, Some, None, Result, Ok, Err, ℤ, ◌∙◌, sym, ap, subst}
+use Rattle.std.proofs.Common.{◌≡◌, refl, not, List, [], ◌∷◌, Option, Some, None, Ok, Err, ℤ, ◌∙◌, sym, ap, subst}
 use Rattle.silq_tree.specs.declared.node.NameId.{NameId}
 use Rattle.silq_tree.specs.declared.node.ExprId.{ExprId}
 use Rattle.silq_tree.specs.declared.node.Spot.{Spot}
-use Rattle.silq_tree.specs.Syntax.{Expression, none, more, Place}
+use Rattle.silq_tree.specs.Syntax.{Expression, Place}
 use Rattle.silq_tree.specs.Standing as standing
 use Rattle.static_num.specs.declared.values.StaticFault.{StaticFault}
 use Rattle.static_num.specs.Static.{eval_of}
 use Rattle.silq_types.specs.declared.values.Part.{Part}
 use Rattle.silq_types.specs.declared.values.Value.{Value}
 use Rattle.silq_types.specs.Types.{Statics, needed_at, place_indices, place_name, at}
-use Rattle.silq_types.specs.Rules.{rule, unknown_name, not_static}
+use Rattle.silq_types.specs.Rules.{unknown_name, not_static}
 use Rattle.silq_types.specs.Known.{Signatures}
 use Rattle.check_expr.specs.declared.need.Need.{Need}
 use Rattle.check_expr.specs.Context.{Scope, rules, of_result, known_names, needed, all_needed, indices, part_at, variable, is_known_name, find_var}

@@ -1,5 +1,5 @@
 -- The steps of a use of a place.
-use Rattle.std.proofs.Common.{◌≡◌, refl, ℕ, Bool, true, false, not, ◌&&◌, ◌==◌, List, [], ◌∷◌, Option, Some, None, ℤ, Result, Ok, Err, IfErr, IfOk, ◌∙◌, sym, ap, subst, cond, arith, int_eq}
+use Rattle.std.proofs.Common.{◌≡◌, refl, ℕ, Bool, true, false, ◌&&◌, ◌==◌, List, [], ◌∷◌, Option, Some, None, ℤ, Result, Ok, Err, IfErr, ◌∙◌, sym, ap, subst, arith}
 use Rattle.std.specs.Result.{IsErrAnd}
 use Rattle.std.proofs.lemmas.Bool.Decides.{nat_tests, Decides-int_eq}
 use Rattle.silq_tree.specs.declared.node.NameId.{NameId}

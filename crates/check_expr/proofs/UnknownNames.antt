@@ -1,12 +1,11 @@
 -- The first name that does not pass, in lists of names.
-use Rattle.std.proofs.Common.{◌≡◌, refl, ℕ, ◌+◌, ◌<◌, ◌≤◌, Bool, true, false, List, [], ◌∷◌, ◌++◌, Option, Some, None, ◌∙◌, sym, ap, drop, get_or, length, arith}
-use Rattle.std.proofs.lemmas.List.{append-nil}
+use Rattle.std.proofs.Common.{◌≡◌, refl, ℕ, ◌+◌, ◌<◌, Bool, true, false, List, [], ◌∷◌, ◌++◌, Some, None, sym, drop, get_or, length}
 use Rattle.silq_tree.specs.declared.node.NameId.{NameId}
 use Rattle.silq_tree.specs.declared.node.ExprId.{ExprId}
 use Rattle.silq_tree.specs.declared.node.Spot.{Spot}
 use Rattle.silq_tree.specs.Syntax.{Expression}
 use Rattle.silq_tree.specs.Standing.{expressions_of}
-use Rattle.silq_tree.proofs.Lists.{expressions_of-drop, expressions_of-end}
+use Rattle.silq_tree.proofs.Lists.{expressions_of-drop}
 use Rattle.silq_types.specs.Types.{first_unknown, names, all_names}
 
 left_step : (known : NameId → Bool) (x : NameId × Spot) (xs ys : List (NameId × Spot)) (s : Spot) → (Some s ≡ first_unknown known xs → Some s ≡ first_unknown known (xs ++ ys)) → (b : Bool) → known x.0 ≡ b → Some s ≡ first_unknown known (x ∷ xs) → Some s ≡ first_unknown known ((x ∷ xs) ++ ys)

@@ -106,7 +106,9 @@ impl Library {
         ensures body { AreStmtsBelow (length self.now.nodes.stmts) (fun_stmts result.now) }
         ensures tree { function_at self.now n ≡ fun_grown (expr_at self.now.nodes) (stmt_at self.now.nodes) result.now }
     {
-        self.program.tree.fun(self.program.funs.as_slice()[n as usize])
+        self.program
+            .tree
+            .fun(self.program.funs.as_slice()[n as usize])
     }
 
     /// The built-in function with this name.

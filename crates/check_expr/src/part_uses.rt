@@ -122,7 +122,14 @@ fn is_blocked(vars: &[Var], need: Need, part: Part, var: Var) -> bool
 }
 
 /// The rules of a use of a part by its variable.
-fn obey_use(cx: &Context, at: Spot, need: Need, part: Part, var: Var, bad: bool) -> Result<(), ExprFault>
+fn obey_use(
+    cx: &Context,
+    at: Spot,
+    need: Need,
+    part: Part,
+    var: Var,
+    bad: bool,
+) -> Result<(), ExprFault>
     ensures reads { (met : Signatures) (l : Shelf) → IfOk result (λ u. Reads met (rules_of_use (scope_in l cx.now) at need part var bad) cx.now u cx.now) }
     ensures stops { (met : Signatures) (l : Shelf) → IfErr result (λ f. Stops met (rules_of_use (scope_in l cx.now) at need part var bad) cx.now f cx.now) }
 {
@@ -141,7 +148,13 @@ fn obey_use(cx: &Context, at: Spot, need: Need, part: Part, var: Var, bad: bool)
 }
 
 /// The value of a part of a variable that is not taken out.
-fn use_part(cx: &mut Context, at: Spot, need: Need, part: Part, var: Var) -> Result<Value, ExprFault>
+fn use_part(
+    cx: &mut Context,
+    at: Spot,
+    need: Need,
+    part: Part,
+    var: Var,
+) -> Result<Value, ExprFault>
     ensures reads { (met : Signatures) (l : Shelf) → IfOk result (λ v. Reads met (use_of_part (scope_in l cx.old) at need part var cx.old.vars (part_type_of var.ty.classical var.ty.shape (indices part))) cx.old v cx.new) }
     ensures stops { (met : Signatures) (l : Shelf) → IfErr result (λ f. Stops met (use_of_part (scope_in l cx.old) at need part var cx.old.vars (part_type_of var.ty.classical var.ty.shape (indices part))) cx.old f cx.new) }
 {
@@ -162,7 +175,13 @@ fn use_part(cx: &mut Context, at: Spot, need: Need, part: Part, var: Var) -> Res
 }
 
 /// The value of a variable, or of a part that was taken out.
-fn use_whole(cx: &mut Context, at: Spot, need: Need, part: Part, var: Var) -> Result<Value, ExprFault>
+fn use_whole(
+    cx: &mut Context,
+    at: Spot,
+    need: Need,
+    part: Part,
+    var: Var,
+) -> Result<Value, ExprFault>
     requires { find_var cx.old.vars part ≡ Some var }
     ensures reads { (met : Signatures) (l : Shelf) → IfOk result (λ v. Reads met (use_of_found (scope_in l cx.old) at need part cx.old.vars (Some var) (find_var cx.old.vars (variable_of part.name))) cx.old v cx.new) }
     ensures stops { (met : Signatures) (l : Shelf) → IfErr result (λ f. Stops met (use_of_found (scope_in l cx.old) at need part cx.old.vars (Some var) (find_var cx.old.vars (variable_of part.name))) cx.old f cx.new) }
@@ -173,7 +192,12 @@ fn use_whole(cx: &mut Context, at: Spot, need: Need, part: Part, var: Var) -> Re
 }
 
 /// The value of a part.
-pub(crate) fn use_found(cx: &mut Context, at: Spot, need: Need, part: Part) -> Result<Value, ExprFault>
+pub(crate) fn use_found(
+    cx: &mut Context,
+    at: Spot,
+    need: Need,
+    part: Part,
+) -> Result<Value, ExprFault>
     ensures reads { (met : Signatures) (l : Shelf) → IfOk result (λ v. Reads met (use_of_found (scope_in l cx.old) at need part cx.old.vars (find_var cx.old.vars part) (find_var cx.old.vars (variable_of part.name))) cx.old v cx.new) }
     ensures stops { (met : Signatures) (l : Shelf) → IfErr result (λ f. Stops met (use_of_found (scope_in l cx.old) at need part cx.old.vars (find_var cx.old.vars part) (find_var cx.old.vars (variable_of part.name))) cx.old f cx.new) }
 {

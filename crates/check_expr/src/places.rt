@@ -11,17 +11,16 @@ ghost use Rattle.check_expr.specs.Expression.{use_place as use_of_place};
 ghost use Rattle.check_expr.specs.State.{scope_in};
 ghost use Rattle.check_expr.specs.Steps.{Reads, Stops};
 
-pub use crate::part_types::part_type;
-pub use crate::unknown::is_known_name;
-
 use crate::context::Context;
 use crate::fault::{CheckFault, ExprFault};
 use crate::library::Library;
 use crate::need::Need;
 use crate::obey::obey;
+pub use crate::part_types::part_type;
 use crate::part_uses::use_found;
 use crate::rule;
 use crate::unknown::first_unknown;
+pub use crate::unknown::is_known_name;
 use silq_tree::node::PlaceNode;
 use silq_tree::{Expr, ExprId, Spot};
 use silq_types::{Part, Value};
@@ -108,7 +107,13 @@ pub fn part_of(library: &Library, cx: &Context, place: PlaceNode) -> Result<Part
 }
 
 /// The value of a place: moved where it is consumed and quantum, copied where it is classical.
-pub fn use_place(library: &Library, cx: &mut Context, place: PlaceNode, at: Spot, need: Need) -> Result<Value, ExprFault>
+pub fn use_place(
+    library: &Library,
+    cx: &mut Context,
+    place: PlaceNode,
+    at: Spot,
+    need: Need,
+) -> Result<Value, ExprFault>
     requires parts { AreExprsBelow (length library.now.nodes.exprs) (place_exprs place) }
     requires first { HasFirst place }
     ensures reads { (met : Signatures) → IfOk result (λ v. Reads met (use_of_place (scope_in library.now cx.old) (place_of (expr_at library.now.nodes) place) at need) cx.old v cx.new) }

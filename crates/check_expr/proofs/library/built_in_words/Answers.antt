@@ -12,6 +12,8 @@ loop-number-preserved c =
     let more = words_more c.args.names.now c.loop-number.number c.text.result.now c.text.ensures in
     let at_first : c.loop-number.words.items ++ with_word c.loop-number.number (named built_ins c.text.result.now) (words_from (c.loop-number.number + 1) (drop (c.loop-number.number + 1) c.args.names.now)) ≡ words_of c.args.names.now =
     ap (λ (ws : List (NameId × BuiltIn)). c.loop-number.words.items ++ ws) (sym more) ∙ c.loop-number.invariant in
-    elim c.match-word_of.branch [ in-Some+in_ok-push w ↦
-      rw (w.words-is, w.in_ok-push.ensures.items, append_assoc) (rw (← w.in-Some.ensures) at at_first)
-    | in_default w ↦ rw w.words-is (rw (← w.in_default.ensures) at at_first) ]
+    elim c.match-word_of.branch [
+      | in-Some+in_ok-push w ↦
+          rw (w.words-is, w.in_ok-push.ensures.items, append_assoc) (rw (← w.in-Some.ensures) at at_first)
+      | in_default w ↦ rw w.words-is (rw (← w.in_default.ensures) at at_first)
+    ]
