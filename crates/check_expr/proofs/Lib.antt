@@ -3,3 +3,10 @@ pub mod Quiet
 pub mod Readings
 pub mod Owners
 pub mod Sequence
+pub mod Obeyed
+pub mod Searching
+pub mod Undoing
+pub mod Named
+pub mod UnknownNames
+pub mod PlaceSteps
+pub mod PlaceBlocks

@@ -7,6 +7,7 @@ pub mod Owners
 pub mod Words
 pub mod Library
 pub mod Undo
+pub mod First
 pub mod Headers
 pub mod Asks
 pub mod State

@@ -1,6 +1,6 @@
 //! The context of a body's walk.
 
-ghost use Rattle.std.specs.Prelude.{◌≡◌, ◌<◌, ◌-◌, ℕ, suc, max, Some, not, [], ◌∷◌, ◌++◌, length, take, slice_get, true, IfOk, IfErr, OnOk, OnErr};
+ghost use Rattle.std.specs.Prelude.{◌≡◌, ◌<◌, ◌-◌, ℕ, suc, max, Some, not, [], ◌∷◌, ◌++◌, length, take, slice_get, true, MatchOption, IfOk, IfErr, OnOk, OnErr};
 ghost use Rattle.std.specs.Option.{option_copied};
 ghost use Rattle.silq_types.specs.Known.{Signatures};
 ghost use Rattle.silq_types.specs.Types.{is_empty};
@@ -9,10 +9,12 @@ ghost use Rattle.check_expr.specs.Library.{Shelf};
 ghost use Rattle.check_expr.specs.State.{scope_in};
 ghost use Rattle.check_expr.specs.Steps.{Reads, Stops};
 ghost use Rattle.check_expr.specs.Undo.{set_at};
+ghost use Rattle.check_expr.specs.First.{IsFirstAt, IsAbsent};
 ghost use Rattle.check_expr.specs.declared.fault.CheckFault.TheVariants as checks;
 ghost use Rattle.check_expr.specs.declared.fault.ExprFault.TheVariants as stops;
 
 use crate::fault::{CheckFault, ExprFault};
+use crate::parts::{overlaps_any, same_part};
 use silq_tree::NameId;
 use silq_types::{List, Part, Ty, TyList, Var};
 use static_num::Statics;
@@ -21,6 +23,21 @@ use std::marker::Model;
 
 /// The parts that a run-time condition holds.
 pub type PartList = List<Part>;
+
+/// How many places there are.
+const PLACES: u128 = 1 << 127;
+
+/// The number of the first variable with this part.
+fn position(vars: &[Var], part: Part) -> Option<usize>
+    ensures { MatchOption result (IsAbsent vars.now part) (IsFirstAt vars.now part) }
+{
+    for (i, var) in vars.iter().enumerate() {
+        if same_part(var.part, part) {
+            return Some(i);
+        }
+    }
+    None
+}
 
 /// What the walk of a body changes and sees: the variables in order of definition, the next new place, the values of static names,
 /// and the parts that each run-time condition in force holds.
@@ -40,7 +57,8 @@ pub struct Context {
 
 impl Model for Context {
     ghost use Rattle.check_expr.specs.State.{State};
-    ghost use Rattle.check_expr.specs.Undo.{undone};
+    ghost use Rattle.std.specs.Prelude.{length};
+    ghost use Rattle.check_expr.specs.Undo.{undone, AreBelow};
 
     ghost Value = { State };
 
@@ -55,6 +73,8 @@ impl Model for Context {
       statics = c.statics;
       held = c.held.items;
     } };
+
+    ghost invariant = { λ c. AreBelow (length c.vars.items) c.moved.items };
 }
 
 impl Context {
@@ -135,12 +155,10 @@ impl Context {
     pub fn find(&self, part: Part) -> Option<Var>
         ensures { result ≡ find_var self.now.vars part }
     {
-        for var in self.vars.iter() {
-            if var.part == part {
-                return Some(*var);
-            }
+        match position(self.vars.as_slice(), part) {
+            Some(i) => Some(self.vars[i]),
+            None => None,
         }
-        None
     }
 
     /// Whether a run-time condition is in force.
@@ -154,7 +172,11 @@ impl Context {
     pub fn holds(&self, part: Part) -> bool
         ensures { result ≡ is_in_condition self.now.held part }
     {
-        // TO DO
+        for parts in self.held.iter() {
+            if overlaps_any(parts.as_slice(), part) {
+                return true;
+            }
+        }
         false
     }
 
@@ -166,8 +188,12 @@ impl Context {
         ensures full { OnErr result (self.new ≡ self.old) }
         ensures memory { IfErr result (λ f. f ≡ stops.Fault checks.Memory) }
     {
-        // TO DO
-        Err(ExprFault::Fault(CheckFault::Memory))
+        let place = self.next;
+        if place >= PLACES {
+            return Err(ExprFault::Fault(CheckFault::Memory));
+        }
+        self.next = place + 1;
+        Ok(place)
     }
 
     /// The variable is consumed.
@@ -176,8 +202,14 @@ impl Context {
         ensures ok { OnOk result (self.new ≡ record self.old { vars = replace self.old.vars (record var { consumed = true }) }) }
         ensures err { OnErr result (self.new ≡ self.old) }
     {
-        // TO DO
-        Err(AllocError)
+        if let Some(i) = position(self.vars.as_slice(), var.part) {
+            self.moved.push((i, var))?;
+            self.vars[i] = Var {
+                consumed: true,
+                ..var
+            };
+        }
+        Ok(())
     }
 
     /// An instance of this height was called.
@@ -198,7 +230,11 @@ impl Context {
     pub fn restore(&mut self, next: u128, height: u32)
         ensures { self.new ≡ record self.old { vars = self.old.start; next = next; height = height } }
     {
-        // TO DO
+        while let Some((i, var)) = self.moved.pop() {
+            self.vars[i] = var;
+        }
+        self.next = next;
+        self.height = height;
     }
 
     // ---- what a statement changes
@@ -217,7 +253,10 @@ impl Context {
     pub fn replace(&mut self, var: Var)
         ensures { self.new ≡ record self.old { vars = replace self.old.vars var; start = replace self.old.vars var } }
     {
-        // TO DO
+        self.moved.clear();
+        if let Some(i) = position(self.vars.as_slice(), var.part) {
+            self.vars[i] = var;
+        }
     }
 
     /// The variable with this number is replaced.

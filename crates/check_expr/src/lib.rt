@@ -15,7 +15,12 @@ pub mod laws;
 pub mod library;
 pub mod need;
 mod obey;
+mod part_types;
+mod part_uses;
+mod parts;
 pub mod places;
+pub mod rule;
+mod unknown;
 pub mod uses;
 pub mod words;
 
