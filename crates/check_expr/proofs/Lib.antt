@@ -11,3 +11,7 @@ pub mod Undoing
 pub mod Reached
 pub mod Chained
 pub mod HeaderLists
+pub mod UnknownNames
+pub mod PlaceSteps
+pub mod PlaceBlocks
+pub mod NamedParts

@@ -1,44 +1,38 @@
--- The parts that a node's places and arguments name.
-use Rattle.std.specs.Prelude.{◌≡◌, refl, ℕ, List, [], ◌∷◌, ◌++◌, Option, Some, None, map}
-use mathlib.Core.Path.{◌∙◌, ap, sym}
-use Rattle.std.proofs.lemmas.List.{append-nil}
-use Rattle.std.proofs.Common.{append_assoc}
+-- Functions by name and by number.
+use Rattle.std.proofs.Common.{◌≡◌, refl, ℕ, zero, suc, ◌+◌, ◌<◌, ◌≤◌, ◌==◌, Bool, true, false, List, [], ◌∷◌, ◌++◌, Option, Some, None, ◌∙◌, sym, ap, take, drop, map, reverse, get_or, length, slice_get, add-one, append_assoc, length-append, arith}
+use Rattle.std.proofs.lemmas.List.{drop_more, take_more, get_or-map}
+use Rattle.std.proofs.lemmas.Bool.Decides.{nat_tests}
+use Rattle.std.proofs.lemmas.Option.{slice_get_within, get_or_from_slice_get}
 use Rattle.silq_tree.specs.declared.node.NameId.{NameId}
-use Rattle.silq_tree.specs.declared.node.Spot.{Spot}
-use Rattle.silq_tree.specs.declared.node.ExprId.{ExprId}
-use Rattle.silq_tree.specs.declared.node.StmtId.{StmtId}
-use Rattle.silq_tree.specs.declared.node.Fun.{Fun}
-use Rattle.silq_tree.specs.declared.node.PlaceNode.{PlaceNode}
-use Rattle.silq_tree.specs.declared.node.ParamNode.{ParamNode}
-use Rattle.silq_tree.specs.Syntax.{Expression, Statement, place, Function}
-use Rattle.silq_tree.specs.Standing.{place_of, part_of, param_of, fun_grown}
-use Rattle.silq_types.specs.declared.values.Var.{Var}
-use Rattle.silq_types.specs.Types.{place_indices}
-use Rattle.check_expr.specs.declared.need.Need.{Need}
-use Rattle.check_expr.specs.declared.need.Need.TheVariants as needs
-use Rattle.check_expr.specs.Context.{Scope, find_var, variable}
-use Rattle.check_expr.specs.Used.{node_need}
-use Rattle.check_expr.specs.Uses.{uses, all_uses, place_use, param_need, needs_of_own}
-use Rattle.check_expr.specs.Library.{Shelf, function_at, found_at}
+use Rattle.silq_tree.specs.declared.node.FunId.{FunId}
+use Rattle.silq_tree.specs.Syntax.{Function}
+use Rattle.silq_tree.specs.Arena.{nothing, fun_at}
+use Rattle.check_expr.specs.declared.words.BuiltIn.{BuiltIn}
+use Rattle.check_expr.specs.Library.{Shelf, functions_of, function_at, before_at, found_at, AreFunsBelow}
+use Rattle.check_expr.specs.Uses.{built_in, find_fun, Found}
+use Rattle.check_expr.specs.Words.{built_ins, named, with_word, words_from}
 
-pub part_uses_are : (at : ExprId → Expression) (x : NameId) (i j : Option ExprId) (s : Spot) (sc : Scope) (vars : List Var) (need : Need)
-    → uses (place (part_of at x i j) s) sc vars need
-    ≡ place_use sc.statics (find_var vars (variable x)) (place_indices (part_of at x i j)) need ++ all_uses (place_indices (part_of at x i j)) sc vars []
-part_uses_are at x None j s sc vars need = sym (append-nil (place_use sc.statics (find_var vars (variable x)) (place_indices (part_of at x None j)) need))
-part_uses_are at x (Some i) None s sc vars need = ap (λ us. place_use sc.statics (find_var vars (variable x)) (place_indices (part_of at x (Some i) None)) need ++ us) (sym (append-nil (uses (at i) sc vars needs.Held)))
-part_uses_are at x (Some i) (Some j) s sc vars need = simp (append-nil, append_assoc)
+equal : (a b : ℕ) → a ≡ b → (a == b) ≡ true
+equal a b e = grind (arith, nat_tests)
 
--- the uses of a place are its own part, and those of its indices
-pub place_uses_are : (at : ExprId → Expression) (p : PlaceNode) (s : Spot) (sc : Scope) (vars : List Var) (need : Need)
-    → uses (place (place_of at p) s) sc vars need
-    ≡ place_use sc.statics (find_var vars (variable p.name)) (place_indices (place_of at p)) need ++ all_uses (place_indices (place_of at p)) sc vars []
-place_uses_are at p s sc vars need = part_uses_are at p.name p.first p.second s sc vars need
+-- ---- built-in functions
 
-pub param_needs_are : (at : ExprId → Expression) (f : Function) (ps : List ParamNode) → map (param_need f) (map (param_of at) ps) ≡ map (node_need f.mark) ps
-param_needs_are at f [] = refl
-param_needs_are at f (p ∷ ps) = ap (λ ns. node_need f.mark p ∷ ns) (param_needs_are at f ps)
+built_in_head : (w : NameId × BuiltIn) (ws : List (NameId × BuiltIn)) (f : NameId) → (w.0.number == f.number) ≡ true → built_in (w ∷ ws) f ≡ Some w.1
+built_in_head w ws f e = rw e refl
 
--- a found function asks what its node tells
-pub own_needs_are : (at : ExprId → Expression) (stmt : StmtId → Statement) (l : Shelf) (n : ℕ) (g : Fun)
-    → function_at l n ≡ fun_grown at stmt g → needs_of_own (Some (found_at l n)) ≡ map (node_need g.mark) g.params
-own_needs_are at stmt l n g e = ap (λ (f : Function). map (param_need f) f.params) e ∙ param_needs_are at (fun_grown at stmt g) g.params
+pub built_in_here : (words : List (NameId × BuiltIn)) (i : ℕ) (d : NameId × BuiltIn) (f : NameId) → built_in (drop i words) f ≡ built_in words f → i < length words → (get_or words i d).0.number ≡ f.number → Some (get_or words i d).1 ≡ built_in words f
+built_in_here words i d f p l e =
+    sym (ap (λ (ws : List (NameId × BuiltIn)). built_in ws f) (drop_more words i d l) ∙ built_in_head (get_or words i d) (drop (i + 1) words) f (equal _ _ e)) ∙ p
+
+pub words_more : (names : List (List ℕ)) (n : ℕ) (t : List ℕ) → slice_get names n ≡ Some t → words_from n (drop n names) ≡ with_word n (named built_ins t) (words_from (n + 1) (drop (n + 1) names))
+words_more names n t e =
+    ap (λ (ts : List (List ℕ)). words_from n ts) (drop_more names n t (slice_get_within names n t e))
+    ∙ ap (λ (u : List ℕ). words_from n (u ∷ drop (n + 1) names)) (get_or_from_slice_get names n t t e)
+    ∙ ap (λ (m : ℕ). with_word n (named built_ins t) (words_from m (drop (n + 1) names))) (sym (add-one n))
+
+-- ---- functions of the file
+
+pub fun_below : (n : ℕ) (ids : List FunId) (i : ℕ) (d : FunId) → AreFunsBelow n ids → i < length ids → (get_or ids i d).number < n
+fun_below n [] i d b l = absurd (omega arith)
+fun_below n (x ∷ ids) zero d b l = b.0
+fun_below n (x ∷ ids) (suc i) d b l = fun_below n ids i d b.1 (omega arith)

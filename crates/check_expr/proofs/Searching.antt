@@ -1,11 +1,10 @@
 -- The search for the first variable with a part.
-use Rattle.std.proofs.Common.{◌≡◌, refl, ℕ, suc, ◌+◌, ◌<◌, ◌≤◌, Bool, true, false, List, [], ◌∷◌, ◌++◌, Option, Some, None, ◌∙◌, sym, ap, take, drop, get_or, length, slice_get, add-one, append_assoc, arith}
+use Rattle.std.proofs.Common.{◌≡◌, refl, ℕ, ◌+◌, ◌<◌, ◌≤◌, true, false, List, [], ◌∷◌, ◌++◌, Some, ◌∙◌, sym, ap, take, drop, get_or, length, add-one, append_assoc}
 use Rattle.std.proofs.lemmas.List.{drop_more, take_more, drop_all, take_all, append-nil}
 use Rattle.std.proofs.lemmas.Option.{slice_get-get_or}
 use Rattle.silq_types.specs.declared.values.Part.{Part}
 use Rattle.silq_types.specs.declared.values.Var.{Var}
 use Rattle.check_expr.specs.Context.{find_var, replace, same_part}
-use Rattle.check_expr.specs.Undo.{set_at}
 use Rattle.check_expr.specs.First.{IsFirstAt, IsAbsent}
 
 -- none of the first i has the part

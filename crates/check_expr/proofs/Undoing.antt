@@ -1,5 +1,5 @@
 -- Changes of variables, and what undoes them.
-use Rattle.std.proofs.Common.{◌≡◌, refl, ℕ, zero, suc, ◌+◌, ◌<◌, ◌≤◌, List, [], ◌∷◌, ◌++◌, Some, ◌∙◌, sym, ap, subst, take, drop, set, get_or, length, slice_get, length-set, arith}
+use Rattle.std.proofs.Common.{◌≡◌, refl, ℕ, ◌<◌, List, [], ◌∷◌, ◌++◌, Some, ◌∙◌, sym, ap, set, length, slice_get, length-set, arith}
 use Rattle.std.proofs.lemmas.List.{set_split, set-set, set-get_or}
 use Rattle.std.proofs.lemmas.Option.{get_or_from_slice_get}
 use Rattle.silq_types.specs.declared.values.Var.{Var}

@@ -204,7 +204,10 @@ impl Context {
     {
         if let Some(i) = position(self.vars.as_slice(), var.part) {
             self.moved.push((i, var))?;
-            self.vars[i] = Var { consumed: true, ..var };
+            self.vars[i] = Var {
+                consumed: true,
+                ..var
+            };
         }
         Ok(())
     }

@@ -15,10 +15,13 @@ pub mod laws;
 pub mod library;
 pub mod need;
 mod obey;
+mod part_types;
+mod part_uses;
 mod parts;
 pub mod places;
 mod reach;
 pub mod rule;
+mod unknown;
 pub mod uses;
 pub mod words;
 

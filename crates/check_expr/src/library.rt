@@ -6,12 +6,46 @@ ghost use Rattle.silq_tree.specs.Children.{fun_exprs, fun_stmts, AreExprsBelow, 
 ghost use Rattle.silq_tree.specs.Standing.{fun_grown};
 ghost use Rattle.check_expr.specs.Library.{AreFunsBelow, function_at, before_at, found_at};
 ghost use Rattle.check_expr.specs.Uses.{built_in, find_fun};
-ghost use Rattle.check_expr.specs.Words.{words_of};
+ghost use Rattle.check_expr.specs.Words.{built_ins, named, words_of};
 
 use crate::words::BuiltIn;
-use silq_tree::{Fun, NameId, Program, Tree};
+use silq_tree::{Fun, NameId, Names, Program, Tree};
 use std::alloc::{AllocError, Global};
 use std::marker::Model;
+
+/// The built-in function with this name.
+fn word_of(text: &str) -> Option<BuiltIn>
+    ensures { result ≡ named built_ins text.now }
+{
+    match text {
+        "H" => Some(BuiltIn::HGate),
+        "X" => Some(BuiltIn::XGate),
+        "Y" => Some(BuiltIn::YGate),
+        "Z" => Some(BuiltIn::ZGate),
+        "dup" => Some(BuiltIn::Dup),
+        "measure" => Some(BuiltIn::Measure),
+        "vector" => Some(BuiltIn::Vector),
+        "rotX" => Some(BuiltIn::RotateX),
+        "rotY" => Some(BuiltIn::RotateY),
+        "rotZ" => Some(BuiltIn::RotateZ),
+        _ => None,
+    }
+}
+
+/// The built-in functions among these names. There is no memory for names that have no number.
+fn built_in_words(alloc: Global, names: &Names) -> Result<Vec<(NameId, BuiltIn)>, AllocError>
+    ensures { IfOk result (λ words. words.items ≡ words_of names.now) }
+{
+    let mut words = Vec::new(alloc);
+    let len = u32::try_from(names.len()).map_err(|_| AllocError)?;
+    for number in 0..len {
+        let id = NameId { number };
+        if let Some(word) = word_of(names.text(id)) {
+            words.push((id, word))?;
+        }
+    }
+    Ok(words)
+}
 
 /// A program, with its functions and the built-in ones by name.
 #[derive(Drop)]
@@ -38,8 +72,12 @@ impl Library {
         requires { AreFunsBelow (length program.tree.funs) program.funs }
         ensures { IfOk result (λ l. l ≡ record { nodes = program.tree; words = words_of program.names; funs = program.funs }) }
     {
-        // TO DO
-        Err(AllocError)
+        let words = built_in_words(alloc, &program.names)?;
+        Ok(Library {
+            program,
+            words,
+            alloc,
+        })
     }
 
     /// The allocator.
@@ -68,15 +106,20 @@ impl Library {
         ensures body { AreStmtsBelow (length self.now.nodes.stmts) (fun_stmts result.now) }
         ensures tree { function_at self.now n ≡ fun_grown (expr_at self.now.nodes) (stmt_at self.now.nodes) result.now }
     {
-        // TO DO
-        self.program.tree.fun(self.program.funs.as_slice()[n as usize])
+        self.program
+            .tree
+            .fun(self.program.funs.as_slice()[n as usize])
     }
 
     /// The built-in function with this name.
     pub fn built_in(&self, name: NameId) -> Option<BuiltIn>
         ensures { result ≡ built_in self.now.words name }
     {
-        // TO DO
+        for (word, built_in) in self.words.iter() {
+            if word.number == name.number {
+                return Some(*built_in);
+            }
+        }
         None
     }
 
@@ -85,7 +128,13 @@ impl Library {
         ensures found { find_fun (before_at self.now before) name ≡ option_map (found_at self.now) result }
         ensures below { IfSome result (λ n. n < length self.now.funs) }
     {
-        // TO DO
+        let mut n = (before as usize).min(self.program.funs.len()) as u32;
+        while n > 0 {
+            n -= 1;
+            if self.fun(n).name.number == name.number {
+                return Some(n);
+            }
+        }
         None
     }
 }

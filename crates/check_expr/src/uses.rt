@@ -17,7 +17,7 @@ use crate::header::is_held;
 use crate::library::Library;
 use crate::need::Need;
 use crate::parts::overlaps;
-use crate::places::part_type;
+use crate::part_types::part_type;
 use crate::words::BuiltIn;
 use silq_tree::node::{Expr, Mark, ParamNode, PlaceNode, ScalarNode};
 use silq_tree::{ExprId, NameId};
@@ -169,7 +169,7 @@ fn needs_of_built_in(alloc: Global, word: BuiltIn) -> Result<List<Need>, AllocEr
 }
 
 /// What a call of a function of the program asks.
-#[tactic(auto, using(crate::proofs::Named::own_needs_are))]
+#[tactic(auto, using(crate::proofs::NamedParts::own_needs_are))]
 fn needs_of_own(library: &Library, found: Option<u32>) -> Result<List<Need>, AllocError>
     requires { IfSome found (λ n. n < length library.now.funs) }
     ensures { IfOk result (λ asked. asked ≡ asked_by_own (option_map (found_at library.now) found)) }
@@ -293,7 +293,7 @@ fn add_part(
 
 /// Adds the parts that the indices of a place name.
 #[cycle(uses)]
-#[tactic(auto, using(silq_tree::proofs::Lists::ids, crate::proofs::Named::place_uses_are))]
+#[tactic(auto, using(silq_tree::proofs::Lists::ids, crate::proofs::NamedParts::place_uses_are))]
 fn add_indices(
     library: &Library,
     cx: &Context,
@@ -315,7 +315,7 @@ fn add_indices(
 
 /// Adds the parts that the width of a type names.
 #[cycle(uses)]
-#[tactic(auto, using(silq_tree::proofs::Lists::ids, crate::proofs::Named::place_uses_are))]
+#[tactic(auto, using(silq_tree::proofs::Lists::ids, crate::proofs::NamedParts::place_uses_are))]
 fn add_width(
     library: &Library,
     cx: &Context,
@@ -334,7 +334,7 @@ fn add_width(
 
 /// Adds the parts that expressions name, where they are asked so.
 #[cycle(uses)]
-#[tactic(auto, using(silq_tree::proofs::Lists::ids, crate::proofs::Named::place_uses_are))]
+#[tactic(auto, using(silq_tree::proofs::Lists::ids, crate::proofs::NamedParts::place_uses_are))]
 fn add_all(
     library: &Library,
     cx: &Context,
@@ -355,7 +355,7 @@ fn add_all(
 
 /// Adds the parts that an expression names, itself used so.
 #[cycle(uses)]
-#[tactic(auto, using(silq_tree::proofs::Lists::ids, crate::proofs::Named::place_uses_are))]
+#[tactic(auto, using(silq_tree::proofs::Lists::ids, crate::proofs::NamedParts::place_uses_are))]
 fn add_uses(
     library: &Library,
     cx: &Context,

@@ -9,3 +9,14 @@ pub mod Chains
 pub mod Lowest
 pub mod DerivedNests
 pub mod Even
+pub mod ContentTexts
+pub mod ContentTrees
+pub mod ContentProper
+pub mod LexedText
+pub mod LexedTokens
+pub mod LexedRows
+pub mod LexedNames
+pub mod LexedBack
+pub mod LexedMade
+pub mod LexedProper
+pub mod ReadBack

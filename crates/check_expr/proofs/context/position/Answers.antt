@@ -1,5 +1,4 @@
 use Rattle.std.proofs.Common.{arith, sym, ◌∙◌}
-use Rattle.silq_types.specs.declared.values.Var.{Var}
 use Rattle.check_expr.proofs.Searching.{first_here}
 use Rattle.check_expr.proofs.context.position.Goals as goal
 

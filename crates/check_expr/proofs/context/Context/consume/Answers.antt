@@ -1,4 +1,4 @@
-use Rattle.std.proofs.Common.{◌≡◌, ◌<◌, Some, true, refl, ◌∙◌, sym, length, length-set, slice_get}
+use Rattle.std.proofs.Common.{◌≡◌, Some, true, refl, ◌∙◌, sym, length-set, slice_get}
 use Rattle.silq_types.specs.declared.values.Var.{Var}
 use Rattle.check_expr.proofs.Undoing.{set_at_slot, undone_noted, below_push}
 use Rattle.check_expr.proofs.context.Context.consume.Goals as goal
