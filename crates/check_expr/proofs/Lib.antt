@@ -3,3 +3,4 @@ pub mod Quiet
 pub mod Readings
 pub mod Owners
 pub mod Sequence
+pub mod Called

@@ -17,6 +17,7 @@ pub mod need;
 mod obey;
 pub mod places;
 pub mod rule;
+mod signatures;
 pub mod uses;
 pub mod words;
 
