@@ -32,5 +32,3 @@ stops_unsupported met what at s = record { runs = refl; keeps = keeps_refl s }
 
 -- ---- signatures
 
-pub reads_known : (met : Signatures) (k : InstanceKey) (s : Signature) (old now : State) → meet old.depth met k ≡ known s → now ≡ record old { height = max old.height s.height } → Reads met (signature k) old s now
-reads_known met k s old now e n = record { runs = ?; keeps = ? }

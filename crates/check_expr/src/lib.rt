@@ -6,6 +6,7 @@
 //! `State`, `Library` and `Steps` say how the code is held against it.
 
 mod asked;
+mod built_in;
 mod calls;
 pub mod context;
 pub mod expr;
