@@ -1,10 +1,11 @@
 //! Calls of built-in functions.
 
-ghost use Rattle.std.specs.Prelude.{◌≡◌, ◌<◌, length, nat_abs, pos, IsTrue, IfOk, IfErr, Option, Some, None, is_some, ◌∷◌, []};
+ghost use Rattle.std.specs.Prelude.{◌≡◌, ◌<◌, length, nat_abs, pos, IsTrue, not, IfOk, IfErr, Option, Some, None, is_some, ◌∷◌, []};
 ghost use Rattle.silq_tree.specs.Arena.{expr_at};
 ghost use Rattle.silq_tree.specs.Children.{AreExprsBelow};
 ghost use Rattle.silq_tree.specs.Standing.{expressions_of};
 ghost use Rattle.silq_types.specs.Known.{Signatures};
+ghost use Rattle.silq_types.specs.Rules.{wrong_type};
 ghost use Rattle.silq_types.specs.Types.{is_bit as is_bit_shape, is_linear as is_linear_origin, is_count as is_count_up_to, most_items, count, at as spot_of_expression};
 ghost use Rattle.static_num.specs.Static.{is_static as is_static_expression};
 ghost use Rattle.check_expr.specs.declared.need.Need.TheVariants as needs;
@@ -14,6 +15,7 @@ ghost use Rattle.check_expr.specs.declared.fault.ExprFault.TheVariants as stops;
 ghost use Rattle.check_expr.specs.Asks.{all_asked};
 ghost use Rattle.check_expr.specs.Expression.{call_built_in as call_of_built_in, built_in_rules as rules_of_built_in, gate_values as values_of_gate, gate_value as value_of_gate, flip_value as value_flipped, gate_origin as origin_of_gate, flipped_origin, many as many_values, repeated as shape_repeated, vector_value as value_of_vector, length_value as value_of_length, is_typed as is_typed_number, all_typed as are_typed_numbers, may_hold as mark_may_hold, unnamed_rule as rule_of_unnamed, new_value, one_value as one_new_value, asked_by_built_in, arguments as arguments_of, later_arguments};
 ghost use Rattle.check_expr.specs.State.{State, scope_in};
+ghost use Rattle.check_expr.specs.Context.{rules};
 ghost use Rattle.check_expr.specs.Steps.{Reads, Stops};
 
 use crate::asked::Ask;
@@ -33,7 +35,7 @@ use static_num::{eval, StaticFault};
 use std::alloc::Global;
 
 /// A list of one value.
-#[tactic(auto, using(crate::proofs::Called::stops_memory))]
+#[tactic(auto, using(crate::proofs::Called::steps))]
 pub(crate) fn one(alloc: Global, value: Value) -> Result<ValueList, ExprFault>
     ensures ok { IfOk result (λ values. values ≡ value ∷ []) }
     ensures memory { IfErr result (λ f. f ≡ stops.Fault checks.Memory) }
@@ -46,7 +48,7 @@ pub(crate) fn one(alloc: Global, value: Value) -> Result<ValueList, ExprFault>
 }
 
 /// A value with a new place.
-#[tactic(auto, using(crate::proofs::Sequence::reads_bind, crate::proofs::Sequence::reads_back, crate::proofs::Sequence::keeps_refl, crate::proofs::Called::stops_memory))]
+#[tactic(auto, using(crate::proofs::Called::steps))]
 pub(crate) fn placed_value(cx: &mut Context, ty: Ty, origin: Origin) -> Result<Value, ExprFault>
     ensures reads { (met : Signatures) → IfOk result (λ v. Reads met (new_value ty origin) cx.old v cx.new) }
     ensures stops { (met : Signatures) → IfErr result (λ f. Stops met (new_value ty origin) cx.old f cx.new) }
@@ -56,7 +58,7 @@ pub(crate) fn placed_value(cx: &mut Context, ty: Ty, origin: Origin) -> Result<V
 }
 
 /// A list of one value with a new place.
-#[tactic(auto, using(crate::proofs::Sequence::reads_bind, crate::proofs::Sequence::reads_back, crate::proofs::Sequence::stops_bind, crate::proofs::Sequence::keeps_refl, crate::proofs::Called::stops_memory))]
+#[tactic(auto, using(crate::proofs::Called::steps))]
 fn one_placed(alloc: Global, cx: &mut Context, ty: Ty, origin: Origin) -> Result<ValueList, ExprFault>
     ensures reads { (met : Signatures) → IfOk result (λ vs. Reads met (one_new_value ty origin) cx.old vs cx.new) }
     ensures stops { (met : Signatures) → IfErr result (λ f. Stops met (one_new_value ty origin) cx.old f cx.new) }
@@ -66,7 +68,6 @@ fn one_placed(alloc: Global, cx: &mut Context, ty: Ty, origin: Origin) -> Result
 }
 
 /// A Linear value without a name may not stand in a held use.
-#[tactic(auto)]
 pub(crate) fn unnamed_rule(at: Spot, need: Need, linear: bool) -> Result<(), ExprFault>
     ensures reads { (met : Signatures) (s : State) → IfOk result (λ u. Reads met (rule_of_unnamed at need linear) s u s) }
     ensures stops { (met : Signatures) (s : State) → IfErr result (λ f. Stops met (rule_of_unnamed at need linear) s f s) }
@@ -84,22 +85,186 @@ fn gate_origin(gate: BuiltIn, origin: Origin) -> Origin
     }
 }
 
+/// Whether an origin is Linear.
+pub(crate) fn is_linear(origin: Origin) -> bool
+    ensures { result ≡ is_linear_origin origin }
+{
+    matches!(origin, Origin::Linear)
+}
+
+/// A gate is for one bit.
+fn bit_rule(at: Spot, shape: Shape) -> Result<(), ExprFault>
+    ensures reads { (met : Signatures) (s : State) → IfOk result (λ u. Reads met (rules at ((not (is_bit_shape shape), wrong_type) ∷ [])) s u s) }
+    ensures stops { (met : Signatures) (s : State) → IfErr result (λ f. Stops met (rules at ((not (is_bit_shape shape), wrong_type) ∷ [])) s f s) }
+{
+    let is_bit = matches!(shape, Shape::Bit);
+    obey(at, &[(!is_bit, rule::WRONG_TYPE)])
+}
+
 /// The value behind `X`, `H`, `Y` or `Z`, which keep the place.
-#[tactic(auto, using(crate::proofs::Sequence::reads_bind, crate::proofs::Sequence::reads_then, crate::proofs::Sequence::reads_back, crate::proofs::Sequence::stops_bind, crate::proofs::Sequence::stops_then, crate::proofs::Sequence::stops_later, crate::proofs::Sequence::stops_after, crate::proofs::Sequence::keeps_refl, crate::proofs::Called::stops_memory))]
 fn flip_value(alloc: Global, gate: BuiltIn, at: Spot, need: Need, value: Value) -> Result<ValueList, ExprFault>
     ensures reads { (met : Signatures) (s : State) → IfOk result (λ vs. Reads met (value_flipped gate at need value) s vs s) }
     ensures stops { (met : Signatures) (s : State) → IfErr result (λ f. Stops met (value_flipped gate at need value) s f s) }
 {
-    obey(at, &[(value.ty.shape != Shape::Bit, rule::WRONG_TYPE)])?;
+    bit_rule(at, value.ty.shape)?;
     let origin = gate_origin(gate, value.origin);
-    unnamed_rule(at, need, origin == Origin::Linear)?;
-    let ty = Ty {
-        classical: false,
-        shape: value.ty.shape,
-    };
-    one(alloc, Value {
-        ty,
-        origin,
-        place: value.place,
-    })
+    unnamed_rule(at, need, is_linear(origin))?;
+    let classical = false;
+    let shape = value.ty.shape;
+    let place = value.place;
+    one(alloc, Value { ty: Ty { classical, shape }, origin, place })
+}
+
+/// The value behind a gate, `dup` or `measure`.
+fn gate_value(alloc: Global, cx: &mut Context, gate: BuiltIn, at: Spot, need: Need, value: Value) -> Result<ValueList, ExprFault>
+    ensures reads { (met : Signatures) → IfOk result (λ vs. Reads met (value_of_gate gate at need value) cx.old vs cx.new) }
+    ensures stops { (met : Signatures) → IfErr result (λ f. Stops met (value_of_gate gate at need value) cx.old f cx.new) }
+{
+    let shape = value.ty.shape;
+    match gate {
+        BuiltIn::Dup => one_placed(alloc, cx, Ty { classical: false, shape }, Origin::Lifted),
+        BuiltIn::Measure => one_placed(alloc, cx, Ty { classical: true, shape }, Origin::Classical),
+        _ => flip_value(alloc, gate, at, need, value),
+    }
+}
+
+/// The same, where it has one argument.
+fn gate_values(alloc: Global, cx: &mut Context, gate: BuiltIn, at: Spot, need: Need, values: &[Value]) -> Result<ValueList, ExprFault>
+    ensures reads { (met : Signatures) → IfOk result (λ vs. Reads met (values_of_gate gate at need values.now) cx.old vs cx.new) }
+    ensures stops { (met : Signatures) → IfErr result (λ f. Stops met (values_of_gate gate at need values.now) cx.old f cx.new) }
+{
+    match values {
+        [value] => gate_value(alloc, cx, gate, at, need, *value),
+        _ => Err(ExprFault::Fault(CheckFault::Broken { rule: rule::WRONG_TYPE, at })),
+    }
+}
+
+/// What so many of a value are made of.
+fn repeated(shape: Shape, len: u32) -> Shape
+    ensures { result ≡ shape_repeated shape (pos len) }
+{
+    match shape {
+        Shape::Bit => Shape::Array(Scalar::Bit, len),
+        Shape::UInt(width) => Shape::Array(Scalar::UInt(width), len),
+        Shape::Int(width) => Shape::Array(Scalar::Int(width), len),
+        Shape::Array(element, _) => Shape::Array(element, len),
+    }
+}
+
+/// So many of one value.
+fn many(alloc: Global, cx: &mut Context, at: Spot, values: &[Value], len: u32) -> Result<ValueList, ExprFault>
+    ensures reads { (met : Signatures) → IfOk result (λ vs. Reads met (many_values at values.now (pos len)) cx.old vs cx.new) }
+    ensures stops { (met : Signatures) → IfErr result (λ f. Stops met (many_values at values.now (pos len)) cx.old f cx.new) }
+{
+    match values {
+        [value] => {
+            let shape = repeated(value.ty.shape, len);
+            one_placed(alloc, cx, Ty { classical: false, shape }, Origin::Lifted)
+        }
+        _ => Err(ExprFault::Fault(CheckFault::Broken { rule: rule::WRONG_TYPE, at })),
+    }
+}
+
+/// The function's mark in whose body the call stands.
+fn mark_of(library: &Library, cx: &Context) -> Mark
+    requires { cx.now.this < length library.now.funs }
+    ensures { result ≡ (scope_in library.now cx.now).this.mark }
+{
+    library.fun(cx.this()).mark
+}
+
+/// Whether a function with this mark may call a built-in function.
+fn may_hold(mark: Mark, fun: BuiltIn) -> bool
+    ensures { result ≡ mark_may_hold mark fun }
+{
+    let is_qfree = matches!(mark, Mark::Qfree | Mark::Lifted);
+    match fun {
+        BuiltIn::HGate => !is_qfree,
+        BuiltIn::YGate => !is_qfree,
+        BuiltIn::ZGate => !is_qfree,
+        BuiltIn::Measure => matches!(mark, Mark::Plain),
+        _ => true,
+    }
+}
+
+/// The rules of a call of a built-in function before its arguments.
+#[tactic(auto, using(crate::proofs::Called::counted))]
+fn built_in_rules(library: &Library, cx: &Context, fun: BuiltIn, statics: &[ExprId], args: &[ExprId], arity: usize, at: Spot) -> Result<(), ExprFault>
+    requires { cx.now.this < length library.now.funs }
+    ensures reads { (met : Signatures) → IfOk result (λ u. Reads met (rules_of_built_in (scope_in library.now cx.now) fun (expressions_of (expr_at library.now.nodes) statics.now) (expressions_of (expr_at library.now.nodes) args.now) arity at) cx.now u cx.now) }
+    ensures stops { (met : Signatures) → IfErr result (λ f. Stops met (rules_of_built_in (scope_in library.now cx.now) fun (expressions_of (expr_at library.now.nodes) statics.now) (expressions_of (expr_at library.now.nodes) args.now) arity at) cx.now f cx.now) }
+{
+    let against = !may_hold(mark_of(library, cx), fun);
+    let measured = matches!(fun, BuiltIn::Measure) && cx.is_run_time();
+    obey(at, &[
+        (against, rule::AGAINST_MARK),
+        (measured, rule::MEASURED_IN_BRANCH),
+        (!(statics.len() == 0), rule::NOT_STATIC),
+        (!(args.len() == arity), rule::WRONG_TYPE),
+    ])
+}
+
+/// Whether an expression is static.
+fn is_static(library: &Library, cx: &Context, e: ExprId) -> bool
+    requires { e.number < length library.now.nodes.exprs }
+    ensures { result ≡ is_static_expression cx.now.statics (expr_at library.now.nodes e) }
+{
+    !matches!(eval(library.tree(), e, cx.statics()), Err(StaticFault::NotStatic))
+}
+
+/// The place of an expression's first token.
+pub(crate) fn spot_of(tree: &Tree, e: ExprId) -> Spot
+    requires { e.number < length tree.now.exprs }
+    ensures { result ≡ spot_of_expression (expr_at tree.now e) }
+{
+    match tree.expr(e) {
+        Expr::Number { at, .. } => *at,
+        Expr::Truth { at, .. } => *at,
+        Expr::Pi { at } => *at,
+        Expr::Place { at, .. } => *at,
+        Expr::Call { at, .. } => *at,
+        Expr::Tuple { at, .. } => *at,
+        Expr::Unary { at, .. } => *at,
+        Expr::Binary { at, .. } => *at,
+    }
+}
+
+/// The length where it is static; any other is told after the value is walked.
+fn length_value(library: &Library, cx: &Context, e: ExprId) -> Result<i64, ExprFault>
+    requires { e.number < length library.now.nodes.exprs }
+    ensures reads { (met : Signatures) → IfOk result (λ z. Reads met (value_of_length (scope_in library.now cx.now) (expr_at library.now.nodes e)) cx.now z cx.now) }
+    ensures stops { (met : Signatures) → IfErr result (λ f. Stops met (value_of_length (scope_in library.now cx.now) (expr_at library.now.nodes e)) cx.now f cx.now) }
+{
+    match eval(library.tree(), e, cx.statics()) {
+        Ok(value) => Ok(value),
+        Err(StaticFault::NotStatic) => Ok(0),
+        Err(_) => {
+            let at = spot_of(library.tree(), e);
+            Err(ExprFault::Fault(CheckFault::Broken { rule: rule::NOT_STATIC, at }))
+        }
+    }
+}
+
+/// Whether an expression is a number with a type.
+fn is_typed(tree: &Tree, e: ExprId) -> bool
+    requires { e.number < length tree.now.exprs }
+    ensures { result ≡ is_typed_number (expr_at tree.now e) }
+{
+    match tree.expr(e) {
+        Expr::Number { ty, .. } => ty.is_some(),
+        _ => false,
+    }
+}
+
+/// Whether each is a number with a type.
+fn all_typed(tree: &Tree, items: &[ExprId]) -> bool
+    requires { AreExprsBelow (length tree.now.exprs) items.now }
+    ensures { result ≡ are_typed_numbers (expressions_of (expr_at tree.now) items.now) }
+{
+    for e in items {
+        if !is_typed(tree, *e) {
+            return false;
+        }
+    }
+    true
 }
