@@ -5,3 +5,5 @@ pub mod Owners
 pub mod Sequence
 pub mod Called
 pub mod Obeyed
+pub mod Overlapping
+pub mod Named

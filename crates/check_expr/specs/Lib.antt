@@ -1,6 +1,7 @@
 pub mod Walk
 pub mod Context
 pub mod Uses
+pub mod Used
 pub mod Expression
 pub mod Reading
 pub mod Owners
