@@ -13,4 +13,4 @@ pub mod Asks
 pub mod State
 pub mod Faults
 pub mod Steps
-pub mod Signed
+pub mod Calls

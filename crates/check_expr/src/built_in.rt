@@ -1,21 +1,22 @@
 //! Calls of built-in functions.
 
-ghost use Rattle.std.specs.Prelude.{◌≡◌, ◌<◌, length, nat_abs, pos, IsTrue, not, IfOk, IfErr, Option, Some, None, is_some, ◌∷◌, []};
+ghost use Rattle.std.specs.Prelude.{◌≡◌, ◌<◌, length, pos, not, ◌&&◌, IfSome, IfOk, IfErr, Option, Some, None, is_some, ◌∷◌, []};
 ghost use Rattle.silq_tree.specs.Arena.{expr_at};
 ghost use Rattle.silq_tree.specs.Children.{AreExprsBelow};
 ghost use Rattle.silq_tree.specs.Standing.{expressions_of};
 ghost use Rattle.silq_types.specs.Known.{Signatures};
-ghost use Rattle.silq_types.specs.Rules.{wrong_type};
+ghost use Rattle.silq_types.specs.Rules.{wrong_type, bad_size};
 ghost use Rattle.silq_types.specs.Types.{is_bit as is_bit_shape, is_linear as is_linear_origin, is_count as is_count_up_to, most_items, count, at as spot_of_expression};
 ghost use Rattle.static_num.specs.Static.{is_static as is_static_expression};
 ghost use Rattle.check_expr.specs.declared.need.Need.TheVariants as needs;
 ghost use Rattle.check_expr.specs.declared.fault.CheckFault.TheVariants as checks;
 ghost use Rattle.check_expr.specs.declared.fault.ExprFault.TheVariants as stops;
 
-ghost use Rattle.check_expr.specs.Asks.{all_asked};
-ghost use Rattle.check_expr.specs.Expression.{call_built_in as call_of_built_in, built_in_rules as rules_of_built_in, gate_values as values_of_gate, gate_value as value_of_gate, flip_value as value_flipped, gate_origin as origin_of_gate, flipped_origin, many as many_values, repeated as shape_repeated, vector_value as value_of_vector, length_value as value_of_length, is_typed as is_typed_number, all_typed as are_typed_numbers, may_hold as mark_may_hold, unnamed_rule as rule_of_unnamed, new_value, one_value as one_new_value, asked_by_built_in, arguments as arguments_of, later_arguments};
+ghost use Rattle.check_expr.specs.Asks.{asked_as};
+ghost use Rattle.check_expr.specs.Expression.{call_built_in as call_of_built_in, call_gate as call_of_gate, built_in_rules as rules_of_built_in, gate_values as values_of_gate, gate_value as value_of_gate, flip_value as value_flipped, gate_origin as origin_of_gate, flipped_origin, many as many_values, repeated as shape_repeated, vector_value as value_of_vector, length_value as value_of_length, is_typed as is_typed_number, all_typed as are_typed_numbers, may_hold as mark_may_hold, unnamed_rule as rule_of_unnamed, new_value as value_new, one_value as value_one, asked_by_built_in, arguments as arguments_of, later_arguments};
 ghost use Rattle.check_expr.specs.State.{State, scope_in};
-ghost use Rattle.check_expr.specs.Context.{rules};
+ghost use Rattle.check_expr.specs.Calls.{items, walk_of, later_of};
+ghost use Rattle.check_expr.specs.Context.{rules, give_back};
 ghost use Rattle.check_expr.specs.Steps.{Reads, Stops};
 
 use crate::asked::Ask;
@@ -34,37 +35,46 @@ use silq_types::{Known, Origin, Scalar, Shape, Ty, Value};
 use static_num::{eval, StaticFault};
 use std::alloc::Global;
 
-/// A list of one value.
-#[tactic(auto, using(crate::proofs::Called::steps))]
-pub(crate) fn one(alloc: Global, value: Value) -> Result<ValueList, ExprFault>
-    ensures ok { IfOk result (λ values. values ≡ value ∷ []) }
-    ensures memory { IfErr result (λ f. f ≡ stops.Fault checks.Memory) }
+/// The fault of a rule that is broken at a place.
+pub(crate) fn broken(rule: u8, at: Spot) -> ExprFault
+    ensures { result ≡ stops.Fault (checks.Broken rule at) }
+{
+    ExprFault::Fault(CheckFault::Broken { rule, at })
+}
+
+/// The fault of something that is not supported.
+fn unsupported(what: What, at: Spot) -> ExprFault
+    ensures { result ≡ stops.Fault (checks.Unsupported what at) }
+{
+    ExprFault::Fault(CheckFault::Unsupported { what, at })
+}
+
+/// The list of one value.
+pub(crate) fn alone(alloc: Global, value: Value) -> Result<ValueList, ExprFault>
+    ensures reads { (met : Signatures) (s : State) → IfOk result (λ vs. Reads met (give_back (value ∷ [])) s vs s) }
+    ensures stops { (met : Signatures) (s : State) → IfErr result (λ f. Stops met (give_back (value ∷ [])) s f s) }
 {
     let mut values = ValueList::new(alloc);
-    match values.push(value) {
-        Ok(()) => Ok(values),
-        Err(_) => Err(ExprFault::Fault(CheckFault::Memory)),
-    }
+    values.push(value)?;
+    Ok(values)
 }
 
 /// A value with a new place.
-#[tactic(auto, using(crate::proofs::Called::steps))]
-pub(crate) fn placed_value(cx: &mut Context, ty: Ty, origin: Origin) -> Result<Value, ExprFault>
-    ensures reads { (met : Signatures) → IfOk result (λ v. Reads met (new_value ty origin) cx.old v cx.new) }
-    ensures stops { (met : Signatures) → IfErr result (λ f. Stops met (new_value ty origin) cx.old f cx.new) }
+pub(crate) fn new_value(cx: &mut Context, ty: Ty, origin: Origin) -> Result<Value, ExprFault>
+    ensures reads { (met : Signatures) → IfOk result (λ v. Reads met (value_new ty origin) cx.old v cx.new) }
+    ensures stops { (met : Signatures) → IfErr result (λ f. Stops met (value_new ty origin) cx.old f cx.new) }
 {
     let place = cx.fresh()?;
     Ok(Value { ty, origin, place })
 }
 
-/// A list of one value with a new place.
-#[tactic(auto, using(crate::proofs::Called::steps))]
-fn one_placed(alloc: Global, cx: &mut Context, ty: Ty, origin: Origin) -> Result<ValueList, ExprFault>
-    ensures reads { (met : Signatures) → IfOk result (λ vs. Reads met (one_new_value ty origin) cx.old vs cx.new) }
-    ensures stops { (met : Signatures) → IfErr result (λ f. Stops met (one_new_value ty origin) cx.old f cx.new) }
+/// The list of one value with a new place.
+pub(crate) fn one_value(alloc: Global, cx: &mut Context, ty: Ty, origin: Origin) -> Result<ValueList, ExprFault>
+    ensures reads { (met : Signatures) → IfOk result (λ vs. Reads met (value_one ty origin) cx.old vs cx.new) }
+    ensures stops { (met : Signatures) → IfErr result (λ f. Stops met (value_one ty origin) cx.old f cx.new) }
 {
-    let value = placed_value(cx, ty, origin)?;
-    one(alloc, value)
+    let value = new_value(cx, ty, origin)?;
+    alone(alloc, value)
 }
 
 /// A Linear value without a name may not stand in a held use.
@@ -112,7 +122,7 @@ fn flip_value(alloc: Global, gate: BuiltIn, at: Spot, need: Need, value: Value) 
     let classical = false;
     let shape = value.ty.shape;
     let place = value.place;
-    one(alloc, Value { ty: Ty { classical, shape }, origin, place })
+    alone(alloc, Value { ty: Ty { classical, shape }, origin, place })
 }
 
 /// The value behind a gate, `dup` or `measure`.
@@ -122,8 +132,8 @@ fn gate_value(alloc: Global, cx: &mut Context, gate: BuiltIn, at: Spot, need: Ne
 {
     let shape = value.ty.shape;
     match gate {
-        BuiltIn::Dup => one_placed(alloc, cx, Ty { classical: false, shape }, Origin::Lifted),
-        BuiltIn::Measure => one_placed(alloc, cx, Ty { classical: true, shape }, Origin::Classical),
+        BuiltIn::Dup => one_value(alloc, cx, Ty { classical: false, shape }, Origin::Lifted),
+        BuiltIn::Measure => one_value(alloc, cx, Ty { classical: true, shape }, Origin::Classical),
         _ => flip_value(alloc, gate, at, need, value),
     }
 }
@@ -135,7 +145,7 @@ fn gate_values(alloc: Global, cx: &mut Context, gate: BuiltIn, at: Spot, need: N
 {
     match values {
         [value] => gate_value(alloc, cx, gate, at, need, *value),
-        _ => Err(ExprFault::Fault(CheckFault::Broken { rule: rule::WRONG_TYPE, at })),
+        _ => Err(broken(rule::WRONG_TYPE, at)),
     }
 }
 
@@ -159,9 +169,9 @@ fn many(alloc: Global, cx: &mut Context, at: Spot, values: &[Value], len: u32) -
     match values {
         [value] => {
             let shape = repeated(value.ty.shape, len);
-            one_placed(alloc, cx, Ty { classical: false, shape }, Origin::Lifted)
+            one_value(alloc, cx, Ty { classical: false, shape }, Origin::Lifted)
         }
-        _ => Err(ExprFault::Fault(CheckFault::Broken { rule: rule::WRONG_TYPE, at })),
+        _ => Err(broken(rule::WRONG_TYPE, at)),
     }
 }
 
@@ -191,8 +201,8 @@ fn may_hold(mark: Mark, fun: BuiltIn) -> bool
 #[tactic(auto, using(crate::proofs::Called::counted))]
 fn built_in_rules(library: &Library, cx: &Context, fun: BuiltIn, statics: &[ExprId], args: &[ExprId], arity: usize, at: Spot) -> Result<(), ExprFault>
     requires { cx.now.this < length library.now.funs }
-    ensures reads { (met : Signatures) → IfOk result (λ u. Reads met (rules_of_built_in (scope_in library.now cx.now) fun (expressions_of (expr_at library.now.nodes) statics.now) (expressions_of (expr_at library.now.nodes) args.now) arity at) cx.now u cx.now) }
-    ensures stops { (met : Signatures) → IfErr result (λ f. Stops met (rules_of_built_in (scope_in library.now cx.now) fun (expressions_of (expr_at library.now.nodes) statics.now) (expressions_of (expr_at library.now.nodes) args.now) arity at) cx.now f cx.now) }
+    ensures reads { (met : Signatures) → IfOk result (λ u. Reads met (rules_of_built_in (scope_in library.now cx.now) fun (items library.now statics.now) (items library.now args.now) arity at) cx.now u cx.now) }
+    ensures stops { (met : Signatures) → IfErr result (λ f. Stops met (rules_of_built_in (scope_in library.now cx.now) fun (items library.now statics.now) (items library.now args.now) arity at) cx.now f cx.now) }
 {
     let against = !may_hold(mark_of(library, cx), fun);
     let measured = matches!(fun, BuiltIn::Measure) && cx.is_run_time();
@@ -213,11 +223,11 @@ fn is_static(library: &Library, cx: &Context, e: ExprId) -> bool
 }
 
 /// The place of an expression's first token.
-pub(crate) fn spot_of(tree: &Tree, e: ExprId) -> Spot
-    requires { e.number < length tree.now.exprs }
-    ensures { result ≡ spot_of_expression (expr_at tree.now e) }
+pub(crate) fn spot_of(library: &Library, e: ExprId) -> Spot
+    requires { e.number < length library.now.nodes.exprs }
+    ensures { result ≡ spot_of_expression (expr_at library.now.nodes e) }
 {
-    match tree.expr(e) {
+    match library.tree().expr(e) {
         Expr::Number { at, .. } => *at,
         Expr::Truth { at, .. } => *at,
         Expr::Pi { at } => *at,
@@ -239,8 +249,8 @@ fn length_value(library: &Library, cx: &Context, e: ExprId) -> Result<i64, ExprF
         Ok(value) => Ok(value),
         Err(StaticFault::NotStatic) => Ok(0),
         Err(_) => {
-            let at = spot_of(library.tree(), e);
-            Err(ExprFault::Fault(CheckFault::Broken { rule: rule::NOT_STATIC, at }))
+            let at = spot_of(library, e);
+            Err(broken(rule::NOT_STATIC, at))
         }
     }
 }
@@ -257,6 +267,7 @@ fn is_typed(tree: &Tree, e: ExprId) -> bool
 }
 
 /// Whether each is a number with a type.
+#[tactic(auto, using(silq_tree::proofs::Lists::ids))]
 fn all_typed(tree: &Tree, items: &[ExprId]) -> bool
     requires { AreExprsBelow (length tree.now.exprs) items.now }
     ensures { result ≡ are_typed_numbers (expressions_of (expr_at tree.now) items.now) }
@@ -267,4 +278,121 @@ fn all_typed(tree: &Tree, items: &[ExprId]) -> bool
         }
     }
     true
+}
+
+/// The length as a count, where it is 1 to 4,096.
+fn as_count(len: i64) -> Option<u32>
+    ensures some { is_some result ≡ is_count_up_to most_items len }
+    ensures value { IfSome result (λ n. pos n ≡ len) }
+{
+    if 0 < len && len <= 4096 {
+        Some(len as u32)
+    } else {
+        None
+    }
+}
+
+/// Whether a call of `vector` has a static length and a number with a type.
+fn is_plain(library: &Library, cx: &Context, len: ExprId, rest: &[ExprId]) -> bool
+    requires len { len.number < length library.now.nodes.exprs }
+    requires rest { AreExprsBelow (length library.now.nodes.exprs) rest.now }
+    ensures { result ≡ (is_static_expression cx.now.statics (expr_at library.now.nodes len) && are_typed_numbers (items library.now rest.now)) }
+{
+    is_static(library, cx, len) && all_typed(library.tree(), rest)
+}
+
+/// The rules of a call of `vector` after its arguments; they give the length.
+#[tactic(auto, unfolding(crate::specs::Context::rules))]
+fn vector_rules(at: Spot, plain: bool, len: i64) -> Result<u32, ExprFault>
+    ensures reads { (met : Signatures) (s : State) → IfOk result (λ n. Reads met (rules at ((not plain, wrong_type) ∷ (not (is_count_up_to most_items len), bad_size) ∷ [])) s tt s) }
+    ensures stops { (met : Signatures) (s : State) → IfErr result (λ f. Stops met (rules at ((not plain, wrong_type) ∷ (not (is_count_up_to most_items len), bad_size) ∷ [])) s f s) }
+    ensures len { IfOk result (λ n. pos n ≡ len) }
+{
+    if !plain {
+        return Err(broken(rule::WRONG_TYPE, at));
+    }
+    match as_count(len) {
+        Some(n) => Ok(n),
+        None => Err(broken(rule::BAD_SIZE, at)),
+    }
+}
+
+/// The value of a call of `vector`.
+fn vector_value(library: &Library, cx: &mut Context, at: Spot, args: &[ExprId], known: &Known) -> Result<ValueList, ExprFault>
+    requires ids { AreExprsBelow (length library.now.nodes.exprs) args.now }
+    requires this { cx.old.this < length library.now.funs }
+    ensures reads { IfOk result (λ vs. Reads known.now (value_of_vector (scope_in library.now cx.old) at (items library.now args.now) (later_of library.now cx.old args.now)) cx.old vs cx.new) }
+    ensures stops { IfErr result (λ f. Stops known.now (value_of_vector (scope_in library.now cx.old) at (items library.now args.now) (later_of library.now cx.old args.now)) cx.old f cx.new) }
+{
+    match args {
+        [] => Err(broken(rule::WRONG_TYPE, at)),
+        [first, rest @ ..] => {
+            let plain = is_plain(library, cx, *first, rest);
+            known_names(library, cx, *first)?;
+            let len = length_value(library, cx, *first)?;
+            let values = arguments(library, cx, rest, Need::Held, &[], known)?;
+            let len = vector_rules(at, plain, len)?;
+            many(library.alloc(), cx, at, values.as_slice(), len)
+        }
+    }
+}
+
+/// What a gate asks of its argument.
+fn ask_of(gate: BuiltIn) -> Ask
+    ensures { asked_as result ∷ [] ≡ asked_by_built_in gate }
+{
+    let need = match gate {
+        BuiltIn::Dup => Need::Held,
+        _ => Need::Consumed,
+    };
+    Ask { need, want: None }
+}
+
+/// The values of a call of a gate, of `dup` or of `measure`.
+fn call_gate(
+    library: &Library,
+    cx: &mut Context,
+    gate: BuiltIn,
+    statics: &[ExprId],
+    args: &[ExprId],
+    at: Spot,
+    need: Need,
+    known: &Known,
+) -> Result<ValueList, ExprFault>
+    requires ids { AreExprsBelow (length library.now.nodes.exprs) args.now }
+    requires this { cx.old.this < length library.now.funs }
+    ensures reads { IfOk result (λ vs. Reads known.now (call_of_gate (scope_in library.now cx.old) gate (items library.now statics.now) (items library.now args.now) at need (walk_of library.now cx.old args.now)) cx.old vs cx.new) }
+    ensures stops { IfErr result (λ f. Stops known.now (call_of_gate (scope_in library.now cx.old) gate (items library.now statics.now) (items library.now args.now) at need (walk_of library.now cx.old args.now)) cx.old f cx.new) }
+{
+    built_in_rules(library, cx, gate, statics, args, 1, at)?;
+    let values = arguments(library, cx, args, Need::Held, &[ask_of(gate)], known)?;
+    gate_values(library.alloc(), cx, gate, at, need, values.as_slice())
+}
+
+/// The values of a call of a built-in function.
+pub(crate) fn call_built_in(
+    library: &Library,
+    cx: &mut Context,
+    fun: BuiltIn,
+    statics: &[ExprId],
+    args: &[ExprId],
+    at: Spot,
+    need: Need,
+    known: &Known,
+) -> Result<ValueList, ExprFault>
+    requires ids { AreExprsBelow (length library.now.nodes.exprs) args.now }
+    requires this { cx.old.this < length library.now.funs }
+    ensures reads { IfOk result (λ vs. Reads known.now (call_of_built_in (scope_in library.now cx.old) fun (items library.now statics.now) (items library.now args.now) at need (walk_of library.now cx.old args.now) (later_of library.now cx.old args.now)) cx.old vs cx.new) }
+    ensures stops { IfErr result (λ f. Stops known.now (call_of_built_in (scope_in library.now cx.old) fun (items library.now statics.now) (items library.now args.now) at need (walk_of library.now cx.old args.now) (later_of library.now cx.old args.now)) cx.old f cx.new) }
+{
+    match fun {
+        BuiltIn::RotateX => Err(unsupported(What::RotX, at)),
+        BuiltIn::RotateY => Err(unsupported(What::RotY, at)),
+        BuiltIn::RotateZ => Err(unsupported(What::RotZ, at)),
+        BuiltIn::Vector => {
+            built_in_rules(library, cx, fun, statics, args, 2, at)?;
+            vector_value(library, cx, at, args, known)
+        }
+        _ => call_gate(library, cx, fun, statics, args, at, need, known),
+    }
 }

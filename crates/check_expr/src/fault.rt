@@ -1,8 +1,13 @@
 //! The faults of a check.
 
+ghost use Rattle.std.specs.Prelude.{◌≡◌};
+ghost use Rattle.check_expr.specs.declared.fault.CheckFault.TheVariants as checks;
+ghost use Rattle.check_expr.specs.declared.fault.ExprFault.TheVariants as stops;
+
 use silq_io::{LimitKind, What};
 use silq_tree::Spot;
 use silq_types::InstanceKey;
+use std::alloc::AllocError;
 
 /// Why a program is refused. Of several faults the first in the order of the walk is told.
 #[derive(Clone, Copy, Debug, PartialEq, Eq)]
@@ -29,4 +34,12 @@ pub enum ExprFault {
     Fault(CheckFault),
     /// The walk reaches a call of this instance, whose signature is not known, before any fault.
     Wanted(InstanceKey),
+}
+
+impl From<AllocError> for ExprFault {
+    ghost from_gives = { λ _ e. e ≡ stops.Fault checks.Memory };
+
+    fn from(_e: AllocError) -> ExprFault {
+        ExprFault::Fault(CheckFault::Memory)
+    }
 }

@@ -5,7 +5,7 @@ ghost use Rattle.silq_io.specs.declared.limit.LimitKind.TheVariants.{Instances, 
 ghost use Rattle.check_expr.specs.Context.{signature as signature_of_instance};
 ghost use Rattle.check_expr.specs.Steps.{Reads, Stops};
 ghost use Rattle.check_expr.specs.Walk.{too_deep as is_too_deep, met_as};
-ghost use Rattle.check_expr.specs.Signed.{met_new};
+ghost use Rattle.check_expr.specs.Calls.{met_new};
 
 use crate::context::Context;
 use crate::fault::{CheckFault, ExprFault};
