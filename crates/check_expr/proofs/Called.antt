@@ -2,7 +2,7 @@
 use Rattle.std.proofs.Common.{◌≡◌, refl, ℕ, ◌+◌, max, Bool, true, false, List, [], ◌∷◌, Option, Some, None, Result, Ok, Err, IfSome, IfErr, IsErrAnd, sym, ◌∙◌, ap, subst, length, get_or, arith}
 use Rattle.silq_tree.specs.declared.node.Spot.{Spot}
 use Rattle.silq_tree.specs.declared.node.ExprId.{ExprId}
-use Rattle.silq_tree.specs.Syntax.{Expression}
+use Rattle.silq_tree.specs.Syntax.{Expression, Expressions}
 use Rattle.silq_tree.specs.Standing.{expressions_of}
 use Rattle.silq_io.specs.declared.limit.LimitKind.{LimitKind}
 use Rattle.silq_io.specs.declared.fault.What.{What}
@@ -12,8 +12,8 @@ use Rattle.silq_types.specs.Known.{Signatures}
 use Rattle.silq_types.specs.declared.signature.InstanceKey.{InstanceKey}
 use Rattle.silq_types.specs.declared.signature.Signature.{Signature}
 use Rattle.check_expr.specs.Walk.{Met, known, limited, new, meet, known_or_stop}
-use Rattle.check_expr.specs.Context.{Check, give_back, fail, of_result, signature}
-use Rattle.check_expr.specs.Expression.{gate_value, flip_value}
+use Rattle.check_expr.specs.Context.{Scope, Check, give_back, fail, of_result, signature}
+use Rattle.check_expr.specs.Expression.{Arguments, gate_value, flip_value, call_gate, call_built_in}
 use Rattle.check_expr.specs.declared.words.BuiltIn.{BuiltIn}
 use Rattle.check_expr.specs.declared.words.BuiltIn.TheVariants.{HGate, XGate, YGate, ZGate, Dup, Measure, Vector, RotateX, RotateY, RotateZ}
 use Rattle.check_expr.specs.declared.need.Need.{Need}
@@ -62,6 +62,20 @@ flips Vector at need v p q = refl
 flips RotateX at need v p q = refl
 flips RotateY at need v p q = refl
 flips RotateZ at need v p q = refl
+
+pub gates : (b : BuiltIn) (sc : Scope) (ss args : Expressions) (at : Spot) (need : Need) (walk : Arguments) (later : Check (List Value))
+    → (b ≡ RotateX → ⊥) → (b ≡ RotateY → ⊥) → (b ≡ RotateZ → ⊥) → (b ≡ Vector → ⊥)
+    → call_built_in sc b ss args at need walk later ≡ call_gate sc b ss args at need walk
+gates HGate sc ss args at need walk later x y z v = refl
+gates XGate sc ss args at need walk later x y z v = refl
+gates YGate sc ss args at need walk later x y z v = refl
+gates ZGate sc ss args at need walk later x y z v = refl
+gates Dup sc ss args at need walk later x y z v = refl
+gates Measure sc ss args at need walk later x y z v = refl
+gates Vector sc ss args at need walk later x y z v = absurd (v refl)
+gates RotateX sc ss args at need walk later x y z v = absurd (x refl)
+gates RotateY sc ss args at need walk later x y z v = absurd (y refl)
+gates RotateZ sc ss args at need walk later x y z v = absurd (z refl)
 
 pub lone : {A : Type 0} (xs : List A) (d : A) → length xs ≡ 1 → xs ≡ get_or xs 0 d ∷ []
 lone [] d e = absurd (omega arith)

@@ -176,7 +176,7 @@ fn many(alloc: Global, cx: &mut Context, at: Spot, values: &[Value], len: u32) -
 }
 
 /// The function's mark in whose body the call stands.
-fn mark_of(library: &Library, cx: &Context) -> Mark
+pub(crate) fn mark_of(library: &Library, cx: &Context) -> Mark
     requires { cx.now.this < length library.now.funs }
     ensures { result ≡ (scope_in library.now cx.now).this.mark }
 {
@@ -317,6 +317,22 @@ fn vector_rules(at: Spot, plain: bool, len: i64) -> Result<u32, ExprFault>
     }
 }
 
+/// The value of a call of `vector` with a length and further arguments.
+fn vector_of(library: &Library, cx: &mut Context, at: Spot, len: ExprId, rest: &[ExprId], known: &Known) -> Result<ValueList, ExprFault>
+    requires len { len.number < length library.now.nodes.exprs }
+    requires rest { AreExprsBelow (length library.now.nodes.exprs) rest.now }
+    requires this { cx.old.this < length library.now.funs }
+    ensures reads { IfOk result (λ vs. Reads known.now (value_of_vector (scope_in library.now cx.old) at (items library.now (len ∷ rest.now)) (later_of library.now cx.old (len ∷ rest.now))) cx.old vs cx.new) }
+    ensures stops { IfErr result (λ f. Stops known.now (value_of_vector (scope_in library.now cx.old) at (items library.now (len ∷ rest.now)) (later_of library.now cx.old (len ∷ rest.now))) cx.old f cx.new) }
+{
+    let plain = is_plain(library, cx, len, rest);
+    known_names(library, cx, len)?;
+    let count = length_value(library, cx, len)?;
+    let values = arguments(library, cx, rest, Need::Held, &[], known)?;
+    let count = vector_rules(at, plain, count)?;
+    many(library.alloc(), cx, at, values.as_slice(), count)
+}
+
 /// The value of a call of `vector`.
 fn vector_value(library: &Library, cx: &mut Context, at: Spot, args: &[ExprId], known: &Known) -> Result<ValueList, ExprFault>
     requires ids { AreExprsBelow (length library.now.nodes.exprs) args.now }
@@ -326,14 +342,7 @@ fn vector_value(library: &Library, cx: &mut Context, at: Spot, args: &[ExprId], 
 {
     match args {
         [] => Err(broken(rule::WRONG_TYPE, at)),
-        [first, rest @ ..] => {
-            let plain = is_plain(library, cx, *first, rest);
-            known_names(library, cx, *first)?;
-            let len = length_value(library, cx, *first)?;
-            let values = arguments(library, cx, rest, Need::Held, &[], known)?;
-            let len = vector_rules(at, plain, len)?;
-            many(library.alloc(), cx, at, values.as_slice(), len)
-        }
+        [len, rest @ ..] => vector_of(library, cx, at, *len, rest, known),
     }
 }
 

@@ -16,6 +16,7 @@ pub mod laws;
 pub mod library;
 pub mod need;
 mod obey;
+mod own;
 pub mod places;
 pub mod rule;
 mod signatures;
