@@ -27,7 +27,7 @@ use crate::obey::obey;
 use crate::places::needed;
 use crate::rule;
 use crate::signatures::signature;
-use crate::uses::{argument_parts, consume_held, consume_twice, needs_of_own};
+use crate::uses::{argument_parts, consume_held, consume_twice, needs_of_own, UseList};
 use silq_tree::{ExprId, FunId, Mark, NameId, Spot};
 use silq_types::{InstanceKey, Known, List, Origin, Param, Returned, StaticList, Ty, Value};
 use static_num::Statics;
@@ -77,15 +77,23 @@ fn mark_rules(library: &Library, cx: &Context, fun: u32, statics: &[ExprId], at:
     ])
 }
 
+/// Whether a number is below 0.
+fn is_negative(value: i64) -> bool
+    ensures { result ≡ int_lt value (pos 0) }
+{
+    value < 0
+}
+
 /// A static argument is not negative.
 fn natural(at: Spot, value: i64) -> Result<(), ExprFault>
     ensures reads { (met : Signatures) (s : State) → IfOk result (λ u. Reads met (rule_of_natural at value) s u s) }
     ensures stops { (met : Signatures) (s : State) → IfErr result (λ f. Stops met (rule_of_natural at value) s f s) }
 {
-    obey(at, &[(value < 0, rule::NOT_STATIC)])
+    obey(at, &[(is_negative(value), rule::NOT_STATIC)])
 }
 
 /// The values of static arguments.
+#[tactic(auto, using(silq_tree::proofs::Lists::ids))]
 fn static_arguments(library: &Library, cx: &Context, args: &[ExprId]) -> Result<StaticList, ExprFault>
     requires { AreExprsBelow (length library.now.nodes.exprs) args.now }
     ensures reads { (met : Signatures) → IfOk result (λ vs. Reads met (arguments_static (items library.now args.now) (scope_in library.now cx.now)) cx.now vs cx.now) }
@@ -133,21 +141,39 @@ fn asks_of(alloc: Global, params: &[Param]) -> Result<List<Ask>, AllocError>
     Ok(asks)
 }
 
+/// How many parameters a function has.
+fn param_count(library: &Library, fun: u32) -> usize
+    requires { fun < length library.now.funs }
+    ensures { result ≡ length (function_at library.now fun).params }
+{
+    library.fun(fun).params.len()
+}
+
+/// The parts that the arguments of a call of a function name.
+fn own_parts(library: &Library, cx: &Context, fun: u32, args: &[ExprId]) -> Result<List<UseList>, AllocError>
+    requires fun { fun < length library.now.funs }
+    requires ids { AreExprsBelow (length library.now.nodes.exprs) args.now }
+    ensures { IfOk result (λ parts. parts ≡ (argument_uses (items library.now args.now) (scope_in library.now cx.now) cx.now.vars (map (param_need (function_at library.now fun)) (function_at library.now fun).params))) }
+{
+    let needs = needs_of_own(library, Some(fun))?;
+    argument_parts(library, cx, args, needs.as_slice())
+}
+
 /// The rules of a call of a function by its arguments, before they are walked.
-#[tactic(auto, using(crate::proofs::Called::counted))]
 fn argument_rules(library: &Library, cx: &Context, fun: u32, args: &[ExprId], at: Spot) -> Result<(), ExprFault>
     requires fun { fun < length library.now.funs }
     requires ids { AreExprsBelow (length library.now.nodes.exprs) args.now }
     ensures reads { (met : Signatures) → IfOk result (λ u. Reads met (rules at ((not (count (items library.now args.now) == length (function_at library.now fun).params), wrong_type) ∷ (some_pair both_consume (argument_uses (items library.now args.now) (scope_in library.now cx.now) cx.now.vars (map (param_need (function_at library.now fun)) (function_at library.now fun).params)), consumed_twice) ∷ (some_pair consume_and_hold (argument_uses (items library.now args.now) (scope_in library.now cx.now) cx.now.vars (map (param_need (function_at library.now fun)) (function_at library.now fun).params)), consumed_and_held) ∷ [])) cx.now u cx.now) }
     ensures stops { (met : Signatures) → IfErr result (λ f. Stops met (rules at ((not (count (items library.now args.now) == length (function_at library.now fun).params), wrong_type) ∷ (some_pair both_consume (argument_uses (items library.now args.now) (scope_in library.now cx.now) cx.now.vars (map (param_need (function_at library.now fun)) (function_at library.now fun).params)), consumed_twice) ∷ (some_pair consume_and_hold (argument_uses (items library.now args.now) (scope_in library.now cx.now) cx.now.vars (map (param_need (function_at library.now fun)) (function_at library.now fun).params)), consumed_and_held) ∷ [])) cx.now f cx.now) }
 {
-    let needs = needs_of_own(library, Some(fun))?;
-    let parts = argument_parts(library, cx, args, needs.as_slice())?;
-    let params = library.fun(fun).params.len();
+    let params = param_count(library, fun);
+    let parts = own_parts(library, cx, fun, args)?;
+    let twice = consume_twice(parts.as_slice());
+    let held = consume_held(parts.as_slice());
     obey(at, &[
         (!(args.len() == params), rule::WRONG_TYPE),
-        (consume_twice(parts.as_slice()), rule::CONSUMED_TWICE),
-        (consume_held(parts.as_slice()), rule::CONSUMED_AND_HELD),
+        (twice, rule::CONSUMED_TWICE),
+        (held, rule::CONSUMED_AND_HELD),
     ])
 }
 
@@ -201,6 +227,16 @@ fn placed(cx: &mut Context, given: Option<Value>, ty: Ty, origin: Origin) -> Res
     }
 }
 
+/// A value of a call whose arguments have these values.
+fn result_value(cx: &mut Context, lifts: bool, values: &[Value], returned: Returned) -> Result<Value, ExprFault>
+    ensures reads { (met : Signatures) → IfOk result (λ v. Reads met (value_placed (value_at values.now returned.from) returned.ty (origin_of_result lifts returned.ty)) cx.old v cx.new) }
+    ensures stops { (met : Signatures) → IfErr result (λ f. Stops met (value_placed (value_at values.now returned.from) returned.ty (origin_of_result lifts returned.ty)) cx.old f cx.new) }
+{
+    let given = argument_at(values, returned.from);
+    let origin = result_origin(lifts, returned.ty);
+    placed(cx, given, returned.ty, origin)
+}
+
 /// The values of a call whose arguments have these values.
 fn result_values(alloc: Global, cx: &mut Context, lifts: bool, values: &[Value], results: &[Returned]) -> Result<ValueList, ExprFault>
     ensures reads { (met : Signatures) → IfOk result (λ vs. Reads met (values_of_results lifts values.now results.now) cx.old vs cx.new) }
@@ -208,8 +244,7 @@ fn result_values(alloc: Global, cx: &mut Context, lifts: bool, values: &[Value],
 {
     let mut given = ValueList::new(alloc);
     for returned in results {
-        let from = argument_at(values, returned.from);
-        let value = placed(cx, from, returned.ty, result_origin(lifts, returned.ty))?;
+        let value = result_value(cx, lifts, values, *returned)?;
         given.push(value)?;
     }
     Ok(given)
