@@ -4,6 +4,8 @@ use Rattle.std.proofs.lemmas.List.{append-nil, drop_more}
 use Rattle.silq_tree.specs.Arena.{expr_at}
 use Rattle.silq_tree.proofs.Lists.{expressions_of-drop, expressions_of-end}
 use Rattle.silq_types.specs.declared.signature.Returned.{Returned}
+use Rattle.silq_types.specs.declared.signature.Param.{Param}
+use Rattle.silq_tree.specs.declared.node.NameId.{NameId}
 use Rattle.check_expr.specs.Library.{Shelf}
 use Rattle.check_expr.specs.Calls.{items}
 use Rattle.silq_tree.specs.declared.node.Spot.{Spot}
@@ -19,7 +21,7 @@ use Rattle.silq_types.specs.declared.signature.InstanceKey.{InstanceKey}
 use Rattle.silq_types.specs.declared.signature.Signature.{Signature}
 use Rattle.check_expr.specs.Walk.{Met, known, limited, new, meet, known_or_stop}
 use Rattle.check_expr.specs.Context.{Scope, Check, ◌>>=◌, ◌>>◌, give_back, fail, of_result, needed, signature}
-use Rattle.check_expr.specs.Expression.{Arguments, static_arguments, natural, result_values, placed, argument_at, result_origin, gate_value, flip_value, call_gate, call_built_in}
+use Rattle.check_expr.specs.Expression.{Arguments, all_lifted, paired, static_arguments, natural, result_values, placed, argument_at, result_origin, gate_value, flip_value, call_gate, call_built_in}
 use Rattle.check_expr.specs.declared.words.BuiltIn.{BuiltIn}
 use Rattle.check_expr.specs.declared.words.BuiltIn.TheVariants.{HGate, XGate, YGate, ZGate, Dup, Measure, Vector, RotateX, RotateY, RotateZ}
 use Rattle.check_expr.specs.declared.need.Need.{Need}
@@ -177,5 +179,34 @@ pub result_last : (met : Signatures) (lifts : Bool) (values : List Value) (rs : 
     → Going met (result_values lifts values (drop i rs)) whole old now done → Reads met whole old done now
 result_last met lifts values rs i whole old now done le g =
     going_last met whole old now done (subst (λ m. Going met (result_values lifts values m) whole old now done) (drop_end rs i le) g)
+
+-- ---- pairs
+
+pub lifted_left : (ps : List Param) (vs : List Value) → length ps ≡ 0 → all_lifted ps vs ≡ true
+lifted_left [] vs e = refl
+lifted_left (p ∷ ps) vs e = absurd (omega arith)
+
+pub lifted_right : (ps : List Param) (vs : List Value) → length vs ≡ 0 → all_lifted ps vs ≡ true
+lifted_right [] [] e = refl
+lifted_right (p ∷ ps) [] e = refl
+lifted_right ps (v ∷ vs) e = absurd (omega arith)
+
+pub paired_left : (xs : List NameId) (vs : List ℤ) → length xs ≡ 0 → paired xs vs ≡ []
+paired_left [] vs e = refl
+paired_left (x ∷ xs) vs e = absurd (omega arith)
+
+pub paired_right : (xs : List NameId) (vs : List ℤ) → length vs ≡ 0 → paired xs vs ≡ []
+paired_right [] [] e = refl
+paired_right (x ∷ xs) [] e = refl
+paired_right xs (v ∷ vs) e = absurd (omega arith)
+
+pub reads_result : {A : Type 0} (met : Signatures) (r : Result A Fault) (a : A) (s : State) → r ≡ Ok a → Reads met (of_result r) s a s
+reads_result met r a s e = subst (λ x. Reads met (of_result x) s a s) (sym e) (record { runs = refl; keeps = keeps_refl s })
+
+pub stops_result : {A : Type 0} (met : Signatures) (r : Result A Fault) (f : CheckFault) (s : State) → IsFirst f r → Stops met (of_result r) s (stops.Fault f) s
+stops_result met r checks.Memory s e = record { runs = tt; keeps = keeps_refl s }
+stops_result met r (checks.Broken number spot) s e = rw e (record { runs = refl; keeps = keeps_refl s })
+stops_result met r (checks.Unsupported what spot) s e = rw e (record { runs = refl; keeps = keeps_refl s })
+stops_result met r (checks.Limit kind) s e = rw e (record { runs = refl; keeps = keeps_refl s })
 
 pub ruleset steps = (keeps_refl, reads_back, reads_pass, reads_variables, reads_bind, reads_then, stops_bind, stops_then, stops_later, stops_after, stops_memory, stops_broken, stops_unsupported)

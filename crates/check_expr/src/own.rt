@@ -5,11 +5,11 @@ ghost use Rattle.std.specs.Option.{option_copied};
 ghost use Rattle.silq_tree.specs.Children.{AreExprsBelow};
 ghost use Rattle.silq_types.specs.Known.{Signatures};
 ghost use Rattle.silq_types.specs.Rules.{against_mark, measured_in_branch, not_static, wrong_type, consumed_twice, consumed_and_held};
-ghost use Rattle.silq_types.specs.Types.{count};
+ghost use Rattle.silq_types.specs.Types.{count, header_of};
 ghost use Rattle.check_expr.specs.Asks.{asked_as, all_asked};
-ghost use Rattle.check_expr.specs.Calls.{items, walk_of};
-ghost use Rattle.check_expr.specs.Context.{rules};
-ghost use Rattle.check_expr.specs.Expression.{is_run_time as is_in_run_time, may_call as mark_may_call, is_qfree as mark_is_qfree, is_unmarked as mark_is_unmarked, natural as rule_of_natural, static_arguments as arguments_static, paired as names_paired, asked_by, all_lifted as all_are_lifted, result_origin as origin_of_result, placed as value_placed, argument_at as value_at, result_values as values_of_results, lone_linear as is_lone_linear, call_own as call_of_own};
+ghost use Rattle.check_expr.specs.Calls.{items, walk_of, instance_values as values_of_instance};
+ghost use Rattle.check_expr.specs.Context.{rules, of_result};
+ghost use Rattle.check_expr.specs.Expression.{is_run_time as is_in_run_time, may_call as mark_may_call, is_qfree as mark_is_qfree, is_unmarked as mark_is_unmarked, natural as rule_of_natural, static_arguments as arguments_static, paired as names_paired, asked_by, all_lifted as all_are_lifted, result_origin as origin_of_result, placed as value_placed, argument_at as value_at, result_values as values_of_results, lone_linear as is_lone_linear, call_own as call_of_own, exact_place};
 ghost use Rattle.check_expr.specs.Library.{function_at, found_at};
 ghost use Rattle.check_expr.specs.State.{State, scope_in};
 ghost use Rattle.check_expr.specs.Steps.{Reads, Stops};
@@ -258,4 +258,76 @@ fn lone_linear(values: &[Value]) -> bool
         [value] => is_linear(value.origin),
         _ => false,
     }
+}
+
+/// The static names of a function with their values.
+fn own_statics(library: &Library, fun: u32, values: &[i64]) -> Result<Statics, AllocError>
+    requires { fun < length library.now.funs }
+    ensures { IfOk result (λ pairs. pairs ≡ names_paired (function_at library.now fun).statics values.now) }
+{
+    paired(library.alloc(), library.fun(fun).statics.as_slice(), values)
+}
+
+/// The types of a function's parameters and results under static values.
+fn own_header(library: &Library, fun: u32, values: &[i64]) -> Result<Header, ExprFault>
+    requires { fun < length library.now.funs }
+    ensures reads { (met : Signatures) (s : State) → IfOk result (λ h. Reads met (of_result (header_of (names_paired (function_at library.now fun).statics values.now) exact_place (function_at library.now fun))) s (record { params = h.params; results = h.results }) s) }
+    ensures stops { (met : Signatures) (s : State) → IfErr result (λ f. Stops met (of_result (header_of (names_paired (function_at library.now fun).statics values.now) exact_place (function_at library.now fun))) s f s) }
+{
+    let statics = own_statics(library, fun, values)?;
+    match header_types(library, &statics, fun, None) {
+        Ok(header) => Ok(header),
+        Err(fault) => Err(ExprFault::Fault(fault)),
+    }
+}
+
+/// Whether a call of a function with such arguments gives Lifted values.
+fn lifts(library: &Library, fun: u32, params: &[Param], values: &[Value]) -> bool
+    requires { fun < length library.now.funs }
+    ensures { result ≡ (mark_is_qfree (function_at library.now fun).mark && all_are_lifted params.now values.now) }
+{
+    is_qfree(library.fun(fun).mark) && all_lifted(params, values)
+}
+
+/// The values of a call of an instance, where its arguments have these values.
+fn instance_values(library: &Library, cx: &mut Context, lifts: bool, values: &[Value], results: &[Returned], at: Spot, need: Need) -> Result<ValueList, ExprFault>
+    ensures reads { (met : Signatures) → IfOk result (λ vs. Reads met (values_of_instance lifts values.now results.now at need) cx.old vs cx.new) }
+    ensures stops { (met : Signatures) → IfErr result (λ f. Stops met (values_of_instance lifts values.now results.now at need) cx.old f cx.new) }
+{
+    let given = result_values(library.alloc(), cx, lifts, values, results)?;
+    unnamed_rule(at, need, lone_linear(given.as_slice()))?;
+    Ok(given)
+}
+
+/// The values of a call of a function of the program, by its number.
+pub(crate) fn call_own(
+    library: &Library,
+    cx: &mut Context,
+    fun: u32,
+    statics: &[ExprId],
+    args: &[ExprId],
+    at: Spot,
+    need: Need,
+    known: &Known,
+) -> Result<ValueList, ExprFault>
+    requires fun { fun < length library.now.funs }
+    requires static_ids { AreExprsBelow (length library.now.nodes.exprs) statics.now }
+    requires ids { AreExprsBelow (length library.now.nodes.exprs) args.now }
+    requires this { cx.old.this < length library.now.funs }
+    ensures reads { IfOk result (λ vs. Reads known.now (call_of_own (scope_in library.now cx.old) (found_at library.now fun) (items library.now statics.now) (items library.now args.now) at need (walk_of library.now cx.old args.now)) cx.old vs cx.new) }
+    ensures stops { IfErr result (λ f. Stops known.now (call_of_own (scope_in library.now cx.old) (found_at library.now fun) (items library.now statics.now) (items library.now args.now) at need (walk_of library.now cx.old args.now)) cx.old f cx.new) }
+{
+    mark_rules(library, cx, fun, statics, at)?;
+    let numbers = static_arguments(library, cx, statics)?;
+    let header = own_header(library, fun, numbers.as_slice())?;
+    argument_rules(library, cx, fun, args, at)?;
+    let asks = asks_of(library.alloc(), header.params.as_slice())?;
+    let values = arguments(library, cx, args, Need::Held, asks.as_slice(), known)?;
+    let key = InstanceKey {
+        fun: FunId { number: fun },
+        statics: numbers,
+    };
+    let signed = signature(cx, key, known)?;
+    let lifted = lifts(library, fun, header.params.as_slice(), values.as_slice());
+    instance_values(library, cx, lifted, values.as_slice(), signed.results.as_slice(), at, need)
 }
