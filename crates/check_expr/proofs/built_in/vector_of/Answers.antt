@@ -1,3 +1,7 @@
+use mir.Val.{SFits}
+use mir.Syntax.{w64}
+use Rattle.std.proofs.Common.{rules}
+use Rattle.std.proofs.lemmas.Int.{to_z-of_z}
 use Rattle.std.proofs.lemmas.Result.{IfOk-weaker, IfErr-weaker}
 use Rattle.check_expr.proofs.Called.{left}
 use Rattle.check_expr.proofs.Sequence.{reads_bind, reads_then, stops_bind, stops_then, stops_later, stops_after}
@@ -22,14 +26,14 @@ returns-in_err-count-2-clause-stops c = left _ _ _ c.from_residual-in_err-count-
     (stops_after c.args.known.now _ _ _ _ _ _ _ (c.in_ok-known_names.ensures.reads c.args.known.now)
     (stops_later c.args.known.now _ _ _ _ _ _ _ (c.in_ok-count.ensures.reads c.args.known.now)
     (stops_later c.args.known.now _ _ _ _ _ _ _ c.in_ok-values.ensures.reads
-    (stops_then c.args.known.now _ _ _ _ _ (rw c.is_plain-plain.ensures at (c.in_err-count-2.ensures.stops c.args.known.now c.arguments.new.cx))))))
+    (stops_then c.args.known.now _ _ _ _ _ (let f : SFits w64 c.in_ok-count.count = search rules in simp (to_z-of_z w64 c.in_ok-count.count f, c.is_plain-plain.ensures) at (c.in_err-count-2.ensures.stops c.args.known.now c.arguments.new.cx))))))
 
 pub returns-clause-reads : goal.returns-clause-reads
 returns-clause-reads c = IfOk-weaker c.many.result _ _
     (λ vs r. reads_then c.args.known.now _ _ _ _ _ _ _ (c.in_ok-known_names.ensures.reads c.args.known.now)
     (reads_bind c.args.known.now _ _ _ _ _ _ _ (c.in_ok-count.ensures.reads c.args.known.now)
     (reads_bind c.args.known.now _ _ _ _ _ _ _ c.in_ok-values.ensures.reads
-    (reads_then c.args.known.now _ _ _ _ _ _ _ (rw c.is_plain-plain.ensures at (c.in_ok-count-2.ensures.reads c.args.known.now c.arguments.new.cx)) (rw (c.as_slice.ensures, c.in_ok-count-2.ensures.len) at r)))))
+    (reads_then c.args.known.now _ _ _ _ _ _ _ (let f : SFits w64 c.in_ok-count.count = search rules in simp (to_z-of_z w64 c.in_ok-count.count f, c.is_plain-plain.ensures) at (c.in_ok-count-2.ensures.reads c.args.known.now c.arguments.new.cx)) (let f : SFits w64 c.in_ok-count.count = search rules in simp (to_z-of_z w64 c.in_ok-count.count f) at (rw (c.as_slice.ensures, c.in_ok-count-2.ensures.len) at r))))))
     (c.many.ensures.reads c.args.known.now)
 
 pub returns-clause-stops : goal.returns-clause-stops
@@ -37,5 +41,5 @@ returns-clause-stops c = IfErr-weaker c.many.result _ _
     (λ vs r. stops_after c.args.known.now _ _ _ _ _ _ _ (c.in_ok-known_names.ensures.reads c.args.known.now)
     (stops_later c.args.known.now _ _ _ _ _ _ _ (c.in_ok-count.ensures.reads c.args.known.now)
     (stops_later c.args.known.now _ _ _ _ _ _ _ c.in_ok-values.ensures.reads
-    (stops_after c.args.known.now _ _ _ _ _ _ _ (rw c.is_plain-plain.ensures at (c.in_ok-count-2.ensures.reads c.args.known.now c.arguments.new.cx)) (rw (c.as_slice.ensures, c.in_ok-count-2.ensures.len) at r)))))
+    (stops_after c.args.known.now _ _ _ _ _ _ _ (let f : SFits w64 c.in_ok-count.count = search rules in simp (to_z-of_z w64 c.in_ok-count.count f, c.is_plain-plain.ensures) at (c.in_ok-count-2.ensures.reads c.args.known.now c.arguments.new.cx)) (let f : SFits w64 c.in_ok-count.count = search rules in simp (to_z-of_z w64 c.in_ok-count.count f) at (rw (c.as_slice.ensures, c.in_ok-count-2.ensures.len) at r))))))
     (c.many.ensures.stops c.args.known.now)

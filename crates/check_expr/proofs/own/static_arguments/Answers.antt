@@ -14,7 +14,7 @@ returns-in_err-natural-clause-stops c = λ met. left _ _ _ c.from_residual-in_er
     (natural_stops met c.args.library.now c.args.cx.now _ _ _ _ _ c.loop-e-test.true (c.loop-e.invariant met) _ _ (c.in_ok-value.ensures.reads met) (let f : SFits w64 c.in_ok-value.value = search rules in simp (to_z-of_z w64 c.in_ok-value.value f, c.spot_of.ensures) at (c.in_err-natural.ensures.stops met c.args.cx.now)))
 
 pub loop-e-preserved : goal.loop-e-preserved
-loop-e-preserved c = λ met. rw c.in_ok-push.ensures.ok
+loop-e-preserved c = λ met. let f : SFits w64 c.in_ok-value.value = search rules in rw (c.in_ok-push.ensures.ok, to_z-of_z w64 c.in_ok-value.value f)
     (static_more met c.args.library.now c.args.cx.now _ _ _ _ _ c.loop-e-test.true (c.loop-e.invariant met) _ (c.in_ok-value.ensures.reads met) (let f : SFits w64 c.in_ok-value.value = search rules in simp (to_z-of_z w64 c.in_ok-value.value f, c.spot_of.ensures) at (c.in_ok-natural.ensures.reads met c.args.cx.now)))
 
 pub returns-clause-reads : goal.returns-clause-reads
