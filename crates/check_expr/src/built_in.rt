@@ -11,7 +11,6 @@ ghost use Rattle.static_num.specs.Static.{is_static as is_static_expression};
 ghost use Rattle.check_expr.specs.declared.need.Need.TheVariants as needs;
 ghost use Rattle.check_expr.specs.declared.fault.CheckFault.TheVariants as checks;
 ghost use Rattle.check_expr.specs.declared.fault.ExprFault.TheVariants as stops;
-
 ghost use Rattle.check_expr.specs.Asks.{asked_as};
 ghost use Rattle.check_expr.specs.Expression.{call_built_in as call_of_built_in, call_gate as call_of_gate, built_in_rules as rules_of_built_in, gate_values as values_of_gate, gate_value as value_of_gate, flip_value as value_flipped, gate_origin as origin_of_gate, flipped_origin, many as many_values, repeated as shape_repeated, vector_value as value_of_vector, length_value as value_of_length, is_typed as is_typed_number, all_typed as are_typed_numbers, may_hold as mark_may_hold, unnamed_rule as rule_of_unnamed, new_value as value_new, one_value as value_one, asked_by_built_in, arguments as arguments_of, later_arguments};
 ghost use Rattle.check_expr.specs.State.{State, scope_in};
@@ -21,7 +20,7 @@ ghost use Rattle.check_expr.specs.Steps.{Reads, Stops};
 
 use crate::asked::Ask;
 use crate::context::Context;
-use crate::expr::{arguments, ValueList};
+use crate::expr::{ValueList, arguments};
 use crate::fault::{CheckFault, ExprFault};
 use crate::library::Library;
 use crate::need::Need;
@@ -32,7 +31,7 @@ use crate::words::BuiltIn;
 use silq_io::What;
 use silq_tree::{Expr, ExprId, Mark, Spot, Tree};
 use silq_types::{Known, Origin, Scalar, Shape, Ty, Value};
-use static_num::{eval, StaticFault};
+use static_num::{StaticFault, eval};
 use std::alloc::Global;
 
 /// The fault of a rule that is broken at a place.
@@ -69,7 +68,12 @@ pub(crate) fn new_value(cx: &mut Context, ty: Ty, origin: Origin) -> Result<Valu
 }
 
 /// The list of one value with a new place.
-pub(crate) fn one_value(alloc: Global, cx: &mut Context, ty: Ty, origin: Origin) -> Result<ValueList, ExprFault>
+pub(crate) fn one_value(
+    alloc: Global,
+    cx: &mut Context,
+    ty: Ty,
+    origin: Origin,
+) -> Result<ValueList, ExprFault>
     ensures reads { (met : Signatures) → IfOk result (λ vs. Reads met (value_one ty origin) cx.old vs cx.new) }
     ensures stops { (met : Signatures) → IfErr result (λ f. Stops met (value_one ty origin) cx.old f cx.new) }
 {
@@ -112,7 +116,13 @@ fn bit_rule(at: Spot, shape: Shape) -> Result<(), ExprFault>
 }
 
 /// The value behind `X`, `H`, `Y` or `Z`, which keep the place.
-fn flip_value(alloc: Global, gate: BuiltIn, at: Spot, need: Need, value: Value) -> Result<ValueList, ExprFault>
+fn flip_value(
+    alloc: Global,
+    gate: BuiltIn,
+    at: Spot,
+    need: Need,
+    value: Value,
+) -> Result<ValueList, ExprFault>
     ensures reads { (met : Signatures) (s : State) → IfOk result (λ vs. Reads met (value_flipped gate at need value) s vs s) }
     ensures stops { (met : Signatures) (s : State) → IfErr result (λ f. Stops met (value_flipped gate at need value) s f s) }
 {
@@ -122,24 +132,61 @@ fn flip_value(alloc: Global, gate: BuiltIn, at: Spot, need: Need, value: Value) 
     let classical = false;
     let shape = value.ty.shape;
     let place = value.place;
-    alone(alloc, Value { ty: Ty { classical, shape }, origin, place })
+    alone(
+        alloc,
+        Value {
+            ty: Ty { classical, shape },
+            origin,
+            place,
+        },
+    )
 }
 
 /// The value behind a gate, `dup` or `measure`.
-fn gate_value(alloc: Global, cx: &mut Context, gate: BuiltIn, at: Spot, need: Need, value: Value) -> Result<ValueList, ExprFault>
+fn gate_value(
+    alloc: Global,
+    cx: &mut Context,
+    gate: BuiltIn,
+    at: Spot,
+    need: Need,
+    value: Value,
+) -> Result<ValueList, ExprFault>
     ensures reads { (met : Signatures) → IfOk result (λ vs. Reads met (value_of_gate gate at need value) cx.old vs cx.new) }
     ensures stops { (met : Signatures) → IfErr result (λ f. Stops met (value_of_gate gate at need value) cx.old f cx.new) }
 {
     let shape = value.ty.shape;
     match gate {
-        BuiltIn::Dup => one_value(alloc, cx, Ty { classical: false, shape }, Origin::Lifted),
-        BuiltIn::Measure => one_value(alloc, cx, Ty { classical: true, shape }, Origin::Classical),
+        BuiltIn::Dup => one_value(
+            alloc,
+            cx,
+            Ty {
+                classical: false,
+                shape,
+            },
+            Origin::Lifted,
+        ),
+        BuiltIn::Measure => one_value(
+            alloc,
+            cx,
+            Ty {
+                classical: true,
+                shape,
+            },
+            Origin::Classical,
+        ),
         _ => flip_value(alloc, gate, at, need, value),
     }
 }
 
 /// The same, where it has one argument.
-fn gate_values(alloc: Global, cx: &mut Context, gate: BuiltIn, at: Spot, need: Need, values: &[Value]) -> Result<ValueList, ExprFault>
+fn gate_values(
+    alloc: Global,
+    cx: &mut Context,
+    gate: BuiltIn,
+    at: Spot,
+    need: Need,
+    values: &[Value],
+) -> Result<ValueList, ExprFault>
     ensures reads { (met : Signatures) → IfOk result (λ vs. Reads met (values_of_gate gate at need values.now) cx.old vs cx.new) }
     ensures stops { (met : Signatures) → IfErr result (λ f. Stops met (values_of_gate gate at need values.now) cx.old f cx.new) }
 {
@@ -162,14 +209,28 @@ fn repeated(shape: Shape, len: u32) -> Shape
 }
 
 /// So many of one value.
-fn many(alloc: Global, cx: &mut Context, at: Spot, values: &[Value], len: u32) -> Result<ValueList, ExprFault>
+fn many(
+    alloc: Global,
+    cx: &mut Context,
+    at: Spot,
+    values: &[Value],
+    len: u32,
+) -> Result<ValueList, ExprFault>
     ensures reads { (met : Signatures) → IfOk result (λ vs. Reads met (many_values at values.now (pos len)) cx.old vs cx.new) }
     ensures stops { (met : Signatures) → IfErr result (λ f. Stops met (many_values at values.now (pos len)) cx.old f cx.new) }
 {
     match values {
         [value] => {
             let shape = repeated(value.ty.shape, len);
-            one_value(alloc, cx, Ty { classical: false, shape }, Origin::Lifted)
+            one_value(
+                alloc,
+                cx,
+                Ty {
+                    classical: false,
+                    shape,
+                },
+                Origin::Lifted,
+            )
         }
         _ => Err(broken(rule::WRONG_TYPE, at)),
     }
@@ -199,19 +260,30 @@ fn may_hold(mark: Mark, fun: BuiltIn) -> bool
 
 /// The rules of a call of a built-in function before its arguments.
 #[tactic(auto, using(crate::proofs::Called::counted))]
-fn built_in_rules(library: &Library, cx: &Context, fun: BuiltIn, statics: &[ExprId], args: &[ExprId], arity: usize, at: Spot) -> Result<(), ExprFault>
+fn built_in_rules(
+    library: &Library,
+    cx: &Context,
+    fun: BuiltIn,
+    statics: &[ExprId],
+    args: &[ExprId],
+    arity: usize,
+    at: Spot,
+) -> Result<(), ExprFault>
     requires { cx.now.this < length library.now.funs }
     ensures reads { (met : Signatures) → IfOk result (λ u. Reads met (rules_of_built_in (scope_in library.now cx.now) fun (items library.now statics.now) (items library.now args.now) arity at) cx.now u cx.now) }
     ensures stops { (met : Signatures) → IfErr result (λ f. Stops met (rules_of_built_in (scope_in library.now cx.now) fun (items library.now statics.now) (items library.now args.now) arity at) cx.now f cx.now) }
 {
     let against = !may_hold(mark_of(library, cx), fun);
     let measured = matches!(fun, BuiltIn::Measure) && cx.is_run_time();
-    obey(at, &[
-        (against, rule::AGAINST_MARK),
-        (measured, rule::MEASURED_IN_BRANCH),
-        (!(statics.len() == 0), rule::NOT_STATIC),
-        (!(args.len() == arity), rule::WRONG_TYPE),
-    ])
+    obey(
+        at,
+        &[
+            (against, rule::AGAINST_MARK),
+            (measured, rule::MEASURED_IN_BRANCH),
+            (!(statics.len() == 0), rule::NOT_STATIC),
+            (!(args.len() == arity), rule::WRONG_TYPE),
+        ],
+    )
 }
 
 /// Whether an expression is static.
@@ -219,7 +291,10 @@ fn is_static(library: &Library, cx: &Context, e: ExprId) -> bool
     requires { e.number < length library.now.nodes.exprs }
     ensures { result ≡ is_static_expression cx.now.statics (expr_at library.now.nodes e) }
 {
-    !matches!(eval(library.tree(), e, cx.statics()), Err(StaticFault::NotStatic))
+    !matches!(
+        eval(library.tree(), e, cx.statics()),
+        Err(StaticFault::NotStatic)
+    )
 }
 
 /// The place of an expression's first token.
@@ -318,7 +393,14 @@ fn vector_rules(at: Spot, plain: bool, len: i64) -> Result<u32, ExprFault>
 }
 
 /// The value of a call of `vector` with a length and further arguments.
-fn vector_of(library: &Library, cx: &mut Context, at: Spot, len: ExprId, rest: &[ExprId], known: &Known) -> Result<ValueList, ExprFault>
+fn vector_of(
+    library: &Library,
+    cx: &mut Context,
+    at: Spot,
+    len: ExprId,
+    rest: &[ExprId],
+    known: &Known,
+) -> Result<ValueList, ExprFault>
     requires len { len.number < length library.now.nodes.exprs }
     requires rest { AreExprsBelow (length library.now.nodes.exprs) rest.now }
     requires this { cx.old.this < length library.now.funs }
@@ -334,7 +416,13 @@ fn vector_of(library: &Library, cx: &mut Context, at: Spot, len: ExprId, rest: &
 }
 
 /// The value of a call of `vector`.
-fn vector_value(library: &Library, cx: &mut Context, at: Spot, args: &[ExprId], known: &Known) -> Result<ValueList, ExprFault>
+fn vector_value(
+    library: &Library,
+    cx: &mut Context,
+    at: Spot,
+    args: &[ExprId],
+    known: &Known,
+) -> Result<ValueList, ExprFault>
     requires ids { AreExprsBelow (length library.now.nodes.exprs) args.now }
     requires this { cx.old.this < length library.now.funs }
     ensures reads { IfOk result (λ vs. Reads known.now (value_of_vector (scope_in library.now cx.old) at (items library.now args.now) (later_of library.now cx.old args.now)) cx.old vs cx.new) }

@@ -13,15 +13,9 @@ use std::alloc::AllocError;
 #[derive(Clone, Copy, Debug, PartialEq, Eq)]
 pub enum CheckFault {
     /// A rule is broken at this place; its number is 1 to 23.
-    Broken {
-        rule: u8,
-        at: Spot,
-    },
+    Broken { rule: u8, at: Spot },
     /// Something that is not supported stands there.
-    Unsupported {
-        what: What,
-        at: Spot,
-    },
+    Unsupported { what: What, at: Spot },
     /// A limit is passed.
     Limit(LimitKind),
     /// There is no memory.

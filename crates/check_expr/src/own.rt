@@ -18,16 +18,16 @@ ghost use Rattle.check_expr.specs.Uses.{argument_uses, param_need, some_pair, bo
 use crate::asked::Ask;
 use crate::built_in::{is_linear, mark_of, new_value, spot_of, unnamed_rule};
 use crate::context::Context;
-use crate::expr::{arguments, ValueList};
+use crate::expr::{ValueList, arguments};
 use crate::fault::ExprFault;
-use crate::header::{header_types, Header};
+use crate::header::{Header, header_types};
 use crate::library::Library;
 use crate::need::Need;
 use crate::obey::obey;
 use crate::places::needed;
 use crate::rule;
 use crate::signatures::signature;
-use crate::uses::{argument_parts, consume_held, consume_twice, needs_of_own, UseList};
+use crate::uses::{UseList, argument_parts, consume_held, consume_twice, needs_of_own};
 use silq_tree::{ExprId, FunId, Mark, NameId, Spot};
 use silq_types::{InstanceKey, Known, List, Origin, Param, Returned, StaticList, Ty, Value};
 use static_num::Statics;
@@ -61,7 +61,13 @@ fn may_call(caller: Mark, callee: Mark) -> bool
 
 /// The rules of a call of a function by its mark and its static arguments.
 #[tactic(auto, using(crate::proofs::Called::counted))]
-fn mark_rules(library: &Library, cx: &Context, fun: u32, statics: &[ExprId], at: Spot) -> Result<(), ExprFault>
+fn mark_rules(
+    library: &Library,
+    cx: &Context,
+    fun: u32,
+    statics: &[ExprId],
+    at: Spot,
+) -> Result<(), ExprFault>
     requires fun { fun < length library.now.funs }
     requires this { cx.now.this < length library.now.funs }
     ensures reads { (met : Signatures) → IfOk result (λ u. Reads met (rules at ((not (mark_may_call (scope_in library.now cx.now).this.mark (function_at library.now fun).mark), against_mark) ∷ (mark_is_unmarked (function_at library.now fun).mark && is_in_run_time (scope_in library.now cx.now), measured_in_branch) ∷ (not (count (items library.now statics.now) == length (function_at library.now fun).statics), not_static) ∷ [])) cx.now u cx.now) }
@@ -70,11 +76,14 @@ fn mark_rules(library: &Library, cx: &Context, fun: u32, statics: &[ExprId], at:
     let callee = library.fun(fun);
     let against = !may_call(mark_of(library, cx), callee.mark);
     let measured = is_unmarked(callee.mark) && cx.is_run_time();
-    obey(at, &[
-        (against, rule::AGAINST_MARK),
-        (measured, rule::MEASURED_IN_BRANCH),
-        (!(statics.len() == callee.statics.len()), rule::NOT_STATIC),
-    ])
+    obey(
+        at,
+        &[
+            (against, rule::AGAINST_MARK),
+            (measured, rule::MEASURED_IN_BRANCH),
+            (!(statics.len() == callee.statics.len()), rule::NOT_STATIC),
+        ],
+    )
 }
 
 /// Whether a number is below 0.
@@ -94,7 +103,11 @@ fn natural(at: Spot, value: i64) -> Result<(), ExprFault>
 
 /// The values of static arguments.
 #[tactic(auto, using(silq_tree::proofs::Lists::ids))]
-fn static_arguments(library: &Library, cx: &Context, args: &[ExprId]) -> Result<StaticList, ExprFault>
+fn static_arguments(
+    library: &Library,
+    cx: &Context,
+    args: &[ExprId],
+) -> Result<StaticList, ExprFault>
     requires { AreExprsBelow (length library.now.nodes.exprs) args.now }
     ensures reads { (met : Signatures) → IfOk result (λ vs. Reads met (arguments_static (items library.now args.now) (scope_in library.now cx.now)) cx.now vs cx.now) }
     ensures stops { (met : Signatures) → IfErr result (λ f. Stops met (arguments_static (items library.now args.now) (scope_in library.now cx.now)) cx.now f cx.now) }
@@ -123,7 +136,11 @@ fn paired(alloc: Global, names: &[NameId], values: &[i64]) -> Result<Statics, Al
 fn ask_of(param: &Param) -> Ask
     ensures { asked_as result ≡ asked_by param.now }
 {
-    let need = if param.held { Need::Held } else { Need::Consumed };
+    let need = if param.held {
+        Need::Held
+    } else {
+        Need::Consumed
+    };
     Ask {
         need,
         want: Some(param.ty),
@@ -150,7 +167,12 @@ fn param_count(library: &Library, fun: u32) -> usize
 }
 
 /// The parts that the arguments of a call of a function name.
-fn own_parts(library: &Library, cx: &Context, fun: u32, args: &[ExprId]) -> Result<List<UseList>, AllocError>
+fn own_parts(
+    library: &Library,
+    cx: &Context,
+    fun: u32,
+    args: &[ExprId],
+) -> Result<List<UseList>, AllocError>
     requires fun { fun < length library.now.funs }
     requires ids { AreExprsBelow (length library.now.nodes.exprs) args.now }
     ensures { IfOk result (λ parts. parts ≡ (argument_uses (items library.now args.now) (scope_in library.now cx.now) cx.now.vars (map (param_need (function_at library.now fun)) (function_at library.now fun).params))) }
@@ -160,7 +182,13 @@ fn own_parts(library: &Library, cx: &Context, fun: u32, args: &[ExprId]) -> Resu
 }
 
 /// The rules of a call of a function by its arguments, before they are walked.
-fn argument_rules(library: &Library, cx: &Context, fun: u32, args: &[ExprId], at: Spot) -> Result<(), ExprFault>
+fn argument_rules(
+    library: &Library,
+    cx: &Context,
+    fun: u32,
+    args: &[ExprId],
+    at: Spot,
+) -> Result<(), ExprFault>
     requires fun { fun < length library.now.funs }
     requires ids { AreExprsBelow (length library.now.nodes.exprs) args.now }
     ensures reads { (met : Signatures) → IfOk result (λ u. Reads met (rules at ((not (count (items library.now args.now) == length (function_at library.now fun).params), wrong_type) ∷ (some_pair both_consume (argument_uses (items library.now args.now) (scope_in library.now cx.now) cx.now.vars (map (param_need (function_at library.now fun)) (function_at library.now fun).params)), consumed_twice) ∷ (some_pair consume_and_hold (argument_uses (items library.now args.now) (scope_in library.now cx.now) cx.now.vars (map (param_need (function_at library.now fun)) (function_at library.now fun).params)), consumed_and_held) ∷ [])) cx.now u cx.now) }
@@ -170,11 +198,14 @@ fn argument_rules(library: &Library, cx: &Context, fun: u32, args: &[ExprId], at
     let parts = own_parts(library, cx, fun, args)?;
     let twice = consume_twice(parts.as_slice());
     let held = consume_held(parts.as_slice());
-    obey(at, &[
-        (!(args.len() == params), rule::WRONG_TYPE),
-        (twice, rule::CONSUMED_TWICE),
-        (held, rule::CONSUMED_AND_HELD),
-    ])
+    obey(
+        at,
+        &[
+            (!(args.len() == params), rule::WRONG_TYPE),
+            (twice, rule::CONSUMED_TWICE),
+            (held, rule::CONSUMED_AND_HELD),
+        ],
+    )
 }
 
 /// Whether each consumed argument is Lifted or a copy.
@@ -213,7 +244,12 @@ fn argument_at(values: &[Value], from: Option<u32>) -> Option<Value>
 }
 
 /// A result with the place of an argument, or with a new place.
-fn placed(cx: &mut Context, given: Option<Value>, ty: Ty, origin: Origin) -> Result<Value, ExprFault>
+fn placed(
+    cx: &mut Context,
+    given: Option<Value>,
+    ty: Ty,
+    origin: Origin,
+) -> Result<Value, ExprFault>
     ensures reads { (met : Signatures) → IfOk result (λ v. Reads met (value_placed given ty origin) cx.old v cx.new) }
     ensures stops { (met : Signatures) → IfErr result (λ f. Stops met (value_placed given ty origin) cx.old f cx.new) }
 {
@@ -228,7 +264,12 @@ fn placed(cx: &mut Context, given: Option<Value>, ty: Ty, origin: Origin) -> Res
 }
 
 /// A value of a call whose arguments have these values.
-fn result_value(cx: &mut Context, lifts: bool, values: &[Value], returned: Returned) -> Result<Value, ExprFault>
+fn result_value(
+    cx: &mut Context,
+    lifts: bool,
+    values: &[Value],
+    returned: Returned,
+) -> Result<Value, ExprFault>
     ensures reads { (met : Signatures) → IfOk result (λ v. Reads met (value_placed (value_at values.now returned.from) returned.ty (origin_of_result lifts returned.ty)) cx.old v cx.new) }
     ensures stops { (met : Signatures) → IfErr result (λ f. Stops met (value_placed (value_at values.now returned.from) returned.ty (origin_of_result lifts returned.ty)) cx.old f cx.new) }
 {
@@ -238,7 +279,13 @@ fn result_value(cx: &mut Context, lifts: bool, values: &[Value], returned: Retur
 }
 
 /// The values of a call whose arguments have these values.
-fn result_values(alloc: Global, cx: &mut Context, lifts: bool, values: &[Value], results: &[Returned]) -> Result<ValueList, ExprFault>
+fn result_values(
+    alloc: Global,
+    cx: &mut Context,
+    lifts: bool,
+    values: &[Value],
+    results: &[Returned],
+) -> Result<ValueList, ExprFault>
     ensures reads { (met : Signatures) → IfOk result (λ vs. Reads met (values_of_results lifts values.now results.now) cx.old vs cx.new) }
     ensures stops { (met : Signatures) → IfErr result (λ f. Stops met (values_of_results lifts values.now results.now) cx.old f cx.new) }
 {
@@ -290,7 +337,15 @@ fn lifts(library: &Library, fun: u32, params: &[Param], values: &[Value]) -> boo
 }
 
 /// The values of a call of an instance, where its arguments have these values.
-fn instance_values(library: &Library, cx: &mut Context, lifts: bool, values: &[Value], results: &[Returned], at: Spot, need: Need) -> Result<ValueList, ExprFault>
+fn instance_values(
+    library: &Library,
+    cx: &mut Context,
+    lifts: bool,
+    values: &[Value],
+    results: &[Returned],
+    at: Spot,
+    need: Need,
+) -> Result<ValueList, ExprFault>
     ensures reads { (met : Signatures) → IfOk result (λ vs. Reads met (values_of_instance lifts values.now results.now at need) cx.old vs cx.new) }
     ensures stops { (met : Signatures) → IfErr result (λ f. Stops met (values_of_instance lifts values.now results.now at need) cx.old f cx.new) }
 {
@@ -329,5 +384,13 @@ pub(crate) fn call_own(
     };
     let signed = signature(cx, key, known)?;
     let lifted = lifts(library, fun, header.params.as_slice(), values.as_slice());
-    instance_values(library, cx, lifted, values.as_slice(), signed.results.as_slice(), at, need)
+    instance_values(
+        library,
+        cx,
+        lifted,
+        values.as_slice(),
+        signed.results.as_slice(),
+        at,
+        need,
+    )
 }

@@ -39,7 +39,11 @@ fn limit_of_new(depth: u32, checked: usize) -> Option<LimitKind>
 }
 
 /// The signature of an instance, where it is known and the call is not too deep. It raises the height of the walk.
-pub(crate) fn signature<'a>(cx: &mut Context, key: InstanceKey, known: &'a Known) -> Result<&'a Signature, ExprFault>
+pub(crate) fn signature<'a>(
+    cx: &mut Context,
+    key: InstanceKey,
+    known: &'a Known,
+) -> Result<&'a Signature, ExprFault>
     ensures reads { IfOk result (λ s. Reads known.now (signature_of_instance key) cx.old s.now cx.new) }
     ensures stops { IfErr result (λ f. Stops known.now (signature_of_instance key) cx.old f cx.new) }
 {

@@ -6,13 +6,13 @@ use Rattle.check_expr.proofs.built_in.flip_value.Goals as goal
 pub returns-clause-reads : goal.returns-clause-reads
 returns-clause-reads c = λ met s. IfOk-weaker c.alone.result _ _
     (λ vs r. reads_then met _ _ _ _ _ _ _ (c.in_ok-bit_rule.ensures.reads met s)
-        (reads_then met _ _ _ _ _ _ _ (rw (c.is_linear.ensures, c.gate_origin-origin.ensures) at (c.in_ok-unnamed_rule.ensures.reads met s)) (rw c.gate_origin-origin.ensures at r)))
+    (reads_then met _ _ _ _ _ _ _ (rw (c.is_linear.ensures, c.gate_origin-origin.ensures) at (c.in_ok-unnamed_rule.ensures.reads met s)) (rw c.gate_origin-origin.ensures at r)))
     (c.alone.ensures.reads met s)
 
 pub returns-clause-stops : goal.returns-clause-stops
 returns-clause-stops c = λ met s. IfErr-weaker c.alone.result _ _
     (λ vs r. stops_after met _ _ _ _ _ _ _ (c.in_ok-bit_rule.ensures.reads met s)
-        (stops_after met _ _ _ _ _ _ _ (rw (c.is_linear.ensures, c.gate_origin-origin.ensures) at (c.in_ok-unnamed_rule.ensures.reads met s)) (rw c.gate_origin-origin.ensures at r)))
+    (stops_after met _ _ _ _ _ _ _ (rw (c.is_linear.ensures, c.gate_origin-origin.ensures) at (c.in_ok-unnamed_rule.ensures.reads met s)) (rw c.gate_origin-origin.ensures at r)))
     (c.alone.ensures.stops met s)
 
 pub returns-in_err-bit_rule-clause-stops : goal.returns-in_err-bit_rule-clause-stops
