@@ -4,3 +4,4 @@ pub mod Readings
 pub mod Owners
 pub mod Sequence
 pub mod Obeyed
+pub mod Scopes

@@ -12,3 +12,4 @@ pub mod Asks
 pub mod State
 pub mod Faults
 pub mod Steps
+pub mod Numbers

@@ -15,9 +15,11 @@ pub mod laws;
 pub mod library;
 pub mod need;
 mod obey;
+mod operators;
 pub mod places;
 pub mod rule;
 pub mod uses;
+mod values;
 pub mod words;
 
 pub use context::{Context, PartList};

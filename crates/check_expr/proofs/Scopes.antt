@@ -1,0 +1,43 @@
+-- A step leaves the scope as it is; and where a check answers, breaks a rule, or has no memory at once.
+use Rattle.std.specs.Prelude.{List, [], ◌∷◌, ◌≡◌, refl, ℕ, Bool, true, false, Option, Some, None, Result, Ok, Err, IfSome}
+use mathlib.Core.Path.{sym, ap, ◌∙◌, subst}
+use Rattle.silq_tree.specs.declared.node.Spot.{Spot}
+use Rattle.silq_types.specs.Rules.{Fault, rule}
+use Rattle.silq_types.specs.Known.{Signatures}
+use Rattle.check_expr.specs.Context.{Check, fail, give_back, of_result}
+use Rattle.check_expr.specs.Library.{Shelf}
+use Rattle.check_expr.specs.State.{State, Keeps, scope_in}
+use Rattle.check_expr.specs.Faults.{fault_as}
+use Rattle.check_expr.specs.Steps.{Reads, Stops, IsFirst}
+use Rattle.check_expr.specs.declared.fault.CheckFault.{CheckFault}
+use Rattle.check_expr.specs.declared.fault.CheckFault.TheVariants as checks
+use Rattle.check_expr.specs.declared.fault.ExprFault.{ExprFault}
+use Rattle.check_expr.specs.declared.fault.ExprFault.TheVariants as stops
+use Rattle.check_expr.proofs.Sequence.{keeps_refl, reads_back}
+
+pub same_scope : (l : Shelf) (old now : State) → Keeps old now → scope_in l now ≡ scope_in l old
+same_scope l old now k = rw (k.this, k.results, k.statics, k.held) refl
+
+-- no memory: each check may stop there
+pub stops_memory : {A : Type 0} (met : Signatures) (m : Check A) (s : State) → Stops met m s (stops.Fault checks.Memory) s
+stops_memory met m s = record { runs = tt; keeps = keeps_refl s }
+
+pub stops_full : {A : Type 0} (met : Signatures) (m : Check A) (old now : State) (f : ExprFault) → now ≡ old → f ≡ stops.Fault checks.Memory → Stops met m old f now
+stops_full met m old now f e q = rw (e, q) (stops_memory met m old)
+
+-- a list of one is given back
+pub reads_alone : {A : Type 0} (met : Signatures) (a : A) (us : List A) (s : State) → us ≡ a ∷ [] → Reads met (give_back (a ∷ [])) s us s
+reads_alone met a us s e = rw e (reads_back met (a ∷ []) s)
+
+-- a rule that is broken here
+pub stops_broken : {A : Type 0} (met : Signatures) (s : State) (number : ℕ) (spot : Spot) → Stops {A = A} met (fail (rule number spot)) s (stops.Fault (checks.Broken number spot)) s
+stops_broken met s number spot = record { runs = refl; keeps = keeps_refl s }
+
+pub reads_result : {A : Type 0} (met : Signatures) (r : Result A Fault) (a : A) (s : State) → r ≡ Ok a → Reads met (of_result r) s a s
+reads_result met r a s e = rw e (record { runs = refl; keeps = keeps_refl s })
+
+pub stops_result : {A : Type 0} (met : Signatures) (r : Result A Fault) (f : CheckFault) (s : State) → IsFirst f r → Stops met (of_result r) s (stops.Fault f) s
+stops_result met r checks.Memory s e = record { runs = tt; keeps = keeps_refl s }
+stops_result met r (checks.Broken number spot) s e = rw e (record { runs = refl; keeps = keeps_refl s })
+stops_result met r (checks.Unsupported what spot) s e = rw e (record { runs = refl; keeps = keeps_refl s })
+stops_result met r (checks.Limit kind) s e = rw e (record { runs = refl; keeps = keeps_refl s })
