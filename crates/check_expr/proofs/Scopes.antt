@@ -1,5 +1,6 @@
 -- A step leaves the scope as it is; and where a check answers, breaks a rule, or has no memory at once.
-use Rattle.std.specs.Prelude.{List, [], ◌∷◌, ◌≡◌, refl, ℕ, Bool, true, false, Option, Some, None, Result, Ok, Err, IfSome}
+use Rattle.std.specs.Prelude.{List, [], ◌∷◌, IfErr, ◌≡◌, refl, ℕ, Bool, true, false, Option, Some, None, Result, Ok, Err, IfSome}
+use Rattle.std.specs.Result.{IsErrAnd}
 use mathlib.Core.Path.{sym, ap, ◌∙◌, subst}
 use Rattle.silq_tree.specs.declared.node.Spot.{Spot}
 use Rattle.silq_types.specs.Rules.{Fault, rule}
@@ -13,7 +14,7 @@ use Rattle.check_expr.specs.declared.fault.CheckFault.{CheckFault}
 use Rattle.check_expr.specs.declared.fault.CheckFault.TheVariants as checks
 use Rattle.check_expr.specs.declared.fault.ExprFault.{ExprFault}
 use Rattle.check_expr.specs.declared.fault.ExprFault.TheVariants as stops
-use Rattle.check_expr.proofs.Sequence.{keeps_refl, reads_back}
+use Rattle.check_expr.proofs.Sequence.{keeps_refl, reads_bind, reads_then, reads_back, reads_variables, stops_bind, stops_then, stops_later, stops_after}
 
 pub same_scope : (l : Shelf) (old now : State) → Keeps old now → scope_in l now ≡ scope_in l old
 same_scope l old now k = rw (k.this, k.results, k.statics, k.held) refl
@@ -41,3 +42,18 @@ stops_result met r checks.Memory s e = record { runs = tt; keeps = keeps_refl s 
 stops_result met r (checks.Broken number spot) s e = rw e (record { runs = refl; keeps = keeps_refl s })
 stops_result met r (checks.Unsupported what spot) s e = rw e (record { runs = refl; keeps = keeps_refl s })
 stops_result met r (checks.Limit kind) s e = rw e (record { runs = refl; keeps = keeps_refl s })
+
+-- one check after another
+pub ruleset chain = (reads_bind, reads_then, reads_back, reads_variables, stops_bind, stops_then, stops_later, stops_after)
+
+-- what a `?` gives back
+pub if_err : {A E : Type 0} (P : E → Type 0) (r : Result A E) (e : E) → IsErrAnd r (λ x. x ≡ e) → P e → IfErr r P
+if_err P (Err x) e q p = subst P (sym q) p
+if_err P (Ok a) e q p = tt
+
+-- a check told in other words
+pub reads_as : {A : Type 0} (met : Signatures) (m n : Check A) (old now : State) (a : A) → m ≡ n → Reads met m old a now → Reads met n old a now
+reads_as met m n old now a e r = subst (λ m. Reads met m old a now) e r
+
+pub stops_as : {A : Type 0} (met : Signatures) (m n : Check A) (old now : State) (f : ExprFault) → m ≡ n → Stops met m old f now → Stops met n old f now
+stops_as met m n old now f e r = subst (λ m. Stops met m old f now) e r

@@ -13,3 +13,4 @@ pub mod State
 pub mod Faults
 pub mod Steps
 pub mod Numbers
+pub mod Tests

@@ -5,10 +5,11 @@ ghost use Rattle.silq_tree.specs.Arena.{expr_at};
 ghost use Rattle.silq_tree.specs.Children.{scalar_exprs, AreExprsBelow};
 ghost use Rattle.silq_tree.specs.Standing.{scalar_of};
 ghost use Rattle.silq_types.specs.Known.{Signatures};
-ghost use Rattle.silq_types.specs.Types.{at as spot_at, fits as fits_in, needed_at, shape_eq, single_shape, quantum as quantum_of};
+ghost use Rattle.silq_types.specs.Types.{at as spot_at, fits as fits_in, needed_at, shape_eq, single_shape, quantum as quantum_of, scalar_type as type_of_scalar};
+ghost use Rattle.silq_types.specs.declared.values.Origin.TheVariants.{Lifted};
 ghost use Rattle.static_num.specs.Static.{is_static as static_is};
-ghost use Rattle.check_expr.specs.Context.{give_back, of_result};
-ghost use Rattle.check_expr.specs.Expression.{origin_of as origin_told, new_value as value_new, one_value as value_one, fits_rule as rule_of_fit, static_value as value_static, typed_value as value_typed, is_tuple as tuple_is, single as single_value, suits as value_suits};
+ghost use Rattle.check_expr.specs.Context.{give_back, of_result, is_known_name as name_is_known};
+ghost use Rattle.check_expr.specs.Expression.{origin_of as origin_told, new_value as value_new, one_value as value_one, typed_by as by_type, fits_rule as rule_of_fit, static_value as value_static, typed_value as value_typed, is_tuple as tuple_is, single as single_value, suits as value_suits};
 ghost use Rattle.check_expr.specs.Numbers.{magnitude_of};
 ghost use Rattle.check_expr.specs.Asks.{types_of};
 ghost use Rattle.check_expr.specs.State.{State, scope_in};
@@ -99,6 +100,16 @@ pub(crate) fn one_value(alloc: Global, cx: &mut Context, ty: Ty, origin: Origin)
     let values = alone(alloc, value)?;
     Ok(values)
 }
+
+/// The one value of a type that is computed from such values, with a new place.
+pub(crate) fn typed_by(alloc: Global, cx: &mut Context, classical: bool, shape: Shape) -> Result<ValueList, ExprFault>
+    ensures reads { (met : Signatures) → IfOk result (λ vs. Reads met (by_type classical shape) cx.old vs cx.new) }
+    ensures stops { (met : Signatures) → IfErr result (λ f. Stops met (by_type classical shape) cx.old f cx.new) }
+{
+    one_value(alloc, cx, Ty { classical, shape }, origin_of(classical))
+}
+
+// ---- numbers within types
 
 /// Whether a number is below a power of two.
 fn is_below_power(n: u64, bits: u32) -> bool
@@ -191,39 +202,76 @@ pub(crate) fn fits_rule(at: Spot, ty: Ty, z: i64) -> Result<(), ExprFault>
     obey(at, &[(!fits(ty.shape, z), rule::OUTSIDE_TYPE)])
 }
 
+/// The value of a static expression is one of its type's values.
+fn static_fits(library: &Library, e: ExprId, ty: Ty, z: i64) -> Result<(), ExprFault>
+    requires { e.number < length library.now.nodes.exprs }
+    ensures reads { (met : Signatures) (s : State) → IfOk result (λ u. Reads met (rule_of_fit (spot_at (expr_at library.now.nodes e)) ty z) s u s) }
+    ensures stops { (met : Signatures) (s : State) → IfErr result (λ f. Stops met (rule_of_fit (spot_at (expr_at library.now.nodes e)) ty z) s f s) }
+{
+    fits_rule(spot_of(library, e), ty, z)
+}
+
+/// A static expression takes this type.
+fn static_typed(library: &Library, cx: &mut Context, e: ExprId, ty: Ty) -> Result<ValueList, ExprFault>
+    requires { e.number < length library.now.nodes.exprs }
+    ensures reads { (met : Signatures) → IfOk result (λ vs. Reads met (value_static (scope_in library.now cx.old) (expr_at library.now.nodes e) (ty ∷ [])) cx.old vs cx.new) }
+    ensures stops { (met : Signatures) → IfErr result (λ f. Stops met (value_static (scope_in library.now cx.old) (expr_at library.now.nodes e) (ty ∷ [])) cx.old f cx.new) }
+{
+    let z = static_number(library, cx, e)?;
+    static_fits(library, e, ty, z)?;
+    let values = typed_by(library.alloc(), cx, ty.classical, ty.shape)?;
+    Ok(values)
+}
+
 /// A static expression takes the one type that is asked where it stands.
-#[tactic(auto, using(crate::proofs::Sequence::reads_bind, crate::proofs::Sequence::reads_then, crate::proofs::Sequence::stops_bind, crate::proofs::Sequence::stops_then, crate::proofs::Sequence::stops_later, crate::proofs::Sequence::stops_after))]
 pub(crate) fn static_value(library: &Library, cx: &mut Context, e: ExprId, wants: &[Ty]) -> Result<ValueList, ExprFault>
     requires { e.number < length library.now.nodes.exprs }
     ensures reads { (met : Signatures) → IfOk result (λ vs. Reads met (value_static (scope_in library.now cx.old) (expr_at library.now.nodes e) wants.now) cx.old vs cx.new) }
     ensures stops { (met : Signatures) → IfErr result (λ f. Stops met (value_static (scope_in library.now cx.old) (expr_at library.now.nodes e) wants.now) cx.old f cx.new) }
 {
-    let at = spot_of(library, e);
     match wants {
-        [ty] => {
-            let z = static_number(library, cx, e)?;
-            fits_rule(at, *ty, z)?;
-            let values = one_value(library.alloc(), cx, *ty, origin_of(ty.classical))?;
-            Ok(values)
-        }
-        _ => Err(broken(rule::OUTSIDE_TYPE, at)),
+        [ty] => static_typed(library, cx, e, *ty),
+        _ => Err(broken(rule::OUTSIDE_TYPE, spot_of(library, e))),
     }
 }
 
+/// The type of a number at this place.
+fn number_type(library: &Library, cx: &Context, ty: ScalarNode, at: Spot) -> Result<Scalar, ExprFault>
+    requires { AreExprsBelow (length library.now.nodes.exprs) (scalar_exprs ty) }
+    ensures reads { (met : Signatures) → IfOk result (λ k. Reads met (of_result (type_of_scalar cx.now.statics (name_is_known (scope_in library.now cx.now) cx.now.vars) (scalar_of (expr_at library.now.nodes) ty) at)) cx.now k cx.now) }
+    ensures stops { (met : Signatures) → IfErr result (λ f. Stops met (of_result (type_of_scalar cx.now.statics (name_is_known (scope_in library.now cx.now) cx.now.vars) (scalar_of (expr_at library.now.nodes) ty) at)) cx.now f cx.now) }
+{
+    match scalar_type(library, cx, ty, at) {
+        Ok(scalar) => Ok(scalar),
+        Err(fault) => Err(ExprFault::Fault(fault)),
+    }
+}
+
+/// A number with a type is one of the type's values.
+fn number_fits(at: Spot, scalar: Scalar, number: i64) -> Result<(), ExprFault>
+    ensures reads { (met : Signatures) (s : State) → IfOk result (λ u. Reads met (rule_of_fit at (quantum_of (single_shape scalar)) number) s u s) }
+    ensures stops { (met : Signatures) (s : State) → IfErr result (λ f. Stops met (rule_of_fit at (quantum_of (single_shape scalar)) number) s f s) }
+{
+    fits_rule(at, single_type(scalar), number)
+}
+
+/// A number with a type, as a value with a new place.
+fn number_value(cx: &mut Context, scalar: Scalar) -> Result<Value, ExprFault>
+    ensures reads { (met : Signatures) → IfOk result (λ v. Reads met (value_new (quantum_of (single_shape scalar)) Lifted) cx.old v cx.new) }
+    ensures stops { (met : Signatures) → IfErr result (λ f. Stops met (value_new (quantum_of (single_shape scalar)) Lifted) cx.old f cx.new) }
+{
+    new_value(cx, single_type(scalar), Origin::Lifted)
+}
+
 /// The value of a number with a type: the names of the width come before its size, and the size before the number.
-#[tactic(auto, using(crate::proofs::Sequence::reads_bind, crate::proofs::Sequence::reads_then, crate::proofs::Sequence::reads_variables, crate::proofs::Sequence::stops_bind, crate::proofs::Sequence::stops_then, crate::proofs::Sequence::stops_later, crate::proofs::Sequence::stops_after, crate::proofs::Scopes::reads_result, crate::proofs::Scopes::stops_result))]
 pub(crate) fn typed_value(library: &Library, cx: &mut Context, number: i64, ty: ScalarNode, at: Spot) -> Result<Value, ExprFault>
     requires { AreExprsBelow (length library.now.nodes.exprs) (scalar_exprs ty) }
     ensures reads { (met : Signatures) → IfOk result (λ v. Reads met (value_typed (scope_in library.now cx.old) number (scalar_of (expr_at library.now.nodes) ty) at) cx.old v cx.new) }
     ensures stops { (met : Signatures) → IfErr result (λ f. Stops met (value_typed (scope_in library.now cx.old) number (scalar_of (expr_at library.now.nodes) ty) at) cx.old f cx.new) }
 {
-    let scalar = match scalar_type(library, cx, ty, at) {
-        Ok(scalar) => scalar,
-        Err(fault) => return Err(ExprFault::Fault(fault)),
-    };
-    let ty = single_type(scalar);
-    fits_rule(at, ty, number)?;
-    let value = new_value(cx, ty, Origin::Lifted)?;
+    let scalar = number_type(library, cx, ty, at)?;
+    number_fits(at, scalar, number)?;
+    let value = number_value(cx, scalar)?;
     Ok(value)
 }
 
