@@ -1,5 +1,6 @@
 -- A step leaves the scope as it is; and where a check answers, breaks a rule, or has no memory at once.
 use Rattle.std.specs.Prelude.{List, [], ◌∷◌, IfErr, ◌≡◌, refl, ℕ, Bool, true, false, Option, Some, None, Result, Ok, Err, IfSome}
+use Rattle.std.proofs.Common.{get_or, length, ◌<◌, ◌≤◌, arith}
 use Rattle.std.specs.Result.{IsErrAnd}
 use mathlib.Core.Path.{sym, ap, ◌∙◌, subst}
 use Rattle.silq_tree.specs.declared.node.Spot.{Spot}
@@ -57,3 +58,9 @@ reads_as met m n old now a e r = subst (λ m. Reads met m old a now) e r
 
 pub stops_as : {A : Type 0} (met : Signatures) (m n : Check A) (old now : State) (f : ExprFault) → m ≡ n → Stops met m old f now → Stops met n old f now
 stops_as met m n old now f e r = subst (λ m. Stops met m old f now) e r
+
+-- a list of one
+pub only_one : {A : Type 0} (P : List A → Type 0) (xs : List A) (d : A) → 1 ≤ length xs → length xs < 2 → P (get_or xs 0 d ∷ []) → P xs
+only_one P [] d l m p = absurd (omega arith)
+only_one P (x ∷ []) d l m p = p
+only_one P (x ∷ y ∷ ys) d l m p = absurd (omega arith)

@@ -289,7 +289,7 @@ pub(crate) fn is_tuple(library: &Library, e: ExprId) -> bool
 }
 
 /// One value, where just one may stand.
-pub(crate) fn single(library: &Library, e: ExprId, values: &[Value]) -> Result<Value, ExprFault>
+pub(crate) fn single(library: &Library, e: ExprId, values: &ValueList) -> Result<Value, ExprFault>
     requires { e.number < length library.now.nodes.exprs }
     ensures reads { (met : Signatures) (s : State) → IfOk result (λ v. Reads met (single_value (expr_at library.now.nodes e) values.now) s v s) }
     ensures stops { (met : Signatures) (s : State) → IfErr result (λ f. Stops met (single_value (expr_at library.now.nodes e) values.now) s f s) }
@@ -297,7 +297,7 @@ pub(crate) fn single(library: &Library, e: ExprId, values: &[Value]) -> Result<V
     if is_tuple(library, e) {
         return Err(broken(rule::WRONG_TYPE, spot_of(library, e)));
     }
-    match values {
+    match values.as_slice() {
         [value] => Ok(*value),
         _ => Err(broken(rule::RESULT_COUNT, spot_of(library, e))),
     }
