@@ -7,3 +7,4 @@ pub mod Called
 pub mod Obeyed
 pub mod Overlapping
 pub mod Named
+pub mod Scopes

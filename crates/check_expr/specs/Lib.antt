@@ -14,3 +14,5 @@ pub mod State
 pub mod Faults
 pub mod Steps
 pub mod Calls
+pub mod Numbers
+pub mod Tests

@@ -6,13 +6,13 @@ ghost use Rattle.silq_tree.specs.Children.{AreExprsBelow};
 ghost use Rattle.silq_tree.specs.Standing.{expressions_of};
 ghost use Rattle.silq_types.specs.Known.{Signatures};
 ghost use Rattle.silq_types.specs.Rules.{wrong_type, bad_size};
-ghost use Rattle.silq_types.specs.Types.{is_bit as is_bit_shape, is_linear as is_linear_origin, is_count as is_count_up_to, most_items, count, at as spot_of_expression};
+ghost use Rattle.silq_types.specs.Types.{is_bit as is_bit_shape, is_linear as is_linear_origin, is_count as is_count_up_to, most_items, count};
 ghost use Rattle.static_num.specs.Static.{is_static as is_static_expression};
 ghost use Rattle.check_expr.specs.declared.need.Need.TheVariants as needs;
 ghost use Rattle.check_expr.specs.declared.fault.CheckFault.TheVariants as checks;
 ghost use Rattle.check_expr.specs.declared.fault.ExprFault.TheVariants as stops;
 ghost use Rattle.check_expr.specs.Asks.{asked_as};
-ghost use Rattle.check_expr.specs.Expression.{call_built_in as call_of_built_in, call_gate as call_of_gate, built_in_rules as rules_of_built_in, gate_values as values_of_gate, gate_value as value_of_gate, flip_value as value_flipped, gate_origin as origin_of_gate, flipped_origin, many as many_values, repeated as shape_repeated, vector_value as value_of_vector, length_value as value_of_length, is_typed as is_typed_number, all_typed as are_typed_numbers, may_hold as mark_may_hold, unnamed_rule as rule_of_unnamed, new_value as value_new, one_value as value_one, asked_by_built_in, arguments as arguments_of, later_arguments};
+ghost use Rattle.check_expr.specs.Expression.{call_built_in as call_of_built_in, call_gate as call_of_gate, built_in_rules as rules_of_built_in, gate_values as values_of_gate, gate_value as value_of_gate, flip_value as value_flipped, gate_origin as origin_of_gate, flipped_origin, many as many_values, repeated as shape_repeated, vector_value as value_of_vector, length_value as value_of_length, is_typed as is_typed_number, all_typed as are_typed_numbers, may_hold as mark_may_hold, unnamed_rule as rule_of_unnamed, asked_by_built_in, arguments as arguments_of, later_arguments};
 ghost use Rattle.check_expr.specs.State.{State, scope_in};
 ghost use Rattle.check_expr.specs.Calls.{items, walk_of, later_of};
 ghost use Rattle.check_expr.specs.Context.{rules, give_back};
@@ -27,6 +27,7 @@ use crate::need::Need;
 use crate::obey::obey;
 use crate::places::known_names;
 use crate::rule;
+use crate::values::{alone, broken, is_static, one_value, spot_of};
 use crate::words::BuiltIn;
 use silq_io::What;
 use silq_tree::{Expr, ExprId, Mark, Spot, Tree};
@@ -34,51 +35,11 @@ use silq_types::{Known, Origin, Scalar, Shape, Ty, Value};
 use static_num::{StaticFault, eval};
 use std::alloc::Global;
 
-/// The fault of a rule that is broken at a place.
-pub(crate) fn broken(rule: u8, at: Spot) -> ExprFault
-    ensures { result ≡ stops.Fault (checks.Broken rule at) }
-{
-    ExprFault::Fault(CheckFault::Broken { rule, at })
-}
-
 /// The fault of something that is not supported.
 fn unsupported(what: What, at: Spot) -> ExprFault
     ensures { result ≡ stops.Fault (checks.Unsupported what at) }
 {
     ExprFault::Fault(CheckFault::Unsupported { what, at })
-}
-
-/// The list of one value.
-pub(crate) fn alone(alloc: Global, value: Value) -> Result<ValueList, ExprFault>
-    ensures reads { (met : Signatures) (s : State) → IfOk result (λ vs. Reads met (give_back (value ∷ [])) s vs s) }
-    ensures stops { (met : Signatures) (s : State) → IfErr result (λ f. Stops met (give_back (value ∷ [])) s f s) }
-{
-    let mut values = ValueList::new(alloc);
-    values.push(value)?;
-    Ok(values)
-}
-
-/// A value with a new place.
-pub(crate) fn new_value(cx: &mut Context, ty: Ty, origin: Origin) -> Result<Value, ExprFault>
-    ensures reads { (met : Signatures) → IfOk result (λ v. Reads met (value_new ty origin) cx.old v cx.new) }
-    ensures stops { (met : Signatures) → IfErr result (λ f. Stops met (value_new ty origin) cx.old f cx.new) }
-{
-    let place = cx.fresh()?;
-    Ok(Value { ty, origin, place })
-}
-
-/// The list of one value with a new place.
-pub(crate) fn one_value(
-    alloc: Global,
-    cx: &mut Context,
-    ty: Ty,
-    origin: Origin,
-) -> Result<ValueList, ExprFault>
-    ensures reads { (met : Signatures) → IfOk result (λ vs. Reads met (value_one ty origin) cx.old vs cx.new) }
-    ensures stops { (met : Signatures) → IfErr result (λ f. Stops met (value_one ty origin) cx.old f cx.new) }
-{
-    let value = new_value(cx, ty, origin)?;
-    alone(alloc, value)
 }
 
 /// A Linear value without a name may not stand in a held use.
@@ -284,34 +245,6 @@ fn built_in_rules(
             (!(args.len() == arity), rule::WRONG_TYPE),
         ],
     )
-}
-
-/// Whether an expression is static.
-fn is_static(library: &Library, cx: &Context, e: ExprId) -> bool
-    requires { e.number < length library.now.nodes.exprs }
-    ensures { result ≡ is_static_expression cx.now.statics (expr_at library.now.nodes e) }
-{
-    !matches!(
-        eval(library.tree(), e, cx.statics()),
-        Err(StaticFault::NotStatic)
-    )
-}
-
-/// The place of an expression's first token.
-pub(crate) fn spot_of(library: &Library, e: ExprId) -> Spot
-    requires { e.number < length library.now.nodes.exprs }
-    ensures { result ≡ spot_of_expression (expr_at library.now.nodes e) }
-{
-    match library.tree().expr(e) {
-        Expr::Number { at, .. } => *at,
-        Expr::Truth { at, .. } => *at,
-        Expr::Pi { at } => *at,
-        Expr::Place { at, .. } => *at,
-        Expr::Call { at, .. } => *at,
-        Expr::Tuple { at, .. } => *at,
-        Expr::Unary { at, .. } => *at,
-        Expr::Binary { at, .. } => *at,
-    }
 }
 
 /// The length where it is static; any other is told after the value is walked.

@@ -10,7 +10,7 @@ ghost use Rattle.check_expr.specs.State.{scope_in};
 ghost use Rattle.check_expr.specs.Steps.{Reads, Stops};
 ghost use Rattle.check_expr.specs.Uses.{built_in, find_fun};
 
-use crate::built_in::{broken, call_built_in};
+use crate::built_in::call_built_in;
 use crate::context::Context;
 use crate::expr::ValueList;
 use crate::fault::ExprFault;
@@ -18,6 +18,7 @@ use crate::library::Library;
 use crate::need::Need;
 use crate::own::call_own;
 use crate::rule;
+use crate::values::broken;
 use silq_tree::{ExprId, NameId, Spot};
 use silq_types::Known;
 

@@ -17,10 +17,12 @@ pub mod library;
 pub mod need;
 mod obey;
 mod own;
+mod operators;
 pub mod places;
 pub mod rule;
 mod signatures;
 pub mod uses;
+mod values;
 pub mod words;
 
 pub use context::{Context, PartList};

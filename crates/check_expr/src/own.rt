@@ -16,7 +16,7 @@ ghost use Rattle.check_expr.specs.Steps.{Reads, Stops};
 ghost use Rattle.check_expr.specs.Uses.{argument_uses, param_need, some_pair, both_consume, consume_and_hold};
 
 use crate::asked::Ask;
-use crate::built_in::{is_linear, mark_of, new_value, spot_of, unnamed_rule};
+use crate::built_in::{is_linear, mark_of, unnamed_rule};
 use crate::context::Context;
 use crate::expr::{ValueList, arguments};
 use crate::fault::ExprFault;
@@ -27,6 +27,7 @@ use crate::obey::obey;
 use crate::places::needed;
 use crate::rule;
 use crate::signatures::signature;
+use crate::values::{new_value, spot_of};
 use crate::uses::{UseList, argument_parts, consume_held, consume_twice, needs_of_own};
 use silq_tree::{ExprId, FunId, Mark, NameId, Spot};
 use silq_types::{InstanceKey, Known, List, Origin, Param, Returned, StaticList, Ty, Value};
