@@ -38,25 +38,6 @@ use Rattle.check_expr.proofs.Sequence.{keeps_refl, keeps_both, reads_back, reads
 pub stops_memory : {A : Type 0} (met : Signatures) (m : Check A) (old now : State) → Keeps old now → Stops met m old (stops.Fault checks.Memory) now
 stops_memory met m old now k = record { runs = tt; keeps = k }
 
-pub stops_broken : {A : Type 0} (met : Signatures) (number : ℕ) (at : Spot) (s : State) → Stops met (fail {A = A} (rule number at)) s (stops.Fault (checks.Broken number at)) s
-stops_broken met number at s = record { runs = refl; keeps = keeps_refl s }
-
-pub stops_unsupported : {A : Type 0} (met : Signatures) (what : What) (at : Spot) (s : State) → Stops met (fail {A = A} (unsupported what at)) s (stops.Fault (checks.Unsupported what at)) s
-stops_unsupported met what at s = record { runs = refl; keeps = keeps_refl s }
-
--- the fault of a step is the code's fault
-pub left : {A E : Type 0} (Q : E → Type 0) (r : Result A E) (e : E) → IsErrAnd r (λ y. y ≡ e) → Q e → IfErr r Q
-left Q (Ok a) e h q = tt
-left Q (Err y) e h q = subst Q (sym h) q
-
--- an answer that the code has by another name
-pub reads_as : {A : Type 0} (met : Signatures) (b : A) (s : State) (a : A) → a ≡ b → Reads met (give_back b) s a s
-reads_as met b s a e = subst (λ x. Reads met (give_back b) s x s) (sym e) (reads_back met b s)
-
--- want of memory stops every check
-pub stops_memory_as : {A : Type 0} (met : Signatures) (m : Check A) (old now : State) → Keeps old now → (f : ExprFault) → f ≡ stops.Fault checks.Memory → Stops met m old f now
-stops_memory_as met m old now k f e = subst (λ x. Stops met m old x now) (sym e) (stops_memory met m old now k)
-
 -- ---- gates
 
 pub flips : (b : BuiltIn) (at : Spot) (need : Need) (v : Value) → (b ≡ Dup → ⊥) → (b ≡ Measure → ⊥) → gate_value b at need v ≡ flip_value b at need v
@@ -199,14 +180,3 @@ pub paired_right : (xs : List NameId) (vs : List ℤ) → length vs ≡ 0 → pa
 paired_right [] [] e = refl
 paired_right (x ∷ xs) [] e = refl
 paired_right xs (v ∷ vs) e = absurd (omega arith)
-
-pub reads_result : {A : Type 0} (met : Signatures) (r : Result A Fault) (a : A) (s : State) → r ≡ Ok a → Reads met (of_result r) s a s
-reads_result met r a s e = subst (λ x. Reads met (of_result x) s a s) (sym e) (record { runs = refl; keeps = keeps_refl s })
-
-pub stops_result : {A : Type 0} (met : Signatures) (r : Result A Fault) (f : CheckFault) (s : State) → IsFirst f r → Stops met (of_result r) s (stops.Fault f) s
-stops_result met r checks.Memory s e = record { runs = tt; keeps = keeps_refl s }
-stops_result met r (checks.Broken number spot) s e = rw e (record { runs = refl; keeps = keeps_refl s })
-stops_result met r (checks.Unsupported what spot) s e = rw e (record { runs = refl; keeps = keeps_refl s })
-stops_result met r (checks.Limit kind) s e = rw e (record { runs = refl; keeps = keeps_refl s })
-
-pub ruleset steps = (keeps_refl, reads_back, reads_pass, reads_variables, reads_bind, reads_then, stops_bind, stops_then, stops_later, stops_after, stops_memory, stops_broken, stops_unsupported)

@@ -27,12 +27,11 @@ use crate::need::Need;
 use crate::obey::obey;
 use crate::places::known_names;
 use crate::rule;
-use crate::values::{alone, broken, is_static, one_value, spot_of};
+use crate::values::{alone, broken, is_static, one_value, static_number};
 use crate::words::BuiltIn;
 use silq_io::What;
 use silq_tree::{Expr, ExprId, Mark, Spot, Tree};
 use silq_types::{Known, Origin, Scalar, Shape, Ty, Value};
-use static_num::{StaticFault, eval};
 use std::alloc::Global;
 
 /// The fault of something that is not supported.
@@ -253,13 +252,10 @@ fn length_value(library: &Library, cx: &Context, e: ExprId) -> Result<i64, ExprF
     ensures reads { (met : Signatures) → IfOk result (λ z. Reads met (value_of_length (scope_in library.now cx.now) (expr_at library.now.nodes e)) cx.now z cx.now) }
     ensures stops { (met : Signatures) → IfErr result (λ f. Stops met (value_of_length (scope_in library.now cx.now) (expr_at library.now.nodes e)) cx.now f cx.now) }
 {
-    match eval(library.tree(), e, cx.statics()) {
-        Ok(value) => Ok(value),
-        Err(StaticFault::NotStatic) => Ok(0),
-        Err(_) => {
-            let at = spot_of(library, e);
-            Err(broken(rule::NOT_STATIC, at))
-        }
+    if is_static(library, cx, e) {
+        static_number(library, cx, e)
+    } else {
+        Ok(0)
     }
 }
 

@@ -1,10 +1,11 @@
 use Rattle.std.proofs.lemmas.Result.{IfOk-weaker, IfErr-weaker}
-use Rattle.check_expr.proofs.Called.{left, gates}
+use Rattle.check_expr.proofs.Called.{gates}
+use Rattle.check_expr.proofs.Scopes.{if_err}
 use Rattle.check_expr.proofs.Sequence.{reads_then, stops_then, stops_after}
 use Rattle.check_expr.proofs.built_in.call_built_in.Goals as goal
 
 pub returns-in_err-built_in_rules-in-Vector-clause-stops : goal.returns-in_err-built_in_rules-in-Vector-clause-stops
-returns-in_err-built_in_rules-in-Vector-clause-stops c = rw c.in-Vector.is (left _ _ _ c.from_residual.ensures.1
+returns-in_err-built_in_rules-in-Vector-clause-stops c = rw c.in-Vector.is (if_err _ _ _ c.from_residual.ensures.1
     (stops_then c.args.known.now _ _ _ _ _ (rw c.in-Vector.is at (c.in_err-built_in_rules-in-Vector.ensures.stops c.args.known.now))))
 
 pub returns-in_ok-built_in_rules-in-Vector-clause-reads : goal.returns-in_ok-built_in_rules-in-Vector-clause-reads

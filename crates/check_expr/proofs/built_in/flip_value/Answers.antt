@@ -1,5 +1,5 @@
 use Rattle.std.proofs.lemmas.Result.{IfOk-weaker, IfErr-weaker}
-use Rattle.check_expr.proofs.Called.{left}
+use Rattle.check_expr.proofs.Scopes.{if_err}
 use Rattle.check_expr.proofs.Sequence.{reads_then, stops_then, stops_after}
 use Rattle.check_expr.proofs.built_in.flip_value.Goals as goal
 
@@ -16,8 +16,8 @@ returns-clause-stops c = λ met s. IfErr-weaker c.alone.result _ _
     (c.alone.ensures.stops met s)
 
 pub returns-in_err-bit_rule-clause-stops : goal.returns-in_err-bit_rule-clause-stops
-returns-in_err-bit_rule-clause-stops c = λ met s. left _ _ _ c.from_residual.ensures.1 (stops_then met _ _ _ _ _ (c.in_err-bit_rule.ensures.stops met s))
+returns-in_err-bit_rule-clause-stops c = λ met s. if_err _ _ _ c.from_residual.ensures.1 (stops_then met _ _ _ _ _ (c.in_err-bit_rule.ensures.stops met s))
 
 pub returns-in_err-unnamed_rule-clause-stops : goal.returns-in_err-unnamed_rule-clause-stops
-returns-in_err-unnamed_rule-clause-stops c = λ met s. left _ _ _ c.from_residual-in_err-unnamed_rule.ensures.1
+returns-in_err-unnamed_rule-clause-stops c = λ met s. if_err _ _ _ c.from_residual-in_err-unnamed_rule.ensures.1
     (stops_after met _ _ _ _ _ _ _ (c.in_ok-bit_rule.ensures.reads met s) (stops_then met _ _ _ _ _ (rw (c.is_linear.ensures, c.gate_origin-origin.ensures) at (c.in_err-unnamed_rule.ensures.stops met s))))

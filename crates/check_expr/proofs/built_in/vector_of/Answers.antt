@@ -3,26 +3,26 @@ use mir.Syntax.{w64}
 use Rattle.std.proofs.Common.{rules}
 use Rattle.std.proofs.lemmas.Int.{to_z-of_z}
 use Rattle.std.proofs.lemmas.Result.{IfOk-weaker, IfErr-weaker}
-use Rattle.check_expr.proofs.Called.{left}
+use Rattle.check_expr.proofs.Scopes.{if_err}
 use Rattle.check_expr.proofs.Sequence.{reads_bind, reads_then, stops_bind, stops_then, stops_later, stops_after}
 use Rattle.check_expr.proofs.built_in.vector_of.Goals as goal
 
 pub returns-in_err-known_names-clause-stops : goal.returns-in_err-known_names-clause-stops
-returns-in_err-known_names-clause-stops c = left _ _ _ c.from_residual.ensures.1 (stops_then c.args.known.now _ _ _ _ _ (c.in_err-known_names.ensures.stops c.args.known.now))
+returns-in_err-known_names-clause-stops c = if_err _ _ _ c.from_residual.ensures.1 (stops_then c.args.known.now _ _ _ _ _ (c.in_err-known_names.ensures.stops c.args.known.now))
 
 pub returns-in_err-count-clause-stops : goal.returns-in_err-count-clause-stops
-returns-in_err-count-clause-stops c = left _ _ _ c.from_residual-in_err-count.ensures.1
+returns-in_err-count-clause-stops c = if_err _ _ _ c.from_residual-in_err-count.ensures.1
     (stops_after c.args.known.now _ _ _ _ _ _ _ (c.in_ok-known_names.ensures.reads c.args.known.now)
     (stops_bind c.args.known.now _ _ _ _ _ (c.in_err-count.ensures.stops c.args.known.now)))
 
 pub returns-in_err-values-clause-stops : goal.returns-in_err-values-clause-stops
-returns-in_err-values-clause-stops c = left _ _ _ c.from_residual-in_err-values.ensures.1
+returns-in_err-values-clause-stops c = if_err _ _ _ c.from_residual-in_err-values.ensures.1
     (stops_after c.args.known.now _ _ _ _ _ _ _ (c.in_ok-known_names.ensures.reads c.args.known.now)
     (stops_later c.args.known.now _ _ _ _ _ _ _ (c.in_ok-count.ensures.reads c.args.known.now)
     (stops_bind c.args.known.now _ _ _ _ _ c.in_err-values.ensures.stops)))
 
 pub returns-in_err-count-2-clause-stops : goal.returns-in_err-count-2-clause-stops
-returns-in_err-count-2-clause-stops c = left _ _ _ c.from_residual-in_err-count-2.ensures.1
+returns-in_err-count-2-clause-stops c = if_err _ _ _ c.from_residual-in_err-count-2.ensures.1
     (stops_after c.args.known.now _ _ _ _ _ _ _ (c.in_ok-known_names.ensures.reads c.args.known.now)
     (stops_later c.args.known.now _ _ _ _ _ _ _ (c.in_ok-count.ensures.reads c.args.known.now)
     (stops_later c.args.known.now _ _ _ _ _ _ _ c.in_ok-values.ensures.reads

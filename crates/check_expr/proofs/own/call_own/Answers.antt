@@ -1,25 +1,25 @@
 use Rattle.std.proofs.lemmas.Result.{IfOk-weaker, IfErr-weaker}
-use Rattle.check_expr.proofs.Called.{left}
+use Rattle.check_expr.proofs.Scopes.{if_err}
 use Rattle.check_expr.proofs.Sequence.{reads_bind, reads_then, reads_variables, stops_bind, stops_then, stops_later, stops_after}
 use Rattle.check_expr.proofs.own.call_own.Goals as goal
 
 pub returns-in_err-mark_rules-clause-stops : goal.returns-in_err-mark_rules-clause-stops
-returns-in_err-mark_rules-clause-stops c = left _ _ _ c.from_residual.ensures.1
+returns-in_err-mark_rules-clause-stops c = if_err _ _ _ c.from_residual.ensures.1
     (stops_then c.args.known.now _ _ _ _ _ (c.in_err-mark_rules.ensures.stops c.args.known.now))
 
 pub returns-in_err-numbers-clause-stops : goal.returns-in_err-numbers-clause-stops
-returns-in_err-numbers-clause-stops c = left _ _ _ c.from_residual-in_err-numbers.ensures.1
+returns-in_err-numbers-clause-stops c = if_err _ _ _ c.from_residual-in_err-numbers.ensures.1
     (stops_after c.args.known.now _ _ _ _ _ _ _ (c.in_ok-mark_rules.ensures.reads c.args.known.now)
     (stops_bind c.args.known.now _ _ _ _ _ (c.in_err-numbers.ensures.stops c.args.known.now)))
 
 pub returns-in_err-header-clause-stops : goal.returns-in_err-header-clause-stops
-returns-in_err-header-clause-stops c = left _ _ _ c.from_residual-in_err-header.ensures.1
+returns-in_err-header-clause-stops c = if_err _ _ _ c.from_residual-in_err-header.ensures.1
     (stops_after c.args.known.now _ _ _ _ _ _ _ (c.in_ok-mark_rules.ensures.reads c.args.known.now)
     (stops_later c.args.known.now _ _ _ _ _ _ _ (c.in_ok-numbers.ensures.reads c.args.known.now)
     (stops_bind c.args.known.now _ _ _ _ _ (rw c.as_slice.ensures at (c.in_err-header.ensures.stops c.args.known.now c.args.cx.now)))))
 
 pub returns-in_err-argument_rules-clause-stops : goal.returns-in_err-argument_rules-clause-stops
-returns-in_err-argument_rules-clause-stops c = left _ _ _ c.from_residual-in_err-argument_rules.ensures.1
+returns-in_err-argument_rules-clause-stops c = if_err _ _ _ c.from_residual-in_err-argument_rules.ensures.1
     (stops_after c.args.known.now _ _ _ _ _ _ _ (c.in_ok-mark_rules.ensures.reads c.args.known.now)
     (stops_later c.args.known.now _ _ _ _ _ _ _ (c.in_ok-numbers.ensures.reads c.args.known.now)
     (stops_later c.args.known.now _ _ _ _ _ _ _ (rw c.as_slice.ensures at (c.in_ok-header.ensures.reads c.args.known.now c.args.cx.now))
@@ -27,7 +27,7 @@ returns-in_err-argument_rules-clause-stops c = left _ _ _ c.from_residual-in_err
     (stops_then c.args.known.now _ _ _ _ _ (c.in_err-argument_rules.ensures.stops c.args.known.now))))))
 
 pub returns-in_err-values-clause-stops : goal.returns-in_err-values-clause-stops
-returns-in_err-values-clause-stops c = left _ _ _ c.from_residual-in_err-values.ensures.1
+returns-in_err-values-clause-stops c = if_err _ _ _ c.from_residual-in_err-values.ensures.1
     (stops_after c.args.known.now _ _ _ _ _ _ _ (c.in_ok-mark_rules.ensures.reads c.args.known.now)
     (stops_later c.args.known.now _ _ _ _ _ _ _ (c.in_ok-numbers.ensures.reads c.args.known.now)
     (stops_later c.args.known.now _ _ _ _ _ _ _ (rw c.as_slice.ensures at (c.in_ok-header.ensures.reads c.args.known.now c.args.cx.now))
@@ -36,7 +36,7 @@ returns-in_err-values-clause-stops c = left _ _ _ c.from_residual-in_err-values.
     (stops_bind c.args.known.now _ _ _ _ _ (rw (c.as_slice-3.ensures, c.in_ok-asks.ensures, c.as_slice-2.ensures) at c.in_err-values.ensures.stops)))))))
 
 pub returns-in_err-signed-clause-stops : goal.returns-in_err-signed-clause-stops
-returns-in_err-signed-clause-stops c = left _ _ _ c.from_residual-in_err-signed.ensures.1
+returns-in_err-signed-clause-stops c = if_err _ _ _ c.from_residual-in_err-signed.ensures.1
     (stops_after c.args.known.now _ _ _ _ _ _ _ (c.in_ok-mark_rules.ensures.reads c.args.known.now)
     (stops_later c.args.known.now _ _ _ _ _ _ _ (c.in_ok-numbers.ensures.reads c.args.known.now)
     (stops_later c.args.known.now _ _ _ _ _ _ _ (rw c.as_slice.ensures at (c.in_ok-header.ensures.reads c.args.known.now c.args.cx.now))

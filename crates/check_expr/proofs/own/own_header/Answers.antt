@@ -1,4 +1,4 @@
-use Rattle.check_expr.proofs.Called.{reads_result, stops_result}
+use Rattle.check_expr.proofs.Scopes.{reads_result, stops_result}
 use Rattle.check_expr.proofs.own.own_header.Goals as goal
 
 pub returns-in-Ok-clause-reads : goal.returns-in-Ok-clause-reads
