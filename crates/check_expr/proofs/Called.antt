@@ -1,5 +1,5 @@
 -- Steps of calls, as the code takes them.
-use Rattle.std.proofs.Common.{◌≡◌, refl, ℕ, ◌+◌, max, Bool, true, false, List, [], ◌∷◌, Option, Some, None, Result, Ok, Err, IfSome, IfErr, IsErrAnd, sym, ◌∙◌, ap, subst, length, ℤ, get_or, drop, ◌++◌, ◌<◌, ◌≤◌, zero, suc, append_assoc, arith}
+use Rattle.std.proofs.Common.{◌≡◌, refl, ℕ, ◌+◌, Bool, true, List, [], ◌∷◌, sym, subst, length, ℤ, get_or, drop, ◌++◌, ◌<◌, ◌≤◌, zero, suc, append_assoc, arith}
 use Rattle.std.proofs.lemmas.List.{append-nil, drop_more}
 use Rattle.silq_tree.specs.Arena.{expr_at}
 use Rattle.silq_tree.proofs.Lists.{expressions_of-drop, expressions_of-end}
@@ -12,28 +12,20 @@ use Rattle.silq_tree.specs.declared.node.Spot.{Spot}
 use Rattle.silq_tree.specs.declared.node.ExprId.{ExprId}
 use Rattle.silq_tree.specs.Syntax.{Expression, Expressions, more}
 use Rattle.silq_tree.specs.Standing.{expressions_of}
-use Rattle.silq_io.specs.declared.limit.LimitKind.{LimitKind}
-use Rattle.silq_io.specs.declared.fault.What.{What}
-use Rattle.silq_types.specs.Rules.{Fault, rule, unsupported}
 use Rattle.silq_types.specs.Types.{count, at}
 use Rattle.silq_types.specs.Known.{Signatures}
-use Rattle.silq_types.specs.declared.signature.InstanceKey.{InstanceKey}
-use Rattle.silq_types.specs.declared.signature.Signature.{Signature}
-use Rattle.check_expr.specs.Walk.{Met, known, limited, new, meet, known_or_stop}
-use Rattle.check_expr.specs.Context.{Scope, Check, ◌>>=◌, ◌>>◌, give_back, fail, of_result, needed, signature}
+use Rattle.check_expr.specs.Context.{Scope, Check, ◌>>=◌, ◌>>◌, give_back, needed}
 use Rattle.check_expr.specs.Expression.{Arguments, all_lifted, paired, static_arguments, natural, result_values, placed, argument_at, result_origin, gate_value, flip_value, call_gate, call_built_in}
 use Rattle.check_expr.specs.declared.words.BuiltIn.{BuiltIn}
 use Rattle.check_expr.specs.declared.words.BuiltIn.TheVariants.{HGate, XGate, YGate, ZGate, Dup, Measure, Vector, RotateX, RotateY, RotateZ}
 use Rattle.check_expr.specs.declared.need.Need.{Need}
 use Rattle.silq_types.specs.declared.values.Value.{Value}
-use Rattle.check_expr.specs.State.{State, Keeps, context_of, scope_in}
-use Rattle.check_expr.specs.Steps.{Reads, Stops, IsFirst}
-use Rattle.check_expr.specs.Faults.{fault_as}
-use Rattle.check_expr.specs.declared.fault.CheckFault.{CheckFault}
+use Rattle.check_expr.specs.State.{State, Keeps, scope_in}
+use Rattle.check_expr.specs.Steps.{Reads, Stops}
 use Rattle.check_expr.specs.declared.fault.CheckFault.TheVariants as checks
 use Rattle.check_expr.specs.declared.fault.ExprFault.{ExprFault}
 use Rattle.check_expr.specs.declared.fault.ExprFault.TheVariants as stops
-use Rattle.check_expr.proofs.Sequence.{keeps_refl, keeps_both, reads_back, reads_pass, reads_variables, reads_bind, reads_then, stops_bind, stops_then, stops_later, stops_after}
+use Rattle.check_expr.proofs.Sequence.{keeps_refl, keeps_both, reads_back, reads_bind, reads_then, stops_bind, stops_then, stops_later, stops_after}
 
 pub stops_memory : {A : Type 0} (met : Signatures) (m : Check A) (old now : State) → Keeps old now → Stops met m old (stops.Fault checks.Memory) now
 stops_memory met m old now k = record { runs = tt; keeps = k }

@@ -12,10 +12,10 @@ ghost use Rattle.check_expr.specs.declared.need.Need.TheVariants as needs;
 ghost use Rattle.check_expr.specs.declared.fault.CheckFault.TheVariants as checks;
 ghost use Rattle.check_expr.specs.declared.fault.ExprFault.TheVariants as stops;
 ghost use Rattle.check_expr.specs.Asks.{asked_as};
-ghost use Rattle.check_expr.specs.Expression.{call_built_in as call_of_built_in, call_gate as call_of_gate, built_in_rules as rules_of_built_in, gate_values as values_of_gate, gate_value as value_of_gate, flip_value as value_flipped, gate_origin as origin_of_gate, flipped_origin, many as many_values, repeated as shape_repeated, vector_value as value_of_vector, length_value as value_of_length, is_typed as is_typed_number, all_typed as are_typed_numbers, may_hold as mark_may_hold, unnamed_rule as rule_of_unnamed, asked_by_built_in, arguments as arguments_of, later_arguments};
+ghost use Rattle.check_expr.specs.Expression.{call_built_in as call_of_built_in, call_gate as call_of_gate, built_in_rules as rules_of_built_in, gate_values as values_of_gate, gate_value as value_of_gate, flip_value as value_flipped, gate_origin as origin_of_gate, many as many_values, repeated as shape_repeated, vector_value as value_of_vector, length_value as value_of_length, is_typed as is_typed_number, all_typed as are_typed_numbers, may_hold as mark_may_hold, unnamed_rule as rule_of_unnamed, asked_by_built_in};
 ghost use Rattle.check_expr.specs.State.{State, scope_in};
 ghost use Rattle.check_expr.specs.Calls.{items, walk_of, later_of};
-ghost use Rattle.check_expr.specs.Context.{rules, give_back};
+ghost use Rattle.check_expr.specs.Context.{rules};
 ghost use Rattle.check_expr.specs.Steps.{Reads, Stops};
 
 use crate::asked::Ask;

@@ -1,7 +1,6 @@
 //! Calls of functions of the program.
 
-ghost use Rattle.std.specs.Prelude.{◌≡◌, ◌<◌, ◌==◌, ◌&&◌, not, length, map, slice_get, pos, int_lt, option_map, IfOk, IfErr, Option, Some, None, ◌∷◌, []};
-ghost use Rattle.std.specs.Option.{option_copied};
+ghost use Rattle.std.specs.Prelude.{◌≡◌, ◌<◌, ◌==◌, ◌&&◌, not, length, map, pos, int_lt, IfOk, IfErr, Option, Some, None, ◌∷◌, []};
 ghost use Rattle.silq_tree.specs.Children.{AreExprsBelow};
 ghost use Rattle.silq_types.specs.Known.{Signatures};
 ghost use Rattle.silq_types.specs.Rules.{against_mark, measured_in_branch, not_static, wrong_type, consumed_twice, consumed_and_held};
@@ -27,8 +26,8 @@ use crate::obey::obey;
 use crate::places::needed;
 use crate::rule;
 use crate::signatures::signature;
-use crate::values::{new_value, spot_of};
 use crate::uses::{UseList, argument_parts, consume_held, consume_twice, needs_of_own};
+use crate::values::{new_value, spot_of};
 use silq_tree::{ExprId, FunId, Mark, NameId, Spot};
 use silq_types::{InstanceKey, Known, List, Origin, Param, Returned, StaticList, Ty, Value};
 use static_num::Statics;

@@ -1,6 +1,6 @@
 //! The signatures of instances where they are called.
 
-ghost use Rattle.std.specs.Prelude.{◌≡◌, length, IfOk, IfErr, Option, Some, None};
+ghost use Rattle.std.specs.Prelude.{◌≡◌, IfOk, IfErr, Option, Some, None};
 ghost use Rattle.silq_io.specs.declared.limit.LimitKind.TheVariants.{Instances, Depth};
 ghost use Rattle.check_expr.specs.Context.{signature as signature_of_instance};
 ghost use Rattle.check_expr.specs.Steps.{Reads, Stops};
