@@ -14,3 +14,4 @@ pub mod Faults
 pub mod Steps
 pub mod Numbers
 pub mod Tests
+pub mod Forms

@@ -11,14 +11,15 @@ ghost use Rattle.check_expr.specs.Steps.{Reads, Stops};
 ghost use Rattle.check_expr.specs.Uses.{built_in, find_fun};
 
 use crate::context::Context;
-use crate::expr::ValueList;
-use crate::fault::{CheckFault, ExprFault};
+use crate::expr::{ValueList, arguments as arguments_walked};
+use crate::fault::ExprFault;
 use crate::library::Library;
 use crate::need::Need;
 use silq_tree::{ExprId, NameId, Spot};
 use silq_types::Known;
 
 /// The values of a call of the function with this name.
+#[cycle(expression)]
 pub(crate) fn call(
     library: &Library,
     cx: &mut Context,
@@ -36,5 +37,5 @@ pub(crate) fn call(
     ensures stops { IfErr result (λ f. Stops known.now (call_found (scope_in library.now cx.old) (built_in library.now.words fun) (find_fun (scope_in library.now cx.old).before fun) (expressions_of (expr_at library.now.nodes) statics.now) (expressions_of (expr_at library.now.nodes) args.now) at need (λ asked. arguments (expressions_of (expr_at library.now.nodes) args.now) (scope_in library.now cx.old) needs.Held asked) (later_arguments (expressions_of (expr_at library.now.nodes) args.now) (scope_in library.now cx.old))) cx.old f cx.new) }
 {
     // TO DO
-    Err(ExprFault::Fault(CheckFault::Memory))
+    arguments_walked(library, cx, args, Need::Held, &[], known)
 }
