@@ -5,3 +5,4 @@ pub mod Owners
 pub mod Sequence
 pub mod Obeyed
 pub mod Scopes
+pub mod Walks

@@ -8,6 +8,7 @@ use Rattle.check_expr.specs.Asks.{all_asked}
 use Rattle.check_expr.specs.Expression.{arguments}
 use Rattle.check_expr.specs.State.{State, Keeps, scope_in}
 use Rattle.check_expr.specs.Steps.{Reads, Stops}
+use Rattle.check_expr.proofs.Walks.{Onward}
 use Rattle.check_expr.proofs.+expression.Given as goal
 
 -- an expression's number, and how far above its walk
@@ -35,3 +36,6 @@ decreases-expr::arguments l = 4 * exprs_top l.items.now
 
 abbrev pub decreases-calls::call : goal.decreases-calls::call
 decreases-calls::call l = 4 * exprs_top l.args.now + 2
+
+abbrev pub invariant-expr::arguments-loop-i : goal.invariant-expr::arguments-loop-i
+invariant-expr::arguments-loop-i l = Onward l.fn.known l.fn.library (expr_at l.fn.library.nodes) l.fn.other l.fn.items l.fn.asks l.fn.cx l.values l.i l.cx
