@@ -1,5 +1,5 @@
 -- The forms of an expression, and its items in turn.
-use Rattle.std.proofs.Common.{◌≡◌, refl, ℕ, zero, suc, ◌+◌, ◌<◌, ◌≤◌, Bool, true, false, List, [], ◌∷◌, ◌++◌, drop, get_or, length, append_assoc, append-nil, ℤ, arith, Option, Some, None}
+use Rattle.std.proofs.Common.{◌≡◌, refl, ℕ, zero, suc, ◌+◌, ◌<◌, ◌≤◌, Bool, true, false, List, [], ◌∷◌, ◌++◌, drop, get_or, length, append_assoc, append-nil, ℤ, arith, Option, Some, None, Result, IfSome, IfOk, IfErr}
 use mathlib.Core.Path.{sym, ap, ◌∙◌, subst}
 use Rattle.silq_tree.specs.declared.node.ExprId.{ExprId}
 use Rattle.silq_tree.specs.declared.node.NameId.{NameId}
@@ -7,7 +7,9 @@ use Rattle.silq_tree.specs.declared.node.Spot.{Spot}
 use Rattle.silq_tree.specs.declared.node.UnaryOp.{UnaryOp}
 use Rattle.silq_tree.specs.declared.node.BinaryOp.{BinaryOp}
 use Rattle.silq_tree.specs.Syntax.{Expression, Expressions, ScalarType, number, typed_number, truth, pi, place, called, tuple, unary, binary, none, more, Place, whole, part, part_of_part}
-use Rattle.silq_tree.specs.Standing.{expressions_of}
+use Rattle.silq_tree.specs.declared.node.ScalarNode.{ScalarNode}
+use Rattle.silq_tree.specs.declared.node.Expr.TheVariants as nodes
+use Rattle.silq_tree.specs.Standing.{expressions_of, scalar_of, expr_grown}
 use Rattle.silq_tree.proofs.Lists.{expressions_of-drop, expressions_of-end}
 use Rattle.static_num.specs.Static.{is_static}
 use Rattle.silq_types.specs.declared.types.Ty.{Ty}
@@ -21,8 +23,10 @@ use Rattle.check_expr.specs.declared.fault.ExprFault.{ExprFault}
 use Rattle.check_expr.specs.declared.fault.ExprFault.TheVariants as stops
 use Rattle.check_expr.specs.Asks.{asked_as, all_asked, types_of}
 use Rattle.check_expr.specs.Context.{Scope, Check, of_result}
-use Rattle.check_expr.specs.Expression.{expr, arguments, static_value, first_asked, later_asked, lone_need, lone_wants, single, suits, asked_of_items}
-use Rattle.check_expr.specs.Forms.{part_values, unary_values, binary_values, operand, both_operands}
+use Rattle.check_expr.specs.Expression.{expr, arguments, static_value, first_asked, later_asked, lone_need, lone_wants, single, suits, asked_of_items, call_found, later_arguments}
+use Rattle.check_expr.specs.Uses.{built_in, find_fun}
+use Rattle.check_expr.specs.declared.need.Need.TheVariants as needs
+use Rattle.check_expr.specs.Forms.{number_values, part_values, unary_values, binary_values, operand, both_operands}
 use Rattle.check_expr.specs.Library.{Shelf}
 use Rattle.check_expr.specs.State.{State, Keeps, scope_in}
 use Rattle.check_expr.specs.Steps.{Reads, Stops}
@@ -60,6 +64,32 @@ number_is_static statics n s = refl
 pub truth_is_static : (statics : List (NameId × ℤ)) (b : Bool) (s : Spot) → is_static statics (truth b s) ≡ true
 unfolding is_static
 truth_is_static statics b s = refl
+
+pub by_binary : (t : Expression) (op : BinaryOp) (a b : Expression) (s : Spot) (sc : Scope) (need : Need) (wants : List Ty) → t ≡ binary op a b s → is_static sc.statics t ≡ false → binary_values sc op a b s ≡ expr t sc need wants
+by_binary t op a b s sc need wants e f = at_binary op a b s sc need wants (subst (λ x. is_static sc.statics x ≡ false) e f) ∙ ap (λ x. expr x sc need wants) (sym e)
+
+pub number_open : (t : Expression) (statics : List (NameId × ℤ)) (n : ℤ) (s : Spot) → t ≡ number n s → is_static statics t ≡ false → ⊥
+number_open t statics n s e f = let g : is_static statics (number n s) ≡ false = subst (λ x. is_static statics x ≡ false) e f in grind (arith, g, number_is_static statics n s)
+
+pub truth_open : (t : Expression) (statics : List (NameId × ℤ)) (b : Bool) (s : Spot) → t ≡ truth b s → is_static statics t ≡ false → ⊥
+truth_open t statics b s e f = let g : is_static statics (truth b s) ≡ false = subst (λ x. is_static statics x ≡ false) e f in grind (arith, g, truth_is_static statics b s)
+
+module _ (tree : ExprId → Expression) (t : Expression) (sc : Scope) (need : Need) (wants : List Ty) where
+  pub by_call : (f : NameId) (ss args ss2 args2 : List ExprId) (s : Spot) → t ≡ called f (expressions_of tree ss) (expressions_of tree args) s → ss2 ≡ ss → args2 ≡ args → call_found sc (built_in sc.words f) (find_fun sc.before f) (expressions_of tree ss2) (expressions_of tree args2) s need (λ asked. arguments (expressions_of tree args2) sc needs.Held asked) (later_arguments (expressions_of tree args2) sc) ≡ expr t sc need wants
+  by_call f ss args ss2 args2 s e p q = rw (p, q) (ap (λ x. expr x sc need wants) (sym e))
+
+  module _ (met : Signatures) (r : Result (List Value) ExprFault) (old now : State) (v v2 : ℤ) (s : Spot) where
+    pub number_reads : (ty : Option ScalarNode) → t ≡ expr_grown tree (nodes.Number v ty s) → is_static sc.statics t ≡ false → v2 ≡ v → IfSome ty (λ k. IfOk r (λ vs. Reads met (number_values sc v2 (scalar_of tree k) s) old vs now)) → IfOk r (λ vs. Reads met (expr t sc need wants) old vs now)
+    number_reads None e f w h = absurd (number_open t sc.statics v s e f)
+    number_reads (Some k) e f w h = subst (λ x. IfOk r (λ vs. Reads met (expr x sc need wants) old vs now)) (sym e) (subst (λ z. IfOk r (λ vs. Reads met (number_values sc z (scalar_of tree k) s) old vs now)) w h)
+
+    pub number_stops : (ty : Option ScalarNode) → t ≡ expr_grown tree (nodes.Number v ty s) → is_static sc.statics t ≡ false → v2 ≡ v → IfSome ty (λ k. IfErr r (λ f. Stops met (number_values sc v2 (scalar_of tree k) s) old f now)) → IfErr r (λ f. Stops met (expr t sc need wants) old f now)
+    number_stops None e f w h = absurd (number_open t sc.statics v s e f)
+    number_stops (Some k) e f w h = subst (λ x. IfErr r (λ f. Stops met (expr x sc need wants) old f now)) (sym e) (subst (λ z. IfErr r (λ f. Stops met (number_values sc z (scalar_of tree k) s) old f now)) w h)
+
+-- after a fault all is as it was when the expression began
+pub restored : (old begun mid now : State) (next height : ℕ) → begun ≡ record old { start = old.vars } → Keeps begun mid → next ≡ begun.next → height ≡ begun.height → now ≡ record mid { vars = mid.start; next = next; height = height } → now ≡ record old { start = old.vars }
+restored old begun mid now next height b k n h e = rw (e, n, h, k.this, k.results, k.depth, k.start, k.statics, k.held, b) refl
 
 -- ---- two operands
 

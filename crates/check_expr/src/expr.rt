@@ -2,7 +2,7 @@
 
 ghost use Rattle.std.specs.Prelude.{◌≡◌, ◌<◌, ◌∷◌, ◌++◌, [], drop, length, Err, IfOk, IfErr, IfSome, OnOk, OnErr};
 ghost use Rattle.silq_tree.specs.Arena.{expr_at};
-ghost use Rattle.silq_tree.specs.Children.{place_exprs, scalar_exprs, AreExprsBelow, HasFirst};
+ghost use Rattle.silq_tree.specs.Children.{number_exprs, place_exprs, scalar_exprs, AreExprsBelow, HasFirst};
 ghost use Rattle.silq_tree.specs.Standing.{expressions_of, place_of, scalar_of};
 ghost use Rattle.silq_types.specs.Known.{Signatures};
 ghost use Rattle.check_expr.specs.declared.fault.CheckFault.TheVariants as checks;
@@ -90,11 +90,7 @@ pub(crate) fn walk(library: &Library, cx: &mut Context, e: ExprId, need: Need, w
         return static_value(library, cx, e, wants);
     }
     match library.tree().expr(e) {
-        Expr::Number {
-            value,
-            ty: Some(ty),
-            at,
-        } => number(library, cx, *value, *ty, *at),
+        Expr::Number { value, ty, at } => number(library, cx, *value, *ty, *at),
         Expr::Place { place, at } => part(library, cx, *place, *at, need),
         Expr::Call {
             fun,
@@ -111,16 +107,27 @@ pub(crate) fn walk(library: &Library, cx: &mut Context, e: ExprId, need: Need, w
             at,
         } => binary(library, cx, *op, (*left, *right), *at, known),
         Expr::Pi { at } => Err(broken(rule::WRONG_TYPE, *at)),
-        // a number without a type, and truth, is static
-        Expr::Number { at, .. } => Err(broken(rule::OUTSIDE_TYPE, *at)),
+        // truth is static
         Expr::Truth { at, .. } => Err(broken(rule::OUTSIDE_TYPE, *at)),
     }
 }
 
 // ---- the forms of an expression
 
+/// The values of a number that is not static, and so has a type.
+fn number(library: &Library, cx: &mut Context, value: i64, ty: Option<ScalarNode>, at: Spot) -> Result<ValueList, ExprFault>
+    requires { AreExprsBelow (length library.now.nodes.exprs) (number_exprs ty) }
+    ensures reads { (met : Signatures) → IfSome ty (λ k. IfOk result (λ vs. Reads met (number_values (scope_in library.now cx.old) value (scalar_of (expr_at library.now.nodes) k) at) cx.old vs cx.new)) }
+    ensures stops { (met : Signatures) → IfSome ty (λ k. IfErr result (λ f. Stops met (number_values (scope_in library.now cx.old) value (scalar_of (expr_at library.now.nodes) k) at) cx.old f cx.new)) }
+{
+    match ty {
+        Some(ty) => typed_number(library, cx, value, ty, at),
+        None => Err(broken(rule::OUTSIDE_TYPE, at)),
+    }
+}
+
 /// The values of a number with a type.
-fn number(library: &Library, cx: &mut Context, value: i64, ty: ScalarNode, at: Spot) -> Result<ValueList, ExprFault>
+fn typed_number(library: &Library, cx: &mut Context, value: i64, ty: ScalarNode, at: Spot) -> Result<ValueList, ExprFault>
     requires { AreExprsBelow (length library.now.nodes.exprs) (scalar_exprs ty) }
     ensures reads { (met : Signatures) → IfOk result (λ vs. Reads met (number_values (scope_in library.now cx.old) value (scalar_of (expr_at library.now.nodes) ty) at) cx.old vs cx.new) }
     ensures stops { (met : Signatures) → IfErr result (λ f. Stops met (number_values (scope_in library.now cx.old) value (scalar_of (expr_at library.now.nodes) ty) at) cx.old f cx.new) }

@@ -12,6 +12,16 @@ use Rattle.check_expr.specs.State.{scope_in}
 use Rattle.check_expr.specs.Steps.{Reads, Stops}
 use Rattle.check_expr.proofs.Scopes.{stops_full}
 use Rattle.check_expr.proofs.Walks.{left_static, left_static_number, left_static_right, left_static_last, left_first, left_first_stops, left_first_right, at_static, at_place, at_unary, at_binary}
+use Rattle.silq_tree.specs.declared.node.Expr.{Expr}
+use Rattle.silq_tree.specs.declared.node.Expr.TheVariants as nodes
+use Rattle.silq_tree.proofs.Lists.{expr_below, expr_below_top, exprs_top_le, exprs_below_front, exprs_below_back, exprs_below_more}
+use Rattle.std.proofs.Common.{get_or, ◌<◌, length}
+use Rattle.silq_tree.specs.Children.{AreExprsBelow, expr_exprs}
+use Rattle.std.proofs.lemmas.Int.{to_z-of_z}
+use Rattle.std.proofs.Common.{◌++◌}
+use Rattle.check_expr.specs.Asks.{types_of}
+use Rattle.check_expr.specs.Expression.{lone_wants}
+use Rattle.check_expr.proofs.Walks.{Onward, item_stops, single_stops, suits_stops, memory_stops, onward, onward_none, onward_all, by_binary, by_call, number_reads, number_stops, truth_open}
 use Rattle.check_expr.proofs.+expression.Goals as goal
 
 pub expr::unary-returns-in_err-values-clause-stops : goal.expr::unary-returns-in_err-values-clause-stops
@@ -65,71 +75,77 @@ expr::binary-returns-in_err-list-clause-stops t c = let K = c.args.known.now in 
 pub expr::binary-returns-clause-reads : goal.expr::binary-returns-clause-reads
 expr::binary-returns-clause-reads t c = let K = c.args.known.now in (reads_bind K _ _ _ _ _ _ _ c.in_ok-values.ensures.reads (reads_as K _ _ _ _ _ (ap (λ sc. binary_value sc c.args.op (expr_at c.args.library.now.nodes c.args.sides.0) (expr_at c.args.library.now.nodes c.args.sides.1) c.args.at c.in_ok-values.values.0 c.in_ok-values.values.1) (same_scope c.args.library.now _ _ c.in_ok-values.ensures.reads.keeps)) (c.in_ok-list.ensures.reads K)))
 
+pub expr::walk-returns-in-Binary-clause-reads : goal.expr::walk-returns-in-Binary-clause-reads
+expr::walk-returns-in-Binary-clause-reads t c = let K = c.args.known.now in subst (λ m. IfOk c.binary.result (λ vs. Reads K m c.args.cx.now vs c.binary.new.cx)) (by_binary _ _ _ _ _ (scope_in c.args.library.now c.args.cx.now) c.args.need c.args.wants.now (subst (λ n. expr_at n c.args.e ≡ expr_grown (expr_at n) c.expr.result.now) c.tree.ensures c.expr.ensures.tree ∙ ap (expr_grown (expr_at c.args.library.now.nodes)) c.in-Binary.is) (sym c.is_static.ensures ∙ c.if-is_static.false)) c.binary.ensures.reads
+
+pub expr::walk-returns-in-Binary-clause-stops : goal.expr::walk-returns-in-Binary-clause-stops
+expr::walk-returns-in-Binary-clause-stops t c = let K = c.args.known.now in subst (λ m. IfErr c.binary.result (λ f. Stops K m c.args.cx.now f c.binary.new.cx)) (by_binary _ _ _ _ _ (scope_in c.args.library.now c.args.cx.now) c.args.need c.args.wants.now (subst (λ n. expr_at n c.args.e ≡ expr_grown (expr_at n) c.expr.result.now) c.tree.ensures c.expr.ensures.tree ∙ ap (expr_grown (expr_at c.args.library.now.nodes)) c.in-Binary.is) (sym c.is_static.ensures ∙ c.if-is_static.false)) c.binary.ensures.stops
+
+pub expr::walk-returns-in-Truth-clause-stops : goal.expr::walk-returns-in-Truth-clause-stops
+expr::walk-returns-in-Truth-clause-stops t c = let K = c.args.known.now in absurd (truth_open _ _ _ _ (subst (λ n. expr_at n c.args.e ≡ expr_grown (expr_at n) c.expr.result.now) c.tree.ensures c.expr.ensures.tree ∙ ap (expr_grown (expr_at c.args.library.now.nodes)) c.in-Truth.is) (sym c.is_static.ensures ∙ c.if-is_static.false))
+
+pub expr::walk-returns-in-Number-clause-reads : goal.expr::walk-returns-in-Number-clause-reads
+expr::walk-returns-in-Number-clause-reads t c = let K = c.args.known.now in number_reads (expr_at c.args.library.now.nodes) _ (scope_in c.args.library.now c.args.cx.now) c.args.need c.args.wants.now K _ _ _ _ _ _ _ (subst (λ n. expr_at n c.args.e ≡ expr_grown (expr_at n) c.expr.result.now) c.tree.ensures c.expr.ensures.tree ∙ ap (expr_grown (expr_at c.args.library.now.nodes)) c.in-Number.is) (sym c.is_static.ensures ∙ c.if-is_static.false) (to_z-of_z w64 c.in-Number.value (search rules)) (c.number.ensures.reads K)
+
+pub expr::walk-returns-in-Number-clause-stops : goal.expr::walk-returns-in-Number-clause-stops
+expr::walk-returns-in-Number-clause-stops t c = let K = c.args.known.now in number_stops (expr_at c.args.library.now.nodes) _ (scope_in c.args.library.now c.args.cx.now) c.args.need c.args.wants.now K _ _ _ _ _ _ _ (subst (λ n. expr_at n c.args.e ≡ expr_grown (expr_at n) c.expr.result.now) c.tree.ensures c.expr.ensures.tree ∙ ap (expr_grown (expr_at c.args.library.now.nodes)) c.in-Number.is) (sym c.is_static.ensures ∙ c.if-is_static.false) (to_z-of_z w64 c.in-Number.value (search rules)) (c.number.ensures.stops K)
+
+pub expr::walk-returns-then-is_static-clause-reads : goal.expr::walk-returns-then-is_static-clause-reads
+expr::walk-returns-then-is_static-clause-reads t c = let K = c.args.known.now in subst (λ m. IfOk c.static_value.result (λ vs. Reads K m c.args.cx.now vs c.static_value.new.cx)) (at_static _ (scope_in c.args.library.now c.args.cx.now) c.args.need c.args.wants.now (sym c.is_static.ensures ∙ c.if-is_static.true)) (c.static_value.ensures.reads K)
+
+pub expr::walk-returns-then-is_static-clause-stops : goal.expr::walk-returns-then-is_static-clause-stops
+expr::walk-returns-then-is_static-clause-stops t c = let K = c.args.known.now in subst (λ m. IfErr c.static_value.result (λ f. Stops K m c.args.cx.now f c.static_value.new.cx)) (at_static _ (scope_in c.args.library.now c.args.cx.now) c.args.need c.args.wants.now (sym c.is_static.ensures ∙ c.if-is_static.true)) (c.static_value.ensures.stops K)
+
+pub expr::walk-returns-in-Call-clause-reads : goal.expr::walk-returns-in-Call-clause-reads
+expr::walk-returns-in-Call-clause-reads t c = let K = c.args.known.now in subst (λ m. IfOk c.call.result (λ vs. Reads K m c.args.cx.now vs c.call.new.cx)) (by_call (expr_at c.args.library.now.nodes) _ (scope_in c.args.library.now c.args.cx.now) c.args.need c.args.wants.now c.in-Call.fun _ _ _ _ _ (subst (λ n. expr_at n c.args.e ≡ expr_grown (expr_at n) c.expr.result.now) c.tree.ensures c.expr.ensures.tree ∙ ap (expr_grown (expr_at c.args.library.now.nodes)) c.in-Call.is) c.as_slice.ensures c.as_slice-in-Call.ensures) c.call.ensures.reads
+
+pub expr::walk-returns-in-Call-clause-stops : goal.expr::walk-returns-in-Call-clause-stops
+expr::walk-returns-in-Call-clause-stops t c = let K = c.args.known.now in subst (λ m. IfErr c.call.result (λ f. Stops K m c.args.cx.now f c.call.new.cx)) (by_call (expr_at c.args.library.now.nodes) _ (scope_in c.args.library.now c.args.cx.now) c.args.need c.args.wants.now c.in-Call.fun _ _ _ _ _ (subst (λ n. expr_at n c.args.e ≡ expr_grown (expr_at n) c.expr.result.now) c.tree.ensures c.expr.ensures.tree ∙ ap (expr_grown (expr_at c.args.library.now.nodes)) c.in-Call.is) c.as_slice.ensures c.as_slice-in-Call.ensures) c.call.ensures.stops
+
+pub expr::walk-call-requires : goal.expr::walk-call-requires
+expr::walk-call-requires t c = let K = c.args.known.now in let S : AreExprsBelow c.args.e.number (c.in-Call.statics ++ c.in-Call.args) = (subst (λ x. AreExprsBelow c.args.e.number (expr_exprs x)) c.in-Call.is c.expr.ensures.smaller) in let A : AreExprsBelow c.args.e.number c.as_slice-in-Call.result.now = subst (λ xs. AreExprsBelow c.args.e.number xs) (sym c.as_slice-in-Call.ensures) (exprs_below_back _ c.in-Call.statics _ S) in let B : AreExprsBelow c.args.e.number c.as_slice.result.now = subst (λ xs. AreExprsBelow c.args.e.number xs) (sym c.as_slice.ensures) (exprs_below_front _ _ c.in-Call.args S) in (omega (arith, c.decreases, exprs_top_le c.args.e.number c.as_slice-in-Call.result.now A), ((exprs_below_more c.args.e.number (length c.args.library.now.nodes.exprs) c.as_slice.result.now (omega arith) B), ((exprs_below_more c.args.e.number (length c.args.library.now.nodes.exprs) c.as_slice-in-Call.result.now (omega arith) A), c.requires.this)))
+
+pub expr::walk-tuple-requires : goal.expr::walk-tuple-requires
+expr::walk-tuple-requires t c = let K = c.args.known.now in let A : AreExprsBelow c.args.e.number c.as_slice-in-Tuple.result.now = subst (λ xs. AreExprsBelow c.args.e.number xs) (sym c.as_slice-in-Tuple.ensures) (subst (λ x. AreExprsBelow c.args.e.number (expr_exprs x)) c.in-Tuple.is c.expr.ensures.smaller) in (omega (arith, c.decreases, exprs_top_le c.args.e.number c.as_slice-in-Tuple.result.now A), ((exprs_below_more c.args.e.number (length c.args.library.now.nodes.exprs) c.as_slice-in-Tuple.result.now (omega arith) A), c.requires.this))
+
+pub expr::arguments-lone_need-need-requires : goal.expr::arguments-lone_need-need-requires
+expr::arguments-lone_need-need-requires t c = let K = c.args.known.now in (expr_below _ c.args.items.now c.loop-i.i (record { number = 0 }) c.requires.ids c.loop-i-test.true)
+
+pub expr::arguments-lone_wants-wants-requires : goal.expr::arguments-lone_wants-wants-requires
+expr::arguments-lone_wants-wants-requires t c = let K = c.args.known.now in (expr_below _ c.args.items.now c.loop-i.i (record { number = 0 }) c.requires.ids c.loop-i-test.true)
+
+pub expr::arguments-single-requires : goal.expr::arguments-single-requires
+expr::arguments-single-requires t c = let K = c.args.known.now in (expr_below _ c.args.items.now c.loop-i.i (record { number = 0 }) c.requires.ids c.loop-i-test.true)
+
+pub expr::arguments-suits-requires : goal.expr::arguments-suits-requires
+expr::arguments-suits-requires t c = let K = c.args.known.now in (expr_below _ c.args.items.now c.loop-i.i (record { number = 0 }) c.requires.ids c.loop-i-test.true)
+
+pub expr::arguments-walk-requires : goal.expr::arguments-walk-requires
+expr::arguments-walk-requires t c = let K = c.args.known.now in (omega (arith, c.decreases, expr_below_top c.args.items.now c.loop-i.i (record { number = 0 }) c.loop-i-test.true), ((expr_below _ c.args.items.now c.loop-i.i (record { number = 0 }) c.requires.ids c.loop-i-test.true), (subst (λ n. n < length c.args.library.now.funs) (sym c.loop-i.invariant.keeps.this) c.requires.this)))
+
+pub expr::arguments-returns-in_err-list-clause-stops : goal.expr::arguments-returns-in_err-list-clause-stops
+expr::arguments-returns-in_err-list-clause-stops t c = let K = c.args.known.now in if_err _ _ _ c.from_residual.ensures.1 (item_stops K _ _ _ _ _ _ _ _ _ _ c.loop-i.invariant c.loop-i-test.true _ c.ask_at-ask.ensures _ _ c.lone_need-need.ensures (c.lone_wants-wants.ensures ∙ ap (lone_wants (expr_at c.args.library.now.nodes (get_or c.args.items.now c.loop-i.i (record { number = 0 })))) c.wanted.ensures)  _ _ c.in_err-list.ensures.stops)
+
+pub expr::arguments-returns-in_err-value-clause-stops : goal.expr::arguments-returns-in_err-value-clause-stops
+expr::arguments-returns-in_err-value-clause-stops t c = let K = c.args.known.now in if_err _ _ _ c.from_residual-in_err-value.ensures.1 (single_stops K _ _ _ _ _ _ _ _ _ _ c.loop-i.invariant c.loop-i-test.true _ c.ask_at-ask.ensures _ _ c.lone_need-need.ensures (c.lone_wants-wants.ensures ∙ ap (lone_wants (expr_at c.args.library.now.nodes (get_or c.args.items.now c.loop-i.i (record { number = 0 })))) c.wanted.ensures)   _ _ c.in_ok-list.ensures.reads  _ _ (c.in_err-value.ensures.stops K _))
+
+pub expr::arguments-returns-in_err-suits-clause-stops : goal.expr::arguments-returns-in_err-suits-clause-stops
+expr::arguments-returns-in_err-suits-clause-stops t c = let K = c.args.known.now in if_err _ _ _ c.from_residual-in_err-suits.ensures.1 (suits_stops K _ _ _ _ _ _ _ _ _ _ c.loop-i.invariant c.loop-i-test.true _ c.ask_at-ask.ensures _ _ c.lone_need-need.ensures (c.lone_wants-wants.ensures ∙ ap (lone_wants (expr_at c.args.library.now.nodes (get_or c.args.items.now c.loop-i.i (record { number = 0 })))) c.wanted.ensures)   _ _ c.in_ok-list.ensures.reads   _ (c.in_ok-value.ensures.reads K _)  _ _ (c.in_err-suits.ensures.stops K _))
+
+pub expr::arguments-returns-in_err-push-clause-stops : goal.expr::arguments-returns-in_err-push-clause-stops
+expr::arguments-returns-in_err-push-clause-stops t c = let K = c.args.known.now in if_err _ _ _ c.from_residual-in_err-push.ensures.1 (memory_stops K _ _ _ _ _ _ _ _ _ _ c.loop-i.invariant c.loop-i-test.true _ c.ask_at-ask.ensures _ _ c.lone_need-need.ensures (c.lone_wants-wants.ensures ∙ ap (lone_wants (expr_at c.args.library.now.nodes (get_or c.args.items.now c.loop-i.i (record { number = 0 })))) c.wanted.ensures)   _ _ c.in_ok-list.ensures.reads   _ (c.in_ok-value.ensures.reads K _)   (c.in_ok-suits.ensures.reads K _)  _ c.in_err-push.ensures.memory)
+
+pub expr::arguments-loop-i-preserved : goal.expr::arguments-loop-i-preserved
+expr::arguments-loop-i-preserved t c = let K = c.args.known.now in onward K _ _ _ _ _ _ _ _ _ _ c.loop-i.invariant c.loop-i-test.true _ c.ask_at-ask.ensures _ _ c.lone_need-need.ensures (c.lone_wants-wants.ensures ∙ ap (lone_wants (expr_at c.args.library.now.nodes (get_or c.args.items.now c.loop-i.i (record { number = 0 })))) c.wanted.ensures)   _ _ c.in_ok-list.ensures.reads   _ (c.in_ok-value.ensures.reads K _)   (c.in_ok-suits.ensures.reads K _)  _ c.in_ok-push.ensures.ok
+
+pub expr::arguments-loop-i-init : goal.expr::arguments-loop-i-init
+expr::arguments-loop-i-init t c = let K = c.args.known.now in subst (λ vs. Onward K c.args.library.now (expr_at c.args.library.now.nodes) c.args.other c.args.items.now c.args.asks.now c.args.cx.now vs 0 c.args.cx.now) (sym c.new-values.ensures) (onward_none K _ _ _ _ _ _)
+
+pub expr::arguments-returns-clause-reads : goal.expr::arguments-returns-clause-reads
+expr::arguments-returns-clause-reads t c = let K = c.args.known.now in onward_all K _ _ _ _ _ _ _ _ _ c.loop-i.invariant (omega arith)
+
 pub calls::call-returns-clause-reads : goal.calls::call-returns-clause-reads
 calls::call-returns-clause-reads t c = ?
 
 pub calls::call-returns-clause-stops : goal.calls::call-returns-clause-stops
 calls::call-returns-clause-stops t c = ?
-
-pub expr::arguments-lone_need-need-requires : goal.expr::arguments-lone_need-need-requires
-expr::arguments-lone_need-need-requires t c = ?
-
-pub expr::arguments-lone_wants-wants-requires : goal.expr::arguments-lone_wants-wants-requires
-expr::arguments-lone_wants-wants-requires t c = ?
-
-pub expr::arguments-returns-clause-reads : goal.expr::arguments-returns-clause-reads
-expr::arguments-returns-clause-reads t c = ?
-
-pub expr::arguments-returns-in_err-list-clause-stops : goal.expr::arguments-returns-in_err-list-clause-stops
-expr::arguments-returns-in_err-list-clause-stops t c = ?
-
-pub expr::arguments-returns-in_err-push-clause-stops : goal.expr::arguments-returns-in_err-push-clause-stops
-expr::arguments-returns-in_err-push-clause-stops t c = ?
-
-pub expr::arguments-returns-in_err-suits-clause-stops : goal.expr::arguments-returns-in_err-suits-clause-stops
-expr::arguments-returns-in_err-suits-clause-stops t c = ?
-
-pub expr::arguments-returns-in_err-value-clause-stops : goal.expr::arguments-returns-in_err-value-clause-stops
-expr::arguments-returns-in_err-value-clause-stops t c = ?
-
-pub expr::arguments-single-requires : goal.expr::arguments-single-requires
-expr::arguments-single-requires t c = ?
-
-pub expr::arguments-suits-requires : goal.expr::arguments-suits-requires
-expr::arguments-suits-requires t c = ?
-
-pub expr::arguments-walk-requires : goal.expr::arguments-walk-requires
-expr::arguments-walk-requires t c = ?
-
-pub expr::walk-call-requires : goal.expr::walk-call-requires
-expr::walk-call-requires t c = ?
-
-pub expr::walk-returns-in-Binary-clause-reads : goal.expr::walk-returns-in-Binary-clause-reads
-expr::walk-returns-in-Binary-clause-reads t c = ?
-
-pub expr::walk-returns-in-Binary-clause-stops : goal.expr::walk-returns-in-Binary-clause-stops
-expr::walk-returns-in-Binary-clause-stops t c = ?
-
-pub expr::walk-returns-in-Call-clause-stops : goal.expr::walk-returns-in-Call-clause-stops
-expr::walk-returns-in-Call-clause-stops t c = ?
-
-pub expr::walk-returns-in-Number-clause-stops : goal.expr::walk-returns-in-Number-clause-stops
-expr::walk-returns-in-Number-clause-stops t c = ?
-
-pub expr::walk-returns-in-Number-default-Some-default-clause-reads : goal.expr::walk-returns-in-Number-default-Some-default-clause-reads
-expr::walk-returns-in-Number-default-Some-default-clause-reads t c = ?
-
-pub expr::walk-returns-in-Number-default-Some-default-clause-stops : goal.expr::walk-returns-in-Number-default-Some-default-clause-stops
-expr::walk-returns-in-Number-default-Some-default-clause-stops t c = ?
-
-pub expr::walk-returns-in-Truth-clause-stops : goal.expr::walk-returns-in-Truth-clause-stops
-expr::walk-returns-in-Truth-clause-stops t c = ?
-
-pub expr::walk-returns-then-is_static-clause-reads : goal.expr::walk-returns-then-is_static-clause-reads
-expr::walk-returns-then-is_static-clause-reads t c = ?
-
-pub expr::walk-returns-then-is_static-clause-stops : goal.expr::walk-returns-then-is_static-clause-stops
-expr::walk-returns-then-is_static-clause-stops t c = ?
-
-pub expr::walk-tuple-requires : goal.expr::walk-tuple-requires
-expr::walk-tuple-requires t c = ?

@@ -9,7 +9,7 @@ use Rattle.silq_tree.specs.Standing.{scalar_of}
 use Rattle.check_expr.specs.State.{scope_in}
 use Rattle.check_expr.specs.Steps.{Reads, Stops}
 use Rattle.check_expr.specs.Expression.{typed_value}
-use Rattle.check_expr.proofs.expr.number.Goals as goal
+use Rattle.check_expr.proofs.expr.typed_number.Goals as goal
 
 pub returns-in_err-value-clause-stops : goal.returns-in_err-value-clause-stops
 returns-in_err-value-clause-stops c = λ met. if_err _ _ _ c.from_residual.ensures.1 (stops_bind met _ _ _ _ _ (stops_as met _ _ _ _ _ (ap (λ z. typed_value (scope_in c.args.library.now c.args.cx.now) z (scalar_of (expr_at c.args.library.now.nodes) c.args.ty) c.args.at) (to_z-of_z w64 c.args.value c.ranges.value)) (c.in_err-value.ensures.stops met)))
