@@ -13,4 +13,4 @@ pub returns-in-Err-clause-stops : goal.returns-in-Err-clause-stops
 returns-in-Err-clause-stops c = (subst (λ s. Stops c.args.known.now (expr (expr_at c.args.library.now.nodes c.args.e) (scope_in c.args.library.now s) c.args.need c.args.wants.now) s c.in-Err.fault c.walk.new.cx) c.begin.ensures c.in-Err.ensures.stops).runs
 
 pub returns-in-Err-clause-unchanged : goal.returns-in-Err-clause-unchanged
-returns-in-Err-clause-unchanged c = restored _ _ _ _ _ _ c.begin.ensures c.in-Err.ensures.stops.keeps c.next.ensures c.height.ensures c.restore.ensures
+returns-in-Err-clause-unchanged c = restored c.args.cx.now _ _ _ _ _ c.begin.ensures c.in-Err.ensures.stops.keeps c.next-next.ensures c.height-height.ensures c.restore.ensures
