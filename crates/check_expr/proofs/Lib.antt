@@ -8,3 +8,4 @@ pub mod Obeyed
 pub mod Overlapping
 pub mod Named
 pub mod Scopes
+pub mod Walks

@@ -16,3 +16,4 @@ pub mod Steps
 pub mod Calls
 pub mod Numbers
 pub mod Tests
+pub mod Forms

@@ -322,6 +322,7 @@ fn vector_rules(at: Spot, plain: bool, len: i64) -> Result<u32, ExprFault>
 }
 
 /// The value of a call of `vector` with a length and further arguments.
+#[cycle(expression)]
 fn vector_of(
     library: &Library,
     cx: &mut Context,
@@ -345,6 +346,7 @@ fn vector_of(
 }
 
 /// The value of a call of `vector`.
+#[cycle(expression)]
 fn vector_value(
     library: &Library,
     cx: &mut Context,
@@ -375,6 +377,7 @@ fn ask_of(gate: BuiltIn) -> Ask
 }
 
 /// The values of a call of a gate, of `dup` or of `measure`.
+#[cycle(expression)]
 fn call_gate(
     library: &Library,
     cx: &mut Context,
@@ -396,6 +399,7 @@ fn call_gate(
 }
 
 /// The values of a call of a built-in function.
+#[cycle(expression)]
 pub(crate) fn call_built_in(
     library: &Library,
     cx: &mut Context,

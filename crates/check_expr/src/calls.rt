@@ -23,6 +23,7 @@ use silq_tree::{ExprId, NameId, Spot};
 use silq_types::Known;
 
 /// The values of a call of the function with this name.
+#[cycle(expression)]
 pub(crate) fn call(
     library: &Library,
     cx: &mut Context,

@@ -355,6 +355,7 @@ fn instance_values(
 }
 
 /// The values of a call of a function of the program, by its number.
+#[cycle(expression)]
 pub(crate) fn call_own(
     library: &Library,
     cx: &mut Context,

@@ -1,0 +1,41 @@
+use Rattle.std.proofs.Common.{◌+◌, ◌*◌, max, drop, ◌++◌, List}
+use Rattle.silq_types.specs.declared.values.Value.{Value}
+use Rattle.silq_tree.specs.Arena.{expr_at}
+use Rattle.silq_tree.specs.Standing.{expressions_of}
+use Rattle.silq_tree.proofs.Lists.{exprs_top}
+use Rattle.check_expr.specs.declared.fault.ExprFault.{ExprFault}
+use Rattle.check_expr.specs.Asks.{all_asked}
+use Rattle.check_expr.specs.Expression.{arguments}
+use Rattle.check_expr.specs.State.{State, Keeps, scope_in}
+use Rattle.check_expr.specs.Steps.{Reads, Stops}
+use Rattle.check_expr.proofs.Walks.{Onward}
+use Rattle.check_expr.proofs.+expression.Given as goal
+
+-- an expression's number, and how far above its walk
+
+abbrev pub decreases-expr::walk : goal.decreases-expr::walk
+decreases-expr::walk l = 4 * l.e.number + 3
+
+abbrev pub decreases-expr::unary : goal.decreases-expr::unary
+decreases-expr::unary l = 4 * l.arg.number + 4
+
+abbrev pub decreases-expr::operand : goal.decreases-expr::operand
+decreases-expr::operand l = 4 * l.e.number + 4
+
+abbrev pub decreases-expr::operands : goal.decreases-expr::operands
+decreases-expr::operands l = 4 * max l.sides.0.number l.sides.1.number + 5
+
+abbrev pub decreases-expr::binary : goal.decreases-expr::binary
+decreases-expr::binary l = 4 * max l.sides.0.number l.sides.1.number + 6
+
+abbrev pub decreases-expr::tuple : goal.decreases-expr::tuple
+decreases-expr::tuple l = 4 * exprs_top l.items.now + 1
+
+abbrev pub decreases-expr::arguments : goal.decreases-expr::arguments
+decreases-expr::arguments l = 4 * exprs_top l.items.now
+
+abbrev pub decreases-calls::call : goal.decreases-calls::call
+decreases-calls::call l = 4 * exprs_top l.args.now + 2
+
+abbrev pub invariant-expr::arguments-loop-i : goal.invariant-expr::arguments-loop-i
+invariant-expr::arguments-loop-i l = Onward l.fn.known l.fn.library (expr_at l.fn.library.nodes) l.fn.other l.fn.items l.fn.asks l.fn.cx l.values l.i l.cx
