@@ -140,12 +140,6 @@ expr::arguments-loop-i-init t c = let K = c.args.known.now in subst (λ vs. Onwa
 pub expr::arguments-returns-clause-reads : goal.expr::arguments-returns-clause-reads
 expr::arguments-returns-clause-reads t c = let K = c.args.known.now in onward_all K _ _ _ _ _ _ _ _ _ c.loop-i.invariant (omega arith)
 
-pub calls::call-returns-clause-reads : goal.calls::call-returns-clause-reads
-calls::call-returns-clause-reads t c = ?
-
-pub calls::call-returns-clause-stops : goal.calls::call-returns-clause-stops
-calls::call-returns-clause-stops t c = ?
-
 pub built_in::call_gate-returns-in_err-built_in_rules-clause-stops : goal.built_in::call_gate-returns-in_err-built_in_rules-clause-stops
 built_in::call_gate-returns-in_err-built_in_rules-clause-stops t c = if_err _ _ _ c.from_residual.ensures.1 (stops_then c.args.known.now _ _ _ _ _ (c.in_err-built_in_rules.ensures.stops c.args.known.now))
 
