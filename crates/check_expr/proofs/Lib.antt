@@ -15,3 +15,6 @@ pub mod UnknownNames
 pub mod PlaceSteps
 pub mod PlaceBlocks
 pub mod NamedParts
+pub mod Called
+pub mod Scopes
+pub mod Walks

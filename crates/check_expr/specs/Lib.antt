@@ -15,3 +15,7 @@ pub mod Asks
 pub mod State
 pub mod Faults
 pub mod Steps
+pub mod Calls
+pub mod Numbers
+pub mod Tests
+pub mod Forms

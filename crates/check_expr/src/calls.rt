@@ -10,15 +10,20 @@ ghost use Rattle.check_expr.specs.State.{scope_in};
 ghost use Rattle.check_expr.specs.Steps.{Reads, Stops};
 ghost use Rattle.check_expr.specs.Uses.{built_in, find_fun};
 
+use crate::built_in::call_built_in;
 use crate::context::Context;
 use crate::expr::ValueList;
-use crate::fault::{CheckFault, ExprFault};
+use crate::fault::ExprFault;
 use crate::library::Library;
 use crate::need::Need;
+use crate::own::call_own;
+use crate::rule;
+use crate::values::broken;
 use silq_tree::{ExprId, NameId, Spot};
 use silq_types::Known;
 
 /// The values of a call of the function with this name.
+#[cycle(expression)]
 pub(crate) fn call(
     library: &Library,
     cx: &mut Context,
@@ -35,6 +40,11 @@ pub(crate) fn call(
     ensures reads { IfOk result (λ vs. Reads known.now (call_found (scope_in library.now cx.old) (built_in library.now.words fun) (find_fun (scope_in library.now cx.old).before fun) (expressions_of (expr_at library.now.nodes) statics.now) (expressions_of (expr_at library.now.nodes) args.now) at need (λ asked. arguments (expressions_of (expr_at library.now.nodes) args.now) (scope_in library.now cx.old) needs.Held asked) (later_arguments (expressions_of (expr_at library.now.nodes) args.now) (scope_in library.now cx.old))) cx.old vs cx.new) }
     ensures stops { IfErr result (λ f. Stops known.now (call_found (scope_in library.now cx.old) (built_in library.now.words fun) (find_fun (scope_in library.now cx.old).before fun) (expressions_of (expr_at library.now.nodes) statics.now) (expressions_of (expr_at library.now.nodes) args.now) at need (λ asked. arguments (expressions_of (expr_at library.now.nodes) args.now) (scope_in library.now cx.old) needs.Held asked) (later_arguments (expressions_of (expr_at library.now.nodes) args.now) (scope_in library.now cx.old))) cx.old f cx.new) }
 {
-    // TO DO
-    Err(ExprFault::Fault(CheckFault::Memory))
+    match library.built_in(fun) {
+        Some(word) => call_built_in(library, cx, word, statics, args, at, need, known),
+        None => match library.find(fun, cx.this()) {
+            Some(number) => call_own(library, cx, number, statics, args, at, need, known),
+            None => Err(broken(rule::NAME_TAKEN, at)),
+        },
+    }
 }

@@ -123,6 +123,13 @@ impl Context {
         self.height
     }
 
+    /// The next new place.
+    pub fn next(&self) -> u128
+        ensures { result ≡ self.now.next }
+    {
+        self.next
+    }
+
     /// The values of static names.
     pub fn statics(&self) -> &Statics
         ensures { result.now ≡ self.now.statics }

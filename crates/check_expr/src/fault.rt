@@ -2,6 +2,7 @@
 
 ghost use Rattle.std.specs.Prelude.{◌≡◌};
 ghost use Rattle.check_expr.specs.declared.fault.CheckFault.TheVariants as checks;
+ghost use Rattle.check_expr.specs.declared.fault.ExprFault.TheVariants as stops;
 
 use silq_io::{LimitKind, What};
 use silq_tree::Spot;
@@ -34,5 +35,13 @@ impl From<AllocError> for CheckFault {
 
     fn from(_: AllocError) -> CheckFault {
         CheckFault::Memory
+    }
+}
+
+impl From<AllocError> for ExprFault {
+    ghost from_gives = { λ _ e. e ≡ stops.Fault checks.Memory };
+
+    fn from(_: AllocError) -> ExprFault {
+        ExprFault::Fault(CheckFault::Memory)
     }
 }

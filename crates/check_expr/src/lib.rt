@@ -6,6 +6,7 @@
 //! `State`, `Library` and `Steps` say how the code is held against it.
 
 mod asked;
+mod built_in;
 mod calls;
 pub mod context;
 pub mod expr;
@@ -18,11 +19,15 @@ mod obey;
 mod part_types;
 mod part_uses;
 mod parts;
+mod operators;
+mod own;
 pub mod places;
 mod reach;
 pub mod rule;
 mod unknown;
+mod signatures;
 pub mod uses;
+mod values;
 pub mod words;
 
 pub use context::{Context, PartList};

@@ -170,7 +170,7 @@ fn needs_of_built_in(alloc: Global, word: BuiltIn) -> Result<List<Need>, AllocEr
 
 /// What a call of a function of the program asks.
 #[tactic(auto, using(crate::proofs::NamedParts::own_needs_are))]
-fn needs_of_own(library: &Library, found: Option<u32>) -> Result<List<Need>, AllocError>
+pub(crate) fn needs_of_own(library: &Library, found: Option<u32>) -> Result<List<Need>, AllocError>
     requires { IfSome found (λ n. n < length library.now.funs) }
     ensures { IfOk result (λ asked. asked ≡ asked_by_own (option_map (found_at library.now) found)) }
 {
