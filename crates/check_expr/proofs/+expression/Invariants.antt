@@ -14,28 +14,28 @@ use Rattle.check_expr.proofs.+expression.Given as goal
 -- an expression's number, and how far above its walk
 
 abbrev pub decreases-expr::walk : goal.decreases-expr::walk
-decreases-expr::walk l = 4 * l.e.number + 3
+decreases-expr::walk l = 8 * l.e.number + 7
 
 abbrev pub decreases-expr::unary : goal.decreases-expr::unary
-decreases-expr::unary l = 4 * l.arg.number + 4
+decreases-expr::unary l = 8 * l.arg.number + 8
 
 abbrev pub decreases-expr::operand : goal.decreases-expr::operand
-decreases-expr::operand l = 4 * l.e.number + 4
+decreases-expr::operand l = 8 * l.e.number + 8
 
 abbrev pub decreases-expr::operands : goal.decreases-expr::operands
-decreases-expr::operands l = 4 * max l.sides.0.number l.sides.1.number + 5
+decreases-expr::operands l = 8 * max l.sides.0.number l.sides.1.number + 9
 
 abbrev pub decreases-expr::binary : goal.decreases-expr::binary
-decreases-expr::binary l = 4 * max l.sides.0.number l.sides.1.number + 6
+decreases-expr::binary l = 8 * max l.sides.0.number l.sides.1.number + 10
 
 abbrev pub decreases-expr::tuple : goal.decreases-expr::tuple
-decreases-expr::tuple l = 4 * exprs_top l.items.now + 1
+decreases-expr::tuple l = 8 * exprs_top l.items.now + 1
 
 abbrev pub decreases-expr::arguments : goal.decreases-expr::arguments
-decreases-expr::arguments l = 4 * exprs_top l.items.now
+decreases-expr::arguments l = 8 * exprs_top l.items.now
 
 abbrev pub decreases-calls::call : goal.decreases-calls::call
-decreases-calls::call l = 4 * exprs_top l.args.now + 2
+decreases-calls::call l = 8 * exprs_top l.args.now + 4
 
 abbrev pub invariant-expr::arguments-loop-i : goal.invariant-expr::arguments-loop-i
 invariant-expr::arguments-loop-i l = Onward l.fn.known l.fn.library (expr_at l.fn.library.nodes) l.fn.other l.fn.items l.fn.asks l.fn.cx l.values l.i l.cx
