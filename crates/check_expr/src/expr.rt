@@ -25,7 +25,9 @@ use crate::need::Need;
 use crate::operators::{binary_value, unary_value};
 use crate::places::use_place;
 use crate::rule;
-use crate::values::{alone, broken, is_static, is_tuple, single, static_number, static_value, suits, typed_value};
+use crate::values::{
+    alone, broken, is_static, is_tuple, single, static_number, static_value, suits, typed_value,
+};
 use silq_tree::node::{PlaceNode, ScalarNode};
 use silq_tree::{BinaryOp, Expr, ExprId, Spot, UnaryOp};
 use silq_types::{Known, List, Shape, Ty, Value};
@@ -36,7 +38,14 @@ pub type ValueList = List<Value>;
 
 /// Checks one expression, and gives its values. `wants` are the types that static expressions take: for a tuple one for each item,
 /// else at most one. After an `Err` the context is as it was.
-pub fn expr(library: &Library, cx: &mut Context, e: ExprId, need: Need, wants: &[Ty], known: &Known) -> Result<ValueList, ExprFault>
+pub fn expr(
+    library: &Library,
+    cx: &mut Context,
+    e: ExprId,
+    need: Need,
+    wants: &[Ty],
+    known: &Known,
+) -> Result<ValueList, ExprFault>
     requires id { e.number < length library.now.nodes.exprs }
     requires this { cx.old.this < length library.now.funs }
     ensures values { IfOk result (λ vs. Reads known.now (expr_of (expr_at library.now.nodes e) (scope_in library.now cx.old) need wants.now) (record cx.old { start = cx.old.vars }) vs cx.new) }
@@ -57,7 +66,14 @@ pub fn expr(library: &Library, cx: &mut Context, e: ExprId, need: Need, wants: &
 
 /// The values of items in turn, one of each, asked so; items beyond the last that is asked are used as `other`, and no type is asked of them.
 #[cycle(expression)]
-pub(crate) fn arguments(library: &Library, cx: &mut Context, items: &[ExprId], other: Need, asks: &[Ask], known: &Known) -> Result<ValueList, ExprFault>
+pub(crate) fn arguments(
+    library: &Library,
+    cx: &mut Context,
+    items: &[ExprId],
+    other: Need,
+    asks: &[Ask],
+    known: &Known,
+) -> Result<ValueList, ExprFault>
     requires ids { AreExprsBelow (length library.now.nodes.exprs) items.now }
     requires this { cx.old.this < length library.now.funs }
     ensures reads { IfOk result (λ vs. Reads known.now (arguments_of (expressions_of (expr_at library.now.nodes) items.now) (scope_in library.now cx.old) other (all_asked asks.now)) cx.old vs cx.new) }
@@ -80,7 +96,14 @@ pub(crate) fn arguments(library: &Library, cx: &mut Context, items: &[ExprId], o
 
 /// The walk of an expression: `expr` without taking back what was changed.
 #[cycle(expression)]
-pub(crate) fn walk(library: &Library, cx: &mut Context, e: ExprId, need: Need, wants: &[Ty], known: &Known) -> Result<ValueList, ExprFault>
+pub(crate) fn walk(
+    library: &Library,
+    cx: &mut Context,
+    e: ExprId,
+    need: Need,
+    wants: &[Ty],
+    known: &Known,
+) -> Result<ValueList, ExprFault>
     requires id { e.number < length library.now.nodes.exprs }
     requires this { cx.old.this < length library.now.funs }
     ensures reads { IfOk result (λ vs. Reads known.now (expr_of (expr_at library.now.nodes e) (scope_in library.now cx.old) need wants.now) cx.old vs cx.new) }
@@ -97,7 +120,16 @@ pub(crate) fn walk(library: &Library, cx: &mut Context, e: ExprId, need: Need, w
             statics,
             args,
             at,
-        } => call(library, cx, *fun, statics.as_slice(), args.as_slice(), *at, need, known),
+        } => call(
+            library,
+            cx,
+            *fun,
+            statics.as_slice(),
+            args.as_slice(),
+            *at,
+            need,
+            known,
+        ),
         Expr::Tuple { items, .. } => tuple(library, cx, items.as_slice(), need, wants, known),
         Expr::Unary { op, arg, at } => unary(library, cx, *op, *arg, *at, known),
         Expr::Binary {
@@ -115,7 +147,13 @@ pub(crate) fn walk(library: &Library, cx: &mut Context, e: ExprId, need: Need, w
 // ---- the forms of an expression
 
 /// The values of a number that is not static, and so has a type.
-fn number(library: &Library, cx: &mut Context, value: i64, ty: Option<ScalarNode>, at: Spot) -> Result<ValueList, ExprFault>
+fn number(
+    library: &Library,
+    cx: &mut Context,
+    value: i64,
+    ty: Option<ScalarNode>,
+    at: Spot,
+) -> Result<ValueList, ExprFault>
     requires { AreExprsBelow (length library.now.nodes.exprs) (number_exprs ty) }
     ensures reads { (met : Signatures) → IfSome ty (λ k. IfOk result (λ vs. Reads met (number_values (scope_in library.now cx.old) value (scalar_of (expr_at library.now.nodes) k) at) cx.old vs cx.new)) }
     ensures stops { (met : Signatures) → IfSome ty (λ k. IfErr result (λ f. Stops met (number_values (scope_in library.now cx.old) value (scalar_of (expr_at library.now.nodes) k) at) cx.old f cx.new)) }
@@ -127,7 +165,13 @@ fn number(library: &Library, cx: &mut Context, value: i64, ty: Option<ScalarNode
 }
 
 /// The values of a number with a type.
-fn typed_number(library: &Library, cx: &mut Context, value: i64, ty: ScalarNode, at: Spot) -> Result<ValueList, ExprFault>
+fn typed_number(
+    library: &Library,
+    cx: &mut Context,
+    value: i64,
+    ty: ScalarNode,
+    at: Spot,
+) -> Result<ValueList, ExprFault>
     requires { AreExprsBelow (length library.now.nodes.exprs) (scalar_exprs ty) }
     ensures reads { (met : Signatures) → IfOk result (λ vs. Reads met (number_values (scope_in library.now cx.old) value (scalar_of (expr_at library.now.nodes) ty) at) cx.old vs cx.new) }
     ensures stops { (met : Signatures) → IfErr result (λ f. Stops met (number_values (scope_in library.now cx.old) value (scalar_of (expr_at library.now.nodes) ty) at) cx.old f cx.new) }
@@ -138,7 +182,13 @@ fn typed_number(library: &Library, cx: &mut Context, value: i64, ty: ScalarNode,
 }
 
 /// The values of a place.
-fn part(library: &Library, cx: &mut Context, place: PlaceNode, at: Spot, need: Need) -> Result<ValueList, ExprFault>
+fn part(
+    library: &Library,
+    cx: &mut Context,
+    place: PlaceNode,
+    at: Spot,
+    need: Need,
+) -> Result<ValueList, ExprFault>
     requires parts { AreExprsBelow (length library.now.nodes.exprs) (place_exprs place) }
     requires first { HasFirst place }
     ensures reads { (met : Signatures) → IfOk result (λ vs. Reads met (part_values (scope_in library.now cx.old) (place_of (expr_at library.now.nodes) place) at need) cx.old vs cx.new) }
@@ -151,7 +201,14 @@ fn part(library: &Library, cx: &mut Context, place: PlaceNode, at: Spot, need: N
 
 /// The values of a sign before its operand.
 #[cycle(expression)]
-fn unary(library: &Library, cx: &mut Context, op: UnaryOp, arg: ExprId, at: Spot, known: &Known) -> Result<ValueList, ExprFault>
+fn unary(
+    library: &Library,
+    cx: &mut Context,
+    op: UnaryOp,
+    arg: ExprId,
+    at: Spot,
+    known: &Known,
+) -> Result<ValueList, ExprFault>
     requires id { arg.number < length library.now.nodes.exprs }
     requires this { cx.old.this < length library.now.funs }
     ensures reads { IfOk result (λ vs. Reads known.now (unary_values (scope_in library.now cx.old) op (expr_at library.now.nodes arg) at) cx.old vs cx.new) }
@@ -165,20 +222,38 @@ fn unary(library: &Library, cx: &mut Context, op: UnaryOp, arg: ExprId, at: Spot
 
 /// One operand, of which these types are asked.
 #[cycle(expression)]
-fn operand(library: &Library, cx: &mut Context, e: ExprId, wants: &[Ty], known: &Known) -> Result<Value, ExprFault>
+fn operand(
+    library: &Library,
+    cx: &mut Context,
+    e: ExprId,
+    wants: &[Ty],
+    known: &Known,
+) -> Result<Value, ExprFault>
     requires id { e.number < length library.now.nodes.exprs }
     requires this { cx.old.this < length library.now.funs }
     ensures reads { IfOk result (λ v. Reads known.now (operand_of (scope_in library.now cx.old) (expr_at library.now.nodes e) wants.now) cx.old v cx.new) }
     ensures stops { IfErr result (λ f. Stops known.now (operand_of (scope_in library.now cx.old) (expr_at library.now.nodes e) wants.now) cx.old f cx.new) }
 {
-    let values = walk(library, cx, e, Need::Held, lone_wants(library, e, wants), known)?;
+    let values = walk(
+        library,
+        cx,
+        e,
+        Need::Held,
+        lone_wants(library, e, wants),
+        known,
+    )?;
     let value = single(library, e, &values)?;
     Ok(value)
 }
 
 /// Two operands in turn. A static one takes the type of the other, so on the left its number is told first and held against its type last.
 #[cycle(expression)]
-fn operands(library: &Library, cx: &mut Context, sides: (ExprId, ExprId), known: &Known) -> Result<(Value, Value), ExprFault>
+fn operands(
+    library: &Library,
+    cx: &mut Context,
+    sides: (ExprId, ExprId),
+    known: &Known,
+) -> Result<(Value, Value), ExprFault>
     requires left { sides.0.number < length library.now.nodes.exprs }
     requires right { sides.1.number < length library.now.nodes.exprs }
     requires this { cx.old.this < length library.now.funs }
@@ -199,7 +274,14 @@ fn operands(library: &Library, cx: &mut Context, sides: (ExprId, ExprId), known:
 
 /// The values of a sign between its operands.
 #[cycle(expression)]
-fn binary(library: &Library, cx: &mut Context, op: BinaryOp, sides: (ExprId, ExprId), at: Spot, known: &Known) -> Result<ValueList, ExprFault>
+fn binary(
+    library: &Library,
+    cx: &mut Context,
+    op: BinaryOp,
+    sides: (ExprId, ExprId),
+    at: Spot,
+    known: &Known,
+) -> Result<ValueList, ExprFault>
     requires left { sides.0.number < length library.now.nodes.exprs }
     requires right { sides.1.number < length library.now.nodes.exprs }
     requires this { cx.old.this < length library.now.funs }
@@ -213,7 +295,14 @@ fn binary(library: &Library, cx: &mut Context, op: BinaryOp, sides: (ExprId, Exp
 
 /// The values of a tuple's items, each asked for one of the types.
 #[cycle(expression)]
-fn tuple(library: &Library, cx: &mut Context, items: &[ExprId], need: Need, wants: &[Ty], known: &Known) -> Result<ValueList, ExprFault>
+fn tuple(
+    library: &Library,
+    cx: &mut Context,
+    items: &[ExprId],
+    need: Need,
+    wants: &[Ty],
+    known: &Known,
+) -> Result<ValueList, ExprFault>
     requires ids { AreExprsBelow (length library.now.nodes.exprs) items.now }
     requires this { cx.old.this < length library.now.funs }
     ensures reads { IfOk result (λ vs. Reads known.now (arguments_of (expressions_of (expr_at library.now.nodes) items.now) (scope_in library.now cx.old) need (asked_of_items need wants.now)) cx.old vs cx.new) }
@@ -281,12 +370,10 @@ fn filled(want: Option<Ty>) -> [Ty; 1]
 {
     match want {
         Some(ty) => [ty],
-        None => [
-            Ty {
-                classical: false,
-                shape: Shape::Bit,
-            },
-        ],
+        None => [Ty {
+            classical: false,
+            shape: Shape::Bit,
+        }],
     }
 }
 

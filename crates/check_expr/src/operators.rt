@@ -82,7 +82,13 @@ fn unary_rule(op: UnaryOp, at: Spot, shape: Shape) -> Result<(), ExprFault>
 }
 
 /// The value of a sign before its operand.
-pub(crate) fn unary_value(alloc: Global, cx: &mut Context, op: UnaryOp, at: Spot, value: Value) -> Result<ValueList, ExprFault>
+pub(crate) fn unary_value(
+    alloc: Global,
+    cx: &mut Context,
+    op: UnaryOp,
+    at: Spot,
+    value: Value,
+) -> Result<ValueList, ExprFault>
     ensures reads { (met : Signatures) → IfOk result (λ vs. Reads met (value_unary op at value) cx.old vs cx.new) }
     ensures stops { (met : Signatures) → IfErr result (λ f. Stops met (value_unary op at value) cx.old f cx.new) }
 {
@@ -92,7 +98,14 @@ pub(crate) fn unary_value(alloc: Global, cx: &mut Context, op: UnaryOp, at: Spot
 }
 
 /// The rules of a sign between its operands.
-fn binary_rules(library: &Library, cx: &Context, op: BinaryOp, sides: (ExprId, ExprId), at: Spot, values: (Value, Value)) -> Result<(), ExprFault>
+fn binary_rules(
+    library: &Library,
+    cx: &Context,
+    op: BinaryOp,
+    sides: (ExprId, ExprId),
+    at: Spot,
+    values: (Value, Value),
+) -> Result<(), ExprFault>
     requires left { sides.0.number < length library.now.nodes.exprs }
     requires right { sides.1.number < length library.now.nodes.exprs }
     ensures reads { (met : Signatures) → IfOk result (λ u. Reads met (rules at (binary_tests (scope_in library.now cx.now) op (expr_at library.now.nodes sides.0) (expr_at library.now.nodes sides.1) cx.now.vars values.0 values.1)) cx.now u cx.now) }
@@ -103,22 +116,46 @@ fn binary_rules(library: &Library, cx: &Context, op: BinaryOp, sides: (ExprId, E
         Ok(clash) => clash,
         Err(_) => return Err(ExprFault::Fault(CheckFault::Memory)),
     };
-    obey(at, &[
-        (!(is_same_shape(x, y) && binary_fits(op, x)), rule::WRONG_TYPE),
-        (clash, rule::CONSUMED_AND_HELD),
-    ])
+    obey(
+        at,
+        &[
+            (
+                !(is_same_shape(x, y) && binary_fits(op, x)),
+                rule::WRONG_TYPE,
+            ),
+            (clash, rule::CONSUMED_AND_HELD),
+        ],
+    )
 }
 
 /// The one value that a sign between such operands gives.
-fn joined_value(alloc: Global, cx: &mut Context, op: BinaryOp, x: Ty, y: Ty) -> Result<ValueList, ExprFault>
+fn joined_value(
+    alloc: Global,
+    cx: &mut Context,
+    op: BinaryOp,
+    x: Ty,
+    y: Ty,
+) -> Result<ValueList, ExprFault>
     ensures reads { (met : Signatures) → IfOk result (λ vs. Reads met (by_type (x.classical && y.classical) (shape_binary op x.shape)) cx.old vs cx.new) }
     ensures stops { (met : Signatures) → IfErr result (λ f. Stops met (by_type (x.classical && y.classical) (shape_binary op x.shape)) cx.old f cx.new) }
 {
-    typed_by(alloc, cx, x.classical && y.classical, binary_shape(op, x.shape))
+    typed_by(
+        alloc,
+        cx,
+        x.classical && y.classical,
+        binary_shape(op, x.shape),
+    )
 }
 
 /// The value of a sign between its operands.
-pub(crate) fn binary_value(library: &Library, cx: &mut Context, op: BinaryOp, sides: (ExprId, ExprId), at: Spot, values: (Value, Value)) -> Result<ValueList, ExprFault>
+pub(crate) fn binary_value(
+    library: &Library,
+    cx: &mut Context,
+    op: BinaryOp,
+    sides: (ExprId, ExprId),
+    at: Spot,
+    values: (Value, Value),
+) -> Result<ValueList, ExprFault>
     requires left { sides.0.number < length library.now.nodes.exprs }
     requires right { sides.1.number < length library.now.nodes.exprs }
     ensures reads { (met : Signatures) → IfOk result (λ vs. Reads met (value_binary (scope_in library.now cx.old) op (expr_at library.now.nodes sides.0) (expr_at library.now.nodes sides.1) at values.0 values.1) cx.old vs cx.new) }

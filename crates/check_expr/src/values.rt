@@ -92,7 +92,12 @@ pub(crate) fn new_value(cx: &mut Context, ty: Ty, origin: Origin) -> Result<Valu
 
 /// The one value of a type, with a new place.
 #[tactic(auto, using(crate::proofs::Sequence::reads_bind, crate::proofs::Sequence::stops_bind, crate::proofs::Sequence::stops_later))]
-pub(crate) fn one_value(alloc: Global, cx: &mut Context, ty: Ty, origin: Origin) -> Result<ValueList, ExprFault>
+pub(crate) fn one_value(
+    alloc: Global,
+    cx: &mut Context,
+    ty: Ty,
+    origin: Origin,
+) -> Result<ValueList, ExprFault>
     ensures reads { (met : Signatures) → IfOk result (λ vs. Reads met (value_one ty origin) cx.old vs cx.new) }
     ensures stops { (met : Signatures) → IfErr result (λ f. Stops met (value_one ty origin) cx.old f cx.new) }
 {
@@ -102,7 +107,12 @@ pub(crate) fn one_value(alloc: Global, cx: &mut Context, ty: Ty, origin: Origin)
 }
 
 /// The one value of a type that is computed from such values, with a new place.
-pub(crate) fn typed_by(alloc: Global, cx: &mut Context, classical: bool, shape: Shape) -> Result<ValueList, ExprFault>
+pub(crate) fn typed_by(
+    alloc: Global,
+    cx: &mut Context,
+    classical: bool,
+    shape: Shape,
+) -> Result<ValueList, ExprFault>
     ensures reads { (met : Signatures) → IfOk result (λ vs. Reads met (by_type classical shape) cx.old vs cx.new) }
     ensures stops { (met : Signatures) → IfErr result (λ f. Stops met (by_type classical shape) cx.old f cx.new) }
 {
@@ -212,7 +222,12 @@ fn static_fits(library: &Library, e: ExprId, ty: Ty, z: i64) -> Result<(), ExprF
 }
 
 /// A static expression takes this type.
-fn static_typed(library: &Library, cx: &mut Context, e: ExprId, ty: Ty) -> Result<ValueList, ExprFault>
+fn static_typed(
+    library: &Library,
+    cx: &mut Context,
+    e: ExprId,
+    ty: Ty,
+) -> Result<ValueList, ExprFault>
     requires { e.number < length library.now.nodes.exprs }
     ensures reads { (met : Signatures) → IfOk result (λ vs. Reads met (value_static (scope_in library.now cx.old) (expr_at library.now.nodes e) (ty ∷ [])) cx.old vs cx.new) }
     ensures stops { (met : Signatures) → IfErr result (λ f. Stops met (value_static (scope_in library.now cx.old) (expr_at library.now.nodes e) (ty ∷ [])) cx.old f cx.new) }
@@ -224,7 +239,12 @@ fn static_typed(library: &Library, cx: &mut Context, e: ExprId, ty: Ty) -> Resul
 }
 
 /// A static expression takes the one type that is asked where it stands.
-pub(crate) fn static_value(library: &Library, cx: &mut Context, e: ExprId, wants: &[Ty]) -> Result<ValueList, ExprFault>
+pub(crate) fn static_value(
+    library: &Library,
+    cx: &mut Context,
+    e: ExprId,
+    wants: &[Ty],
+) -> Result<ValueList, ExprFault>
     requires { e.number < length library.now.nodes.exprs }
     ensures reads { (met : Signatures) → IfOk result (λ vs. Reads met (value_static (scope_in library.now cx.old) (expr_at library.now.nodes e) wants.now) cx.old vs cx.new) }
     ensures stops { (met : Signatures) → IfErr result (λ f. Stops met (value_static (scope_in library.now cx.old) (expr_at library.now.nodes e) wants.now) cx.old f cx.new) }
@@ -236,7 +256,12 @@ pub(crate) fn static_value(library: &Library, cx: &mut Context, e: ExprId, wants
 }
 
 /// The type of a number at this place.
-fn number_type(library: &Library, cx: &Context, ty: ScalarNode, at: Spot) -> Result<Scalar, ExprFault>
+fn number_type(
+    library: &Library,
+    cx: &Context,
+    ty: ScalarNode,
+    at: Spot,
+) -> Result<Scalar, ExprFault>
     requires { AreExprsBelow (length library.now.nodes.exprs) (scalar_exprs ty) }
     ensures reads { (met : Signatures) → IfOk result (λ k. Reads met (of_result (type_of_scalar cx.now.statics (name_is_known (scope_in library.now cx.now) cx.now.vars) (scalar_of (expr_at library.now.nodes) ty) at)) cx.now k cx.now) }
     ensures stops { (met : Signatures) → IfErr result (λ f. Stops met (of_result (type_of_scalar cx.now.statics (name_is_known (scope_in library.now cx.now) cx.now.vars) (scalar_of (expr_at library.now.nodes) ty) at)) cx.now f cx.now) }
@@ -264,7 +289,13 @@ fn number_value(cx: &mut Context, scalar: Scalar) -> Result<Value, ExprFault>
 }
 
 /// The value of a number with a type: the names of the width come before its size, and the size before the number.
-pub(crate) fn typed_value(library: &Library, cx: &mut Context, number: i64, ty: ScalarNode, at: Spot) -> Result<Value, ExprFault>
+pub(crate) fn typed_value(
+    library: &Library,
+    cx: &mut Context,
+    number: i64,
+    ty: ScalarNode,
+    at: Spot,
+) -> Result<Value, ExprFault>
     requires { AreExprsBelow (length library.now.nodes.exprs) (scalar_exprs ty) }
     ensures reads { (met : Signatures) → IfOk result (λ v. Reads met (value_typed (scope_in library.now cx.old) number (scalar_of (expr_at library.now.nodes) ty) at) cx.old v cx.new) }
     ensures stops { (met : Signatures) → IfErr result (λ f. Stops met (value_typed (scope_in library.now cx.old) number (scalar_of (expr_at library.now.nodes) ty) at) cx.old f cx.new) }
@@ -304,16 +335,24 @@ pub(crate) fn single(library: &Library, e: ExprId, values: &ValueList) -> Result
 }
 
 /// The value has the type that is asked, `!` aside, and is classical where that is asked.
-pub(crate) fn suits(library: &Library, e: ExprId, want: Option<Ty>, value: Value) -> Result<(), ExprFault>
+pub(crate) fn suits(
+    library: &Library,
+    e: ExprId,
+    want: Option<Ty>,
+    value: Value,
+) -> Result<(), ExprFault>
     requires { e.number < length library.now.nodes.exprs }
     ensures reads { (met : Signatures) (s : State) → IfOk result (λ u. Reads met (value_suits (expr_at library.now.nodes e) (types_of want) value) s u s) }
     ensures stops { (met : Signatures) (s : State) → IfErr result (λ f. Stops met (value_suits (expr_at library.now.nodes e) (types_of want) value) s f s) }
 {
     match want {
-        Some(ty) => obey(spot_of(library, e), &[
-            (!is_same_shape(ty.shape, value.ty.shape), rule::WRONG_TYPE),
-            (ty.classical && !value.ty.classical, rule::NOT_CLASSICAL),
-        ]),
+        Some(ty) => obey(
+            spot_of(library, e),
+            &[
+                (!is_same_shape(ty.shape, value.ty.shape), rule::WRONG_TYPE),
+                (ty.classical && !value.ty.classical, rule::NOT_CLASSICAL),
+            ],
+        ),
         None => Ok(()),
     }
 }

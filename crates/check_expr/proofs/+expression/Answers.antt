@@ -42,25 +42,25 @@ pub expr::operand-returns-clause-reads : goal.expr::operand-returns-clause-reads
 expr::operand-returns-clause-reads t c = let K = c.args.known.now in (reads_bind K _ _ _ _ _ _ _ (reads_as K _ _ _ _ _ (ap (λ w. expr (expr_at c.args.library.now.nodes c.args.e) (scope_in c.args.library.now c.args.cx.now) needs.Held w) c.lone_wants.ensures) c.in_ok-values.ensures.reads) (c.in_ok-value.ensures.reads K _))
 
 pub expr::operands-returns-in_err-static_number-clause-stops : goal.expr::operands-returns-in_err-static_number-clause-stops
-expr::operands-returns-in_err-static_number-clause-stops t c = let K = c.args.known.now in if_err _ _ _ c.from_residual.ensures.1 (left_static_number K c.args.library.now (expr_at c.args.library.now.nodes c.args.sides.0) (expr_at c.args.library.now.nodes c.args.sides.1)  _ _ _ (sym c.is_static.ensures ∙ c.if-is_static.true) (c.in_err-static_number.ensures.stops K))
+expr::operands-returns-in_err-static_number-clause-stops t c = let K = c.args.known.now in if_err _ _ _ c.from_residual.ensures.1 (left_static_number K c.args.library.now (expr_at c.args.library.now.nodes c.args.sides.0) (expr_at c.args.library.now.nodes c.args.sides.1) _ _ _ (sym c.is_static.ensures ∙ c.if-is_static.true) (c.in_err-static_number.ensures.stops K))
 
 pub expr::operands-returns-in_err-y-clause-stops : goal.expr::operands-returns-in_err-y-clause-stops
-expr::operands-returns-in_err-y-clause-stops t c = let K = c.args.known.now in if_err _ _ _ c.from_residual-in_err-y.ensures.1 (left_static_right K c.args.library.now (expr_at c.args.library.now.nodes c.args.sides.0) (expr_at c.args.library.now.nodes c.args.sides.1)  _ _ _ _ (sym c.is_static.ensures ∙ c.if-is_static.true) (c.in_ok-static_number.ensures.reads K) c.in_err-y.ensures.stops)
+expr::operands-returns-in_err-y-clause-stops t c = let K = c.args.known.now in if_err _ _ _ c.from_residual-in_err-y.ensures.1 (left_static_right K c.args.library.now (expr_at c.args.library.now.nodes c.args.sides.0) (expr_at c.args.library.now.nodes c.args.sides.1) _ _ _ _ (sym c.is_static.ensures ∙ c.if-is_static.true) (c.in_ok-static_number.ensures.reads K) c.in_err-y.ensures.stops)
 
 pub expr::operands-returns-in_err-x-clause-stops : goal.expr::operands-returns-in_err-x-clause-stops
-expr::operands-returns-in_err-x-clause-stops t c = let K = c.args.known.now in if_err _ _ _ c.from_residual-in_err-x.ensures.1 (left_static_last K c.args.library.now (expr_at c.args.library.now.nodes c.args.sides.0) (expr_at c.args.library.now.nodes c.args.sides.1)  _ _ _ _ _ _ (sym c.is_static.ensures ∙ c.if-is_static.true) (c.in_ok-static_number.ensures.reads K) c.in_ok-y.ensures.reads c.in_err-x.ensures.stops)
+expr::operands-returns-in_err-x-clause-stops t c = let K = c.args.known.now in if_err _ _ _ c.from_residual-in_err-x.ensures.1 (left_static_last K c.args.library.now (expr_at c.args.library.now.nodes c.args.sides.0) (expr_at c.args.library.now.nodes c.args.sides.1) _ _ _ _ _ _ (sym c.is_static.ensures ∙ c.if-is_static.true) (c.in_ok-static_number.ensures.reads K) c.in_ok-y.ensures.reads c.in_err-x.ensures.stops)
 
 pub expr::operands-returns-in_ok-x-clause-reads : goal.expr::operands-returns-in_ok-x-clause-reads
-expr::operands-returns-in_ok-x-clause-reads t c = let K = c.args.known.now in (left_static K c.args.library.now (expr_at c.args.library.now.nodes c.args.sides.0) (expr_at c.args.library.now.nodes c.args.sides.1)  _ _ _ _ _ _ (sym c.is_static.ensures ∙ c.if-is_static.true) (c.in_ok-static_number.ensures.reads K) c.in_ok-y.ensures.reads c.in_ok-x.ensures.reads)
+expr::operands-returns-in_ok-x-clause-reads t c = let K = c.args.known.now in (left_static K c.args.library.now (expr_at c.args.library.now.nodes c.args.sides.0) (expr_at c.args.library.now.nodes c.args.sides.1) _ _ _ _ _ _ (sym c.is_static.ensures ∙ c.if-is_static.true) (c.in_ok-static_number.ensures.reads K) c.in_ok-y.ensures.reads c.in_ok-x.ensures.reads)
 
 pub expr::operands-returns-in_err-x-2-clause-stops : goal.expr::operands-returns-in_err-x-2-clause-stops
-expr::operands-returns-in_err-x-2-clause-stops t c = let K = c.args.known.now in if_err _ _ _ c.from_residual-in_err-x-2.ensures.1 (left_first_stops K c.args.library.now (expr_at c.args.library.now.nodes c.args.sides.0) (expr_at c.args.library.now.nodes c.args.sides.1)  _ _ _ (sym c.is_static.ensures ∙ c.if-is_static.false) c.in_err-x-2.ensures.stops)
+expr::operands-returns-in_err-x-2-clause-stops t c = let K = c.args.known.now in if_err _ _ _ c.from_residual-in_err-x-2.ensures.1 (left_first_stops K c.args.library.now (expr_at c.args.library.now.nodes c.args.sides.0) (expr_at c.args.library.now.nodes c.args.sides.1) _ _ _ (sym c.is_static.ensures ∙ c.if-is_static.false) c.in_err-x-2.ensures.stops)
 
 pub expr::operands-returns-in_err-y-2-clause-stops : goal.expr::operands-returns-in_err-y-2-clause-stops
-expr::operands-returns-in_err-y-2-clause-stops t c = let K = c.args.known.now in if_err _ _ _ c.from_residual-in_err-y-2.ensures.1 (left_first_right K c.args.library.now (expr_at c.args.library.now.nodes c.args.sides.0) (expr_at c.args.library.now.nodes c.args.sides.1)  _ _ _ _ _ (sym c.is_static.ensures ∙ c.if-is_static.false) c.in_ok-x-2.ensures.reads c.in_err-y-2.ensures.stops)
+expr::operands-returns-in_err-y-2-clause-stops t c = let K = c.args.known.now in if_err _ _ _ c.from_residual-in_err-y-2.ensures.1 (left_first_right K c.args.library.now (expr_at c.args.library.now.nodes c.args.sides.0) (expr_at c.args.library.now.nodes c.args.sides.1) _ _ _ _ _ (sym c.is_static.ensures ∙ c.if-is_static.false) c.in_ok-x-2.ensures.reads c.in_err-y-2.ensures.stops)
 
 pub expr::operands-returns-in_ok-y-2-clause-reads : goal.expr::operands-returns-in_ok-y-2-clause-reads
-expr::operands-returns-in_ok-y-2-clause-reads t c = let K = c.args.known.now in (left_first K c.args.library.now (expr_at c.args.library.now.nodes c.args.sides.0) (expr_at c.args.library.now.nodes c.args.sides.1)  _ _ _ _ _ (sym c.is_static.ensures ∙ c.if-is_static.false) c.in_ok-x-2.ensures.reads c.in_ok-y-2.ensures.reads)
+expr::operands-returns-in_ok-y-2-clause-reads t c = let K = c.args.known.now in (left_first K c.args.library.now (expr_at c.args.library.now.nodes c.args.sides.0) (expr_at c.args.library.now.nodes c.args.sides.1) _ _ _ _ _ (sym c.is_static.ensures ∙ c.if-is_static.false) c.in_ok-x-2.ensures.reads c.in_ok-y-2.ensures.reads)
 
 pub expr::binary-returns-in_err-values-clause-stops : goal.expr::binary-returns-in_err-values-clause-stops
 expr::binary-returns-in_err-values-clause-stops t c = let K = c.args.known.now in if_err _ _ _ c.from_residual.ensures.1 (stops_bind K _ _ _ _ _ c.in_err-values.ensures.stops)
@@ -120,19 +120,19 @@ pub expr::arguments-walk-requires : goal.expr::arguments-walk-requires
 expr::arguments-walk-requires t c = let K = c.args.known.now in (omega (arith, c.decreases, expr_below_top c.args.items.now c.loop-i.i (record { number = 0 }) c.loop-i-test.true), ((expr_below _ c.args.items.now c.loop-i.i (record { number = 0 }) c.requires.ids c.loop-i-test.true), (subst (λ n. n < length c.args.library.now.funs) (sym c.loop-i.invariant.keeps.this) c.requires.this)))
 
 pub expr::arguments-returns-in_err-list-clause-stops : goal.expr::arguments-returns-in_err-list-clause-stops
-expr::arguments-returns-in_err-list-clause-stops t c = let K = c.args.known.now in if_err _ _ _ c.from_residual.ensures.1 (item_stops K _ _ _ _ _ _ _ _ _ _ c.loop-i.invariant c.loop-i-test.true _ c.ask_at-ask.ensures _ _ c.lone_need-need.ensures (c.lone_wants-wants.ensures ∙ ap (lone_wants (expr_at c.args.library.now.nodes (get_or c.args.items.now c.loop-i.i (record { number = 0 })))) c.wanted.ensures)  _ _ c.in_err-list.ensures.stops)
+expr::arguments-returns-in_err-list-clause-stops t c = let K = c.args.known.now in if_err _ _ _ c.from_residual.ensures.1 (item_stops K _ _ _ _ _ _ _ _ _ _ c.loop-i.invariant c.loop-i-test.true _ c.ask_at-ask.ensures _ _ c.lone_need-need.ensures (c.lone_wants-wants.ensures ∙ ap (lone_wants (expr_at c.args.library.now.nodes (get_or c.args.items.now c.loop-i.i (record { number = 0 })))) c.wanted.ensures) _ _ c.in_err-list.ensures.stops)
 
 pub expr::arguments-returns-in_err-value-clause-stops : goal.expr::arguments-returns-in_err-value-clause-stops
-expr::arguments-returns-in_err-value-clause-stops t c = let K = c.args.known.now in if_err _ _ _ c.from_residual-in_err-value.ensures.1 (single_stops K _ _ _ _ _ _ _ _ _ _ c.loop-i.invariant c.loop-i-test.true _ c.ask_at-ask.ensures _ _ c.lone_need-need.ensures (c.lone_wants-wants.ensures ∙ ap (lone_wants (expr_at c.args.library.now.nodes (get_or c.args.items.now c.loop-i.i (record { number = 0 })))) c.wanted.ensures)   _ _ c.in_ok-list.ensures.reads  _ _ (c.in_err-value.ensures.stops K _))
+expr::arguments-returns-in_err-value-clause-stops t c = let K = c.args.known.now in if_err _ _ _ c.from_residual-in_err-value.ensures.1 (single_stops K _ _ _ _ _ _ _ _ _ _ c.loop-i.invariant c.loop-i-test.true _ c.ask_at-ask.ensures _ _ c.lone_need-need.ensures (c.lone_wants-wants.ensures ∙ ap (lone_wants (expr_at c.args.library.now.nodes (get_or c.args.items.now c.loop-i.i (record { number = 0 })))) c.wanted.ensures) _ _ c.in_ok-list.ensures.reads _ _ (c.in_err-value.ensures.stops K _))
 
 pub expr::arguments-returns-in_err-suits-clause-stops : goal.expr::arguments-returns-in_err-suits-clause-stops
-expr::arguments-returns-in_err-suits-clause-stops t c = let K = c.args.known.now in if_err _ _ _ c.from_residual-in_err-suits.ensures.1 (suits_stops K _ _ _ _ _ _ _ _ _ _ c.loop-i.invariant c.loop-i-test.true _ c.ask_at-ask.ensures _ _ c.lone_need-need.ensures (c.lone_wants-wants.ensures ∙ ap (lone_wants (expr_at c.args.library.now.nodes (get_or c.args.items.now c.loop-i.i (record { number = 0 })))) c.wanted.ensures)   _ _ c.in_ok-list.ensures.reads   _ (c.in_ok-value.ensures.reads K _)  _ _ (c.in_err-suits.ensures.stops K _))
+expr::arguments-returns-in_err-suits-clause-stops t c = let K = c.args.known.now in if_err _ _ _ c.from_residual-in_err-suits.ensures.1 (suits_stops K _ _ _ _ _ _ _ _ _ _ c.loop-i.invariant c.loop-i-test.true _ c.ask_at-ask.ensures _ _ c.lone_need-need.ensures (c.lone_wants-wants.ensures ∙ ap (lone_wants (expr_at c.args.library.now.nodes (get_or c.args.items.now c.loop-i.i (record { number = 0 })))) c.wanted.ensures) _ _ c.in_ok-list.ensures.reads _ (c.in_ok-value.ensures.reads K _) _ _ (c.in_err-suits.ensures.stops K _))
 
 pub expr::arguments-returns-in_err-push-clause-stops : goal.expr::arguments-returns-in_err-push-clause-stops
-expr::arguments-returns-in_err-push-clause-stops t c = let K = c.args.known.now in if_err _ _ _ c.from_residual-in_err-push.ensures.1 (memory_stops K _ _ _ _ _ _ _ _ _ _ c.loop-i.invariant c.loop-i-test.true _ c.ask_at-ask.ensures _ _ c.lone_need-need.ensures (c.lone_wants-wants.ensures ∙ ap (lone_wants (expr_at c.args.library.now.nodes (get_or c.args.items.now c.loop-i.i (record { number = 0 })))) c.wanted.ensures)   _ _ c.in_ok-list.ensures.reads   _ (c.in_ok-value.ensures.reads K _)   (c.in_ok-suits.ensures.reads K _)  _ c.in_err-push.ensures.memory)
+expr::arguments-returns-in_err-push-clause-stops t c = let K = c.args.known.now in if_err _ _ _ c.from_residual-in_err-push.ensures.1 (memory_stops K _ _ _ _ _ _ _ _ _ _ c.loop-i.invariant c.loop-i-test.true _ c.ask_at-ask.ensures _ _ c.lone_need-need.ensures (c.lone_wants-wants.ensures ∙ ap (lone_wants (expr_at c.args.library.now.nodes (get_or c.args.items.now c.loop-i.i (record { number = 0 })))) c.wanted.ensures) _ _ c.in_ok-list.ensures.reads _ (c.in_ok-value.ensures.reads K _) (c.in_ok-suits.ensures.reads K _) _ c.in_err-push.ensures.memory)
 
 pub expr::arguments-loop-i-preserved : goal.expr::arguments-loop-i-preserved
-expr::arguments-loop-i-preserved t c = let K = c.args.known.now in onward K _ _ _ _ _ _ _ _ _ _ c.loop-i.invariant c.loop-i-test.true _ c.ask_at-ask.ensures _ _ c.lone_need-need.ensures (c.lone_wants-wants.ensures ∙ ap (lone_wants (expr_at c.args.library.now.nodes (get_or c.args.items.now c.loop-i.i (record { number = 0 })))) c.wanted.ensures)   _ _ c.in_ok-list.ensures.reads   _ (c.in_ok-value.ensures.reads K _)   (c.in_ok-suits.ensures.reads K _)  _ c.in_ok-push.ensures.ok
+expr::arguments-loop-i-preserved t c = let K = c.args.known.now in onward K _ _ _ _ _ _ _ _ _ _ c.loop-i.invariant c.loop-i-test.true _ c.ask_at-ask.ensures _ _ c.lone_need-need.ensures (c.lone_wants-wants.ensures ∙ ap (lone_wants (expr_at c.args.library.now.nodes (get_or c.args.items.now c.loop-i.i (record { number = 0 })))) c.wanted.ensures) _ _ c.in_ok-list.ensures.reads _ (c.in_ok-value.ensures.reads K _) (c.in_ok-suits.ensures.reads K _) _ c.in_ok-push.ensures.ok
 
 pub expr::arguments-loop-i-init : goal.expr::arguments-loop-i-init
 expr::arguments-loop-i-init t c = let K = c.args.known.now in subst (λ vs. Onward K c.args.library.now (expr_at c.args.library.now.nodes) c.args.other c.args.items.now c.args.asks.now c.args.cx.now vs 0 c.args.cx.now) (sym c.new-values.ensures) (onward_none K _ _ _ _ _ _)

@@ -1,7 +1,5 @@
-use mathlib.Core.Path.{sym, ap, ◌∙◌}
-use Rattle.check_expr.specs.Expression.{fits_rule, one_value, new_value, origin_of, unary_value, unary_fits, binary_fits, typed_by, binary_shape, lone_need, lone_wants, is_tuple, operands}
-use Rattle.check_expr.proofs.Sequence.{keeps_refl, reads_bind, reads_then, reads_back, reads_variables, stops_bind, stops_then, stops_later, stops_after}
-use Rattle.check_expr.proofs.Scopes.{if_err, reads_result, stops_result, same_scope, reads_as, stops_as}
+use Rattle.check_expr.proofs.Sequence.{reads_bind, reads_then, reads_variables, stops_then, stops_later, stops_after}
+use Rattle.check_expr.proofs.Scopes.{if_err}
 use Rattle.check_expr.proofs.operators.binary_value.Goals as goal
 
 pub returns-in_err-binary_rules-clause-stops : goal.returns-in_err-binary_rules-clause-stops

@@ -1,4 +1,3 @@
-use Rattle.std.proofs.Common.{rules}
 use Rattle.check_expr.proofs.Sequence.{reads_bind, reads_back}
 use Rattle.check_expr.proofs.values.new_value.Goals as goal
 

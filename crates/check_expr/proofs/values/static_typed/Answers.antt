@@ -1,10 +1,10 @@
-use mathlib.Core.Path.{sym, ap, ◌∙◌}
-use Rattle.check_expr.specs.Expression.{fits_rule, one_value, new_value, origin_of, unary_value, unary_fits, binary_fits, typed_by, binary_shape, lone_need, lone_wants, is_tuple, operands}
-use Rattle.check_expr.proofs.Sequence.{keeps_refl, reads_bind, reads_then, reads_back, reads_variables, stops_bind, stops_then, stops_later, stops_after}
-use Rattle.check_expr.proofs.Scopes.{if_err, reads_result, stops_result, same_scope, reads_as, stops_as}
+use mathlib.Core.Path.{ap}
+use Rattle.check_expr.specs.Expression.{fits_rule}
+use Rattle.check_expr.proofs.Sequence.{reads_bind, reads_then, stops_bind, stops_then, stops_later, stops_after}
+use Rattle.check_expr.proofs.Scopes.{if_err, reads_as, stops_as}
 use Rattle.std.proofs.Common.{rules, w64}
 use Rattle.std.proofs.lemmas.Int.{to_z-of_z}
-use Rattle.silq_types.specs.Types.{at, quantum, single_shape}
+use Rattle.silq_types.specs.Types.{at}
 use Rattle.silq_tree.specs.Arena.{expr_at}
 use Rattle.check_expr.proofs.values.static_typed.Goals as goal
 
