@@ -37,7 +37,7 @@ use Rattle.check_expr.specs.declared.need.Need.TheVariants as needs
 
 -- ---- parts
 
-found_part : (vars : List Var) (p : Part) (v : Var) → find_var vars p ≡ Some v → v.part ≡ p
+pub found_part : (vars : List Var) (p : Part) (v : Var) → find_var vars p ≡ Some v → v.part ≡ p
 found_part [] p v e = absurd (grind (arith, e))
 found_part (w ∷ ws) p v e = go (found_part ws p v) (same_part w.part p) refl e
   where

@@ -16,7 +16,7 @@ use silq_tree::{Expr, ExprId, NameId, Spot};
 use silq_types::Part;
 
 /// A whole variable.
-pub(crate) fn variable(name: NameId) -> Part
+pub fn variable(name: NameId) -> Part
     ensures { result ≡ variable_of name }
 {
     Part {

@@ -38,7 +38,7 @@ pub(crate) fn broken(rule: u8, at: Spot) -> ExprFault
 }
 
 /// The place of an expression's first token.
-pub(crate) fn spot_of(library: &Library, e: ExprId) -> Spot
+pub fn spot_of(library: &Library, e: ExprId) -> Spot
     requires { e.number < length library.now.nodes.exprs }
     ensures { result ≡ spot_at (expr_at library.now.nodes e) }
 {
@@ -167,7 +167,7 @@ pub(crate) fn single_type(scalar: Scalar) -> Ty
 }
 
 /// Whether two shapes are the same.
-pub(crate) fn is_same_shape(a: Shape, b: Shape) -> bool
+pub fn is_same_shape(a: Shape, b: Shape) -> bool
     ensures { result ≡ shape_eq a b }
 {
     match (a, b) {
@@ -182,7 +182,7 @@ pub(crate) fn is_same_shape(a: Shape, b: Shape) -> bool
 // ---- static values
 
 /// Whether an expression is static.
-pub(crate) fn is_static(library: &Library, cx: &Context, e: ExprId) -> bool
+pub fn is_static(library: &Library, cx: &Context, e: ExprId) -> bool
     requires { e.number < length library.now.nodes.exprs }
     ensures { result ≡ static_is cx.now.statics (expr_at library.now.nodes e) }
 {
@@ -309,7 +309,7 @@ pub(crate) fn typed_value(
 // ---- one value, of a type
 
 /// Whether an expression is a tuple.
-pub(crate) fn is_tuple(library: &Library, e: ExprId) -> bool
+pub fn is_tuple(library: &Library, e: ExprId) -> bool
     requires { e.number < length library.now.nodes.exprs }
     ensures { result ≡ tuple_is (expr_at library.now.nodes e) }
 {
@@ -320,7 +320,7 @@ pub(crate) fn is_tuple(library: &Library, e: ExprId) -> bool
 }
 
 /// One value, where just one may stand.
-pub(crate) fn single(library: &Library, e: ExprId, values: &ValueList) -> Result<Value, ExprFault>
+pub fn single(library: &Library, e: ExprId, values: &ValueList) -> Result<Value, ExprFault>
     requires { e.number < length library.now.nodes.exprs }
     ensures reads { (met : Signatures) (s : State) → IfOk result (λ v. Reads met (single_value (expr_at library.now.nodes e) values.now) s v s) }
     ensures stops { (met : Signatures) (s : State) → IfErr result (λ f. Stops met (single_value (expr_at library.now.nodes e) values.now) s f s) }
@@ -335,12 +335,7 @@ pub(crate) fn single(library: &Library, e: ExprId, values: &ValueList) -> Result
 }
 
 /// The value has the type that is asked, `!` aside, and is classical where that is asked.
-pub(crate) fn suits(
-    library: &Library,
-    e: ExprId,
-    want: Option<Ty>,
-    value: Value,
-) -> Result<(), ExprFault>
+pub fn suits(library: &Library, e: ExprId, want: Option<Ty>, value: Value) -> Result<(), ExprFault>
     requires { e.number < length library.now.nodes.exprs }
     ensures reads { (met : Signatures) (s : State) → IfOk result (λ u. Reads met (value_suits (expr_at library.now.nodes e) (types_of want) value) s u s) }
     ensures stops { (met : Signatures) (s : State) → IfErr result (λ f. Stops met (value_suits (expr_at library.now.nodes e) (types_of want) value) s f s) }
