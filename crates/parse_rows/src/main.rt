@@ -1,10 +1,8 @@
 #![tactic(auto)]
 //! Reads a text from each line and prints the parser's answer to it, on a line of its own. What has to be printed is told
-//! from the grammar by hand, in the files `stdin` and `stdout`; `row` says how a line spells a text.
+//! from the grammar by hand, in the files `stdin` and `stdout`; `row_texts` says how a line spells a text.
 
-mod row;
-
-use row::text_of;
+use row_texts::text_of;
 use silq_lex::LexCause;
 use silq_parse::{ParseFault, parse};
 use std::alloc::Global;

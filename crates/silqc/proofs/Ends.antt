@@ -1,8 +1,8 @@
 -- How a command ends.
-use Rattle.std.proofs.Common.{◌≡◌, ℕ, ◌<◌, ◌≤◌, List, length, Option, Some, None, IfSome, refl, subst, sym, ◌∙◌}
+use Rattle.std.proofs.Common.{◌≡◌, ℕ, ◌<◌, ◌≤◌, List, length, Option, Some, None, IfSome, refl, subst, sym}
 use Rattle.silq_io.specs.Sinks.{Adds, Breaks}
 use Rattle.silqc.specs.declared.status.Status.TheVariants.{OverBudget}
-use Rattle.silqc.specs.Job.{Job, IsJob}
+use Rattle.silqc.specs.Job.{Job}
 use Rattle.silqc.specs.Reading.{AreRead}
 use Rattle.silqc.specs.Form.{Form}
 use Rattle.silqc.specs.Program.{first_file_fault, IsProgram}
@@ -10,16 +10,6 @@ use Rattle.silqc.specs.Headline.{PutsText, BreaksText, HasOtherForm, NeedsMore}
 use Rattle.silqc.specs.Text.{text_of}
 use Rattle.silqc.proofs.Faults.{whole}
 use Rattle.silqc.proofs.Meaning.{compiles}
-
--- the words are one job
-pub one_job : (words : List (List ℕ)) (j k : Job) → IsJob words j → IsJob words k → j ≡ k
-one_job words j k h g =
-    let e = sym h.words_are ∙ g.words_are in
-    let file : j.file ≡ k.file = cc in
-    let entry : j.entry ≡ k.entry = cc in
-    let number : h.number ≡ g.number = cc in
-    let budget : j.budget ≡ k.budget = cc (h.budget_is_told.value, g.budget_is_told.value) in
-    λ i. record { file = file i; entry = entry i; budget = budget i }
 
 module _ (job : Job) (held left : Option (List ℕ)) (bytes : List ℕ) (read : AreRead 1048576 held left bytes) (short : length bytes ≤ 1048576) where
   pub other_form : (first_file_fault bytes ≡ None) × ((form : Form) → IsProgram job.entry bytes form → ⊥) → IfSome held (HasOtherForm job)

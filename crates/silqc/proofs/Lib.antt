@@ -1,5 +1,6 @@
 pub mod Digits
 pub mod Five
+pub mod Statics
 pub mod Qubits
 pub mod Steps
 pub mod Meaning
@@ -8,6 +9,8 @@ pub mod Places
 pub mod Faults
 pub mod Programs
 pub mod Ends
+pub mod Checks
+pub mod Commands
 pub mod FormTrees
 pub mod FormNames
 pub mod FormWhole

@@ -1,5 +1,5 @@
 -- What it is for a text to be the right one for a program.
-use Rattle.std.specs.Prelude.{◌≡◌, ℕ, ◌<◌, ◌≤◌, Bool, true, false, List, length, map, replicate, get_or, Option, Some, None, IfSome}
+use Rattle.std.specs.Prelude.{◌≡◌, ℕ, ◌<◌, ◌≤◌, Bool, true, false, List, length, map, replicate, get_or, Option, None}
 use Rattle.silq_io.specs.Sinks.{Adds, Breaks}
 use Rattle.amp_core.specs.Amplitude.{none, Same}
 use Rattle.sum_laws.specs.Terms.{amplitude, pick}
@@ -7,9 +7,9 @@ use Rattle.gate_core.specs.declared.gate.Gate.{Gate}
 use Rattle.gate_core.specs.Meaning.{meaning, joined}
 use Rattle.gate_core.specs.Circuit.{IsSound}
 use Rattle.gate_core.specs.Local.{Absent, AllDiffer, AllBelow}
-use Rattle.silqc.specs.Job.{Job, IsJob}
+use Rattle.silqc.specs.Job.{Job}
 use Rattle.silqc.specs.Form.{Form}
-use Rattle.silqc.specs.Program.{FileFault, first_file_fault, IsProgram}
+use Rattle.silqc.specs.Program.{first_file_fault, IsProgram}
 use Rattle.silqc.specs.Source.{source_amplitude}
 use Rattle.qasm_write.specs.Written.{written_text}
 
@@ -63,10 +63,6 @@ PutsText job bytes old new = (text : List ℕ) × Compiles job bytes text × Add
 abbrev pub BreaksText : Job → List ℕ → Option (List ℕ) → Option (List ℕ) → Type 0
 BreaksText job bytes old new = (text : List ℕ) × Compiles job bytes text × Breaks old new text
 
--- the file has this fault first
-abbrev pub HasFault : FileFault → Job → List ℕ → Type 0
-HasFault fault job bytes = first_file_fault bytes ≡ Some fault
-
 -- the file is a program, and of no form that is compiled
 abbrev pub HasOtherForm : Job → List ℕ → Type 0
 HasOtherForm job bytes = (first_file_fault bytes ≡ None) × ((form : Form) → IsProgram job.entry bytes form → ⊥)
@@ -74,7 +70,3 @@ HasOtherForm job bytes = (first_file_fault bytes ≡ None) × ((form : Form) →
 -- the file is a program of the form, and each circuit of it that is written has these qubits, which are more than the budget
 abbrev pub NeedsMore : ℕ → ℕ → Job → List ℕ → Type 0
 NeedsMore least budget job bytes = (form : Form) × IsProgram job.entry bytes form × (least ≡ form.bits) × (budget ≡ job.budget) × (job.budget < form.bits)
-
--- for the job that the words are, and the bytes of its file where they are told
-abbrev pub ForJob : List (List ℕ) → (List ℕ → Option (List ℕ)) → (Job → List ℕ → Type 0) → Type 0
-ForJob words held P = (job : Job) → IsJob words job → IfSome (held job.file) (P job)

@@ -1,5 +1,5 @@
 -- The words of a command.
-use Rattle.std.specs.Prelude.{◌≡◌, ◌≢◌, ℕ, ◌+◌, ◌*◌, ◌-◌, ◌<◌, ◌≤◌, true, List, [], ◌∷◌, length, codes}
+use Rattle.std.specs.Prelude.{◌≡◌, ◌≢◌, ℕ, ℤ, pos, ◌+◌, ◌*◌, ◌-◌, ◌<◌, ◌≤◌, true, List, [], ◌∷◌, length, codes}
 use Rattle.std.specs.Char.{is_ascii_digit}
 
 -- What is compiled: the function of this name in the file of this name, with at most so many qubits.
@@ -39,3 +39,30 @@ pub record IsJob (words : List (List ℕ)) (job : Job) : Type 0 where
   pub file_is_plain : IsPlain job.file
   pub entry_is_plain : IsPlain job.entry
   pub budget_is_told : IsBudget number job.budget
+
+-- What is checked: the function of this name in the file of this name, with these values of its static parameters.
+pub record CheckJob : Type 0 where
+  pub file : List ℕ
+  pub entry : List ℕ
+  pub statics : List ℤ
+
+-- A static value: 1 to 18 digits.
+pub record IsStatic (word : List ℕ) (value : ℤ) : Type 0 where
+  pub digits : AreDigits word
+  pub some : 0 < length word
+  pub few : length word ≤ 18
+  pub is : value ≡ pos (value_after 0 word)
+
+abbrev pub AreStatics : List (List ℕ) → List ℤ → Type 0
+AreStatics [] [] = Unit {0}
+AreStatics (w ∷ ws) (z ∷ zs) = IsStatic w z × AreStatics ws zs
+AreStatics ws zs = ⊥
+
+-- `check FILE ENTRY STATIC..`
+pub record IsCheckJob (words : List (List ℕ)) (job : CheckJob) : Type 0 where
+  pub numbers : List (List ℕ)
+  pub words_are : words ≡ codes "check" ∷ job.file ∷ job.entry ∷ numbers
+  pub file_is_named : job.file ≢ []
+  pub file_is_plain : IsPlain job.file
+  pub entry_is_plain : IsPlain job.entry
+  pub statics_are_told : AreStatics numbers job.statics

@@ -3,8 +3,11 @@ pub mod Form
 pub mod Program
 pub mod Source
 pub mod Headline
+pub mod Typed
+pub mod Command
 pub mod Note
 pub mod Reading
 pub mod Refusal
 pub mod Text
 pub mod FormParts
+pub mod Ending

@@ -2,14 +2,33 @@
 use Rattle.std.specs.Prelude.{ℕ, ◌⊎◌, List, [], ◌++◌, codes, decimal, Option}
 use Rattle.silq_io.specs.Counts.{Rose}
 use Rattle.silq_io.specs.Sinks.{Adds, Breaks}
-use Rattle.silq_io.specs.Names.{cause_name}
+use Rattle.silq_io.specs.Names.{cause_name, what_name, limit_name}
 use Rattle.silqc.specs.declared.status.Status.{Status}
-use Rattle.silqc.specs.declared.status.Status.TheVariants.{Done, Words, ReadFault, Syntax, OverBudget, WriteFault, Memory, Unbuilt}
+use Rattle.silqc.specs.declared.status.Status.TheVariants.{Done, Words, ReadFault, Syntax, Names, Typing, Unsupported, Limit, OverBudget, WriteFault, Memory, Unbuilt}
 
 -- `silqc: 1:19: syntax: form`
 abbrev pub syntax_note : List ℕ → ℕ → ℕ → List ℕ
 syntax_note cause line col =
     codes "silqc: " ++ (decimal line ++ (codes ":" ++ (decimal col ++ (codes ": syntax: " ++ (cause ++ codes "\n")))))
+
+-- `silqc: 1:1: names: K1`
+abbrev pub names_note : ℕ → ℕ → ℕ → List ℕ
+names_note rule line col =
+    codes "silqc: " ++ (decimal line ++ (codes ":" ++ (decimal col ++ (codes ": names: K" ++ (decimal rule ++ codes "\n")))))
+
+-- `silqc: 1:27: type: K11`
+abbrev pub typing_note : ℕ → ℕ → ℕ → List ℕ
+typing_note rule line col =
+    codes "silqc: " ++ (decimal line ++ (codes ":" ++ (decimal col ++ (codes ": type: K" ++ (decimal rule ++ codes "\n")))))
+
+-- `silqc: 1:20: unsupported: angle`
+abbrev pub unsupported_note : List ℕ → ℕ → ℕ → List ℕ
+unsupported_note what line col =
+    codes "silqc: " ++ (decimal line ++ (codes ":" ++ (decimal col ++ (codes ": unsupported: " ++ (what ++ codes "\n")))))
+
+-- `silqc: limit: depth 65`
+abbrev pub limit_note : List ℕ → ℕ → List ℕ
+limit_note which count = codes "silqc: limit: " ++ (which ++ (codes " " ++ (decimal count ++ codes "\n")))
 
 -- `silqc: over budget: least 2, budget 1`
 abbrev pub budget_note : ℕ → ℕ → List ℕ
@@ -22,6 +41,10 @@ note_of Done = []
 note_of Words = codes "silqc: the words are not a job\n"
 note_of ReadFault = codes "silqc: reading failed\n"
 note_of (Syntax cause line col) = syntax_note (cause_name cause) line col
+note_of (Names rule line col) = names_note rule line col
+note_of (Typing rule line col) = typing_note rule line col
+note_of (Unsupported what line col) = unsupported_note (what_name what) line col
+note_of (Limit which count) = limit_note (limit_name which) count
 note_of (OverBudget least budget) = budget_note least budget
 note_of WriteFault = codes "silqc: writing failed\n"
 note_of Memory = codes "silqc: no memory\n"
@@ -33,6 +56,10 @@ code_of Done = 0
 code_of Words = 2
 code_of ReadFault = 3
 code_of (Syntax cause line col) = 4
+code_of (Names rule line col) = 5
+code_of (Typing rule line col) = 6
+code_of (Unsupported what line col) = 7
+code_of (Limit which count) = 8
 code_of (OverBudget least budget) = 10
 code_of WriteFault = 11
 code_of Memory = 12

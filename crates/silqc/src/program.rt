@@ -39,8 +39,8 @@ pub fn read_program(alloc: Global, text: &str, entry: &str) -> Result<Form, Refu
     }
 }
 
-// The refusal by a fault of the parser.
-fn refusal_of(fault: ParseFault) -> Refusal
+/// The refusal by a fault of the parser.
+pub fn refusal_of(fault: ParseFault) -> Refusal
     ensures { result ≡ refusal_by fault }
 {
     match fault {

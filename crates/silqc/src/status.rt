@@ -1,12 +1,12 @@
 //! How a command ends.
 
-ghost use Rattle.std.specs.Prelude.{◌≡◌, ℕ, ◌≤◌, OnOk, OnErr};
+ghost use Rattle.std.specs.Prelude.{◌≡◌, ℕ, ◌≤◌, ◌++◌, codes, decimal, OnOk, OnErr};
 ghost use Rattle.silq_io.specs.Counts.{Rose};
 ghost use Rattle.silq_io.specs.Sinks.{Adds, Breaks};
-ghost use Rattle.silqc.specs.Note.{note_of, syntax_note, budget_note, code_of, Noted};
+ghost use Rattle.silqc.specs.Note.{note_of, syntax_note, unsupported_note, limit_note, budget_note, code_of, Noted};
 
 use qasm_write::{Piece, put_pieces};
-use silq_io::{Failed, Sink, SyntaxCause, put_all};
+use silq_io::{Failed, LimitKind, Sink, SyntaxCause, What, put_all};
 
 /// How a command ends.
 #[derive(Debug, PartialEq, Eq, Drop)]
@@ -24,6 +24,30 @@ pub enum Status {
         line: u32,
         /// Its column, from 1, in characters.
         col: u32,
+    },
+    /// The first broken rule is one of names: K1 or K2.
+    Names {
+        rule: u8,
+        line: u32,
+        col: u32,
+    },
+    /// The first broken rule is one of types: K3 to K23.
+    Typing {
+        rule: u8,
+        line: u32,
+        col: u32,
+    },
+    /// Something that is not supported stands there before any broken rule.
+    Unsupported {
+        what: What,
+        line: u32,
+        col: u32,
+    },
+    /// A limit is passed.
+    Limit {
+        which: LimitKind,
+        /// The count at which the work stopped: the limit and one.
+        count: u64,
     },
     /// The program needs more qubits than the budget has.
     OverBudget {
@@ -48,6 +72,10 @@ impl Status {
             Status::Words => 2,
             Status::ReadFault => 3,
             Status::Syntax { .. } => 4,
+            Status::Names { .. } => 5,
+            Status::Typing { .. } => 6,
+            Status::Unsupported { .. } => 7,
+            Status::Limit { .. } => 8,
             Status::OverBudget { .. } => 10,
             Status::WriteFault => 11,
             Status::Memory => 12,
@@ -67,6 +95,15 @@ impl Status {
             Status::Words => put_all(notes, b"silqc: the words are not a job\n"),
             Status::ReadFault => put_all(notes, b"silqc: reading failed\n"),
             Status::Syntax { cause, line, col } => put_syntax(notes, cause.name(), *line, *col),
+            Status::Names { rule, line, col } => put_rule(notes, ": names: K", *rule, *line, *col),
+            Status::Typing { rule, line, col } => put_rule(notes, ": type: K", *rule, *line, *col),
+            Status::Unsupported { what, line, col } => put_unsupported(
+                notes,
+                what.name(),
+                *line,
+                *col,
+            ),
+            Status::Limit { which, count } => put_limit(notes, which.name(), *count),
             Status::OverBudget { least, budget } => put_over_budget(notes, *least, *budget),
             Status::WriteFault => put_all(notes, b"silqc: writing failed\n"),
             Status::Memory => put_all(notes, b"silqc: no memory\n"),
@@ -99,6 +136,67 @@ fn put_syntax<N: Sink>(notes: &mut N, cause: &str, line: u32, col: u32) -> Resul
             Piece::Number(u64::from(col)),
             Piece::Text(": syntax: "),
             Piece::Text(cause),
+            Piece::Text("\n"),
+        ],
+    )
+}
+
+// Puts the line of a broken rule.
+fn put_rule<N: Sink>(notes: &mut N, kind: &str, rule: u8, line: u32, col: u32) -> Result<(), Failed>
+    ensures ok { OnOk result (Adds (N.put_so_far notes.old) (N.put_so_far notes.new) (codes "silqc: " ++ (decimal line ++ (codes ":" ++ (decimal col ++ (kind.now ++ (decimal rule ++ codes "\n"))))))) }
+    ensures count { N.faults notes.old ≤ N.faults notes.new }
+    ensures failed { OnErr result (Rose (N.faults notes.old) (N.faults notes.new)) }
+    ensures broken { OnErr result (Breaks (N.put_so_far notes.old) (N.put_so_far notes.new) (codes "silqc: " ++ (decimal line ++ (codes ":" ++ (decimal col ++ (kind.now ++ (decimal rule ++ codes "\n"))))))) }
+{
+    put_pieces(
+        notes,
+        &[
+            Piece::Text("silqc: "),
+            Piece::Number(u64::from(line)),
+            Piece::Text(":"),
+            Piece::Number(u64::from(col)),
+            Piece::Text(kind),
+            Piece::Number(u64::from(rule)),
+            Piece::Text("\n"),
+        ],
+    )
+}
+
+// Puts the line of something that is not supported.
+fn put_unsupported<N: Sink>(notes: &mut N, what: &str, line: u32, col: u32) -> Result<(), Failed>
+    ensures ok { OnOk result (Adds (N.put_so_far notes.old) (N.put_so_far notes.new) (unsupported_note what.now line col)) }
+    ensures count { N.faults notes.old ≤ N.faults notes.new }
+    ensures failed { OnErr result (Rose (N.faults notes.old) (N.faults notes.new)) }
+    ensures broken { OnErr result (Breaks (N.put_so_far notes.old) (N.put_so_far notes.new) (unsupported_note what.now line col)) }
+{
+    put_pieces(
+        notes,
+        &[
+            Piece::Text("silqc: "),
+            Piece::Number(u64::from(line)),
+            Piece::Text(":"),
+            Piece::Number(u64::from(col)),
+            Piece::Text(": unsupported: "),
+            Piece::Text(what),
+            Piece::Text("\n"),
+        ],
+    )
+}
+
+// Puts the line of a limit that is passed.
+fn put_limit<N: Sink>(notes: &mut N, which: &str, count: u64) -> Result<(), Failed>
+    ensures ok { OnOk result (Adds (N.put_so_far notes.old) (N.put_so_far notes.new) (limit_note which.now count)) }
+    ensures count { N.faults notes.old ≤ N.faults notes.new }
+    ensures failed { OnErr result (Rose (N.faults notes.old) (N.faults notes.new)) }
+    ensures broken { OnErr result (Breaks (N.put_so_far notes.old) (N.put_so_far notes.new) (limit_note which.now count)) }
+{
+    put_pieces(
+        notes,
+        &[
+            Piece::Text("silqc: limit: "),
+            Piece::Text(which),
+            Piece::Text(" "),
+            Piece::Number(count),
             Piece::Text("\n"),
         ],
     )

@@ -6,6 +6,7 @@ use crate::silqc;
 use crate::status::Status;
 use silq_io::{Failed, Files, MemFiles, MemSink, Sink, Words};
 use std::alloc::{AllocError, Global};
+use std::process::Abort;
 use std::test::Fail;
 
 const ONE: &[u8] = b"def main(x:B):B { x := H(x); return x; }";
@@ -197,14 +198,64 @@ fn rows(rt: HostRuntime) -> Result<(), Fail> {
         ),
     ];
     for case in &cases {
-        let words = words_of(alloc, case.words)?;
-        let mut files = file_of(alloc, case.bytes, case.file_fails)?;
-        let mut out = MemSink::new(alloc, case.room, Vec::new(alloc))?;
-        let mut notes = MemSink::new(alloc, 200, Vec::new(alloc))?;
-        let status = silqc(alloc, &words, &mut files, &mut out, &mut notes);
-        assert_eq!(rt; status.code(), case.code);
-        assert_eq!(rt; out.bytes(), case.out);
-        assert_eq!(rt; notes.bytes(), case.note);
+        check_case(&rt, alloc, case)?;
+    }
+    Ok(())
+}
+
+// Runs a command, which has to end as the case says.
+fn check_case(rt: &impl Abort, alloc: Global, case: &Case) -> Result<(), Fail> {
+    let words = words_of(alloc, case.words)?;
+    let mut files = file_of(alloc, case.bytes, case.file_fails)?;
+    let mut out = MemSink::new(alloc, case.room, Vec::new(alloc))?;
+    let mut notes = MemSink::new(alloc, 200, Vec::new(alloc))?;
+    let status = silqc(alloc, &words, &mut files, &mut out, &mut notes);
+    assert_eq!(rt; status.code(), case.code);
+    assert_eq!(rt; out.bytes(), case.out);
+    assert_eq!(rt; notes.bytes(), case.note);
+    Ok(())
+}
+
+// A check of these bytes, and how it has to end.
+fn checked<'a>(bytes: &'a [u8], code: u8, note: &'a [u8]) -> Case<'a> {
+    Case {
+        words: &["check", "one.slq", "main"],
+        ..refused(bytes, code, note)
+    }
+}
+
+#[test]
+fn checks(rt: HostRuntime) -> Result<(), Fail> {
+    let alloc = rt.alloc();
+    let sized = b"def main[n:!N](x:B):B { return x; }".as_slice();
+    let cases = [
+        no_job(&["check", "one.slq"]),
+        no_job(&["check", "one.slq", "main", "1234567890123456789"]),
+        checked(ONE, 0, b""),
+        Case {
+            words: &["check", "one.slq", "main", "003"],
+            ..checked(sized, 0, b"")
+        },
+        checked(sized, 6, b"silqc: 1:1: type: K21\n"),
+        checked(
+            b"def main() { y := H(0:B); }",
+            6,
+            b"silqc: 1:27: type: K11\n",
+        ),
+        checked(b"", 5, b"silqc: 1:1: names: K1\n"),
+        checked(
+            b"def main(x:B):B { x := rotX(x); return x; }",
+            7,
+            b"silqc: 1:24: unsupported: rotX\n",
+        ),
+        checked(
+            b"def main() { for i in [0..1000000) { phase(0); } }",
+            8,
+            b"silqc: limit: walked 1000001\n",
+        ),
+    ];
+    for case in &cases {
+        check_case(&rt, alloc, case)?;
     }
     Ok(())
 }

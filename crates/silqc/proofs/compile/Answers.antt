@@ -9,8 +9,7 @@ use Rattle.silqc.proofs.compile.Goals as goal
 
 pub returns-in-Err-clause-syntax : goal.returns-in-Err-clause-syntax
 returns-in-Err-clause-syntax g c =
-    syntax_told (record { cause = c.in-Err.fault.cause; line = c.in-Err.fault.line; col = c.in-Err.fault.col }) c.status.result
-    (record { file = c.args.file.now; entry = c.args.entry.now; budget = c.args.budget }) _ _ c.in-Ok.bytes.items c.in-Ok.ensures.read
+    syntax_told (record { cause = c.in-Err.fault.cause; line = c.in-Err.fault.line; col = c.in-Err.fault.col }) c.status.result _ _ c.in-Ok.bytes.items c.in-Ok.ensures.read
     c.status.ensures (rw c.deref.ensures.value at c.in-Err.ensures.fault)
 
 pub returns-in-Err-Fault-clause-syntax : goal.returns-in-Err-Fault-clause-syntax
@@ -18,8 +17,7 @@ returns-in-Err-Fault-clause-syntax g c =
     let told : c.status-in-Err-Fault.result ≡ Syntax c.in-Err-Fault.fault.cause c.in-Err-Fault.fault.line c.in-Err-Fault.fault.col =
     cc (c.status-in-Err-Fault.ensures, c.in-Err-Fault.fault-is) in
     let same : c.in-Ok-text.text.now ≡ c.in-Ok.bytes.items = c.in-Ok-text.ensures.same ∙ c.deref.ensures.value in
-    syntax_told (record { cause = c.in-Err-Fault.fault.cause; line = c.in-Err-Fault.fault.line; col = c.in-Err-Fault.fault.col }) c.status-in-Err-Fault.result
-    (record { file = c.args.file.now; entry = c.args.entry.now; budget = c.args.budget }) _ _ c.in-Ok.bytes.items c.in-Ok.ensures.read
+    syntax_told (record { cause = c.in-Err-Fault.fault.cause; line = c.in-Err-Fault.fault.line; col = c.in-Err-Fault.fault.col }) c.status-in-Err-Fault.result _ _ c.in-Ok.bytes.items c.in-Ok.ensures.read
     told (subst (λ t. Refuses c.args.entry.now t (Fault c.in-Err-Fault.fault)) same (rw c.in-Err-Fault.field-0-is at c.in-Err-Fault.ensures.refused))
 
 pub returns-in-Err-OtherForm-clause-unbuilt : goal.returns-in-Err-OtherForm-clause-unbuilt

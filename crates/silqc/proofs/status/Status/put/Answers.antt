@@ -14,3 +14,6 @@ returns-in-Memory-clause-ok g c = rw c.in-Memory.is c.put_all-in-Memory.ensures.
 
 pub returns-in-Memory-clause-broken : goal.returns-in-Memory-clause-broken
 returns-in-Memory-clause-broken g c = rw c.in-Memory.is c.put_all-in-Memory.ensures.broken
+
+pub returns-in-Unsupported-clause-broken : goal.returns-in-Unsupported-clause-broken
+returns-in-Unsupported-clause-broken g c = rw (c.in-Unsupported.is, ← c.name-in-Unsupported.ensures) c.put_unsupported.ensures.broken

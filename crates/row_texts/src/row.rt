@@ -6,7 +6,7 @@
 ghost use Rattle.std.specs.Prelude.{◌≡◌, IfOk, false};
 ghost use Rattle.std.specs.Str.{chars, encode_utf8_all};
 ghost use Rattle.std.specs.String.{string_bytes};
-ghost use Rattle.parse_rows.specs.Spelled.{escaped, spelled, times};
+ghost use Rattle.row_texts.specs.Spelled.{escaped, spelled, times};
 
 use std::alloc::{AllocError, Global};
 

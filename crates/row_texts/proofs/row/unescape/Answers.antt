@@ -7,8 +7,8 @@ use Rattle.std.proofs.lemmas.List.{at_drop_more, append_assoc, drop_all, length_
 use Rattle.std.specs.Char.{encode_utf8}
 use Rattle.std.specs.Str.{chars, encode_utf8_all}
 use Rattle.std.specs.String.{string_bytes}
-use Rattle.parse_rows.specs.Spelled.{escaped, spelled}
-use Rattle.parse_rows.proofs.row.unescape.Goals as goal
+use Rattle.row_texts.specs.Spelled.{escaped, spelled}
+use Rattle.row_texts.proofs.row.unescape.Goals as goal
 
 -- the next character is the first of those to come
 spells_next : (behind : Bool) (cs : List ℕ) (n c : ℕ) → (n < length cs) × (c ≡ get_or cs n c) → spelled behind (drop n cs) ≡ spelled behind (c ∷ drop (n + 1) cs)

@@ -2,8 +2,8 @@
 use Rattle.std.proofs.Common.{◌≡◌, ◌++◌, false, length, drop}
 use Rattle.std.specs.Str.{chars, encode_utf8_all}
 use Rattle.std.specs.String.{string_bytes}
-use Rattle.parse_rows.specs.Spelled.{spelled}
-use Rattle.parse_rows.proofs.row.unescape.Given as goal
+use Rattle.row_texts.specs.Spelled.{spelled}
+use Rattle.row_texts.proofs.row.unescape.Given as goal
 
 abbrev pub invariant-loop-letter : goal.invariant-loop-letter
 invariant-loop-letter l =
