@@ -1,0 +1,35 @@
+#!/bin/sh
+# Times the command `check` of the proved program on three families of programs: one statement in N rounds of a loop, N statements in a
+# row on several variables, and N instances of one function. Prints the seconds and the peak memory in megabytes.
+# Usage: bench/check.sh
+top=$(cd "$(dirname "$0")/.." && pwd) || exit 1
+"$top/silqc" compile "$top/examples/one.slq" main --budget 1 >/dev/null || exit 1
+program=$top/crates/silqc_bin/out/silqc_bin
+file=/tmp/silqc_check.$$
+
+# measure NAME: times the check of the file from `main`.
+measure() {
+    /usr/bin/time -f "%e %M" -o "$file.time" "$program" check "$file" main || exit 1
+    awk -v name="$1" '{ printf "%s %.2f s %.1f MB\n", name, $1, $2 / 1024 }' "$file.time"
+}
+
+for n in 125000 250000 500000 999990; do
+    echo "def main(x:B):B { for i in [0..$n) { x := X(x); } return x; }" >"$file"
+    measure "rounds $n"
+done
+for n in 10000 20000 40000 80000; do
+    awk -v n="$n" 'BEGIN {
+        printf "def main(x:B, y:B, z:B) : B×B×B {"
+        for (i = 0; i < n; i++) printf (i % 2 ? "x := X(x);" : "y ^= x;\n")
+        print "return (x, y, z); }"
+    }' >"$file"
+    measure "statements $n"
+done
+for n in 500 1000 2000 4000; do
+    awk -v n="$n" 'BEGIN {
+        print "def f[n:!N](x:B):B { return x; }"
+        printf "def main(x:B):B { for i in [0..%d) { x := f[i](x); } return x; }\n", n
+    }' >"$file"
+    measure "instances $n"
+done
+rm -f "$file" "$file.time"
