@@ -9,3 +9,4 @@ pub mod Chains
 pub mod Lowest
 pub mod DerivedNests
 pub mod Even
+pub mod Puts

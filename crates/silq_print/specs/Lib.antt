@@ -3,3 +3,5 @@ pub mod Laws
 pub mod Ways
 pub mod Derived
 pub mod Printed
+pub mod Puts
+pub mod Levels

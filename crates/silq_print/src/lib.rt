@@ -1,4 +1,7 @@
 #![tactic(auto)]
-//! Programs as texts: what a text of a program keeps, its places aside.
+//! Programs as texts: how a program is printed, and what a text of a program keeps, its places aside.
 
 pub mod laws;
+mod level;
+mod printer;
+mod terminal;
