@@ -5,3 +5,5 @@ pub mod Derived
 pub mod Printed
 pub mod Puts
 pub mod Levels
+pub mod Styles
+pub mod Depths

@@ -4,7 +4,6 @@ ghost use Rattle.std.specs.Prelude.{◌≡◌, ℕ, ◌≤◌, true, false, List
 ghost use Rattle.silq_io.specs.Counts.{Rose};
 ghost use Rattle.silq_io.specs.Sinks.{Adds, Breaks};
 ghost use Rattle.silq_grammar.specs.declared.token.Token.TheVariants.{Name, Number, Fixed};
-ghost use Rattle.silq_grammar.specs.declared.token.Terminal.TheVariants.{Def, Semicolon};
 ghost use Rattle.silq_print.specs.Bare.{nowhere};
 ghost use Rattle.silq_print.specs.Printed.{token_text, blank_behind, printed};
 ghost use Rattle.silq_print.specs.Puts.{state, Puts};
@@ -137,16 +136,5 @@ impl<'a, S: Sink> Printer<'a, S> {
         ensures puts { Puts true names.now (state self.old.failed (S.put_so_far self.old.out.now) (S.faults self.old.out.now)) (state self.new.failed (S.put_so_far self.new.out.now) (S.faults self.new.out.now)) (Number value nowhere ∷ []) }
     {
         self.put(names, Token::Number(value, NOWHERE))
-    }
-
-    /// Puts a sign between two names or numbers.. twice, to try.
-    #[tactic(auto, using(crate::proofs::Puts::putting))]
-    pub(crate) fn trial(&mut self, names: &Names, id: NameId)
-        ensures same_sink { self.new.out.ghost_name ≡ self.old.out.ghost_name }
-        ensures puts { Puts true names.now (state self.old.failed (S.put_so_far self.old.out.now) (S.faults self.old.out.now)) (state self.new.failed (S.put_so_far self.new.out.now) (S.faults self.new.out.now)) (Fixed Def nowhere ∷ Name id nowhere ∷ Fixed Semicolon nowhere ∷ []) }
-    {
-        self.fixed(names, Terminal::Def);
-        self.name(names, id);
-        self.fixed(names, Terminal::Semicolon);
     }
 }

@@ -1,5 +1,0 @@
-use Rattle.silq_print.proofs.Puts.{puts_token}
-use Rattle.silq_print.proofs.printer.Printer.trial.Goals as goal
-
-pub returns-clause-puts : goal.returns-clause-puts
-returns-clause-puts g c = puts_token c.fixed.ensures.puts (puts_token c.name.ensures.puts c.fixed-2.ensures.puts)
