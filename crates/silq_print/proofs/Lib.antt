@@ -10,3 +10,4 @@ pub mod Lowest
 pub mod DerivedNests
 pub mod Even
 pub mod Puts
+pub mod WaysTexts

@@ -13,11 +13,11 @@ printed_both names (t ∷ ts) us =
     ap (λ w. token_text names t ++ blank_behind t ∷ w) (printed_both names ts us)
     ∙ sym (append_assoc (token_text names t) (blank_behind t ∷ printed names ts) (printed names us))
 
-both_first : (a b : Bool) → (a && b) ≡ true → a ≡ true
+pub both_first : (a b : Bool) → (a && b) ≡ true → a ≡ true
 both_first true b h = refl
 both_first false b h = h
 
-both_second : (a b : Bool) → (a && b) ≡ true → b ≡ true
+pub both_second : (a b : Bool) → (a && b) ≡ true → b ≡ true
 both_second true b h = h
 both_second false b h = cc
 
@@ -71,8 +71,30 @@ puts_weaker w p = record {
   broke = λ h g f. p.broke (w h) g f;
 }
 
+-- tokens and then more that are sound in any case
+pub puts_and : {a : Bool} {names : List (List ℕ)} {s t u : State} {ts us : List Token} → Puts a names s t ts → Puts true names t u us → Puts a names s u (ts ++ us)
+puts_and {a = a} p q = puts_weaker (λ h. cc) (puts_both p q)
+
+-- the same tokens where it is sound
+pub puts_where : {b : Bool} {names : List (List ℕ)} {s t : State} {ts us : List Token} → (b ≡ true → ts ≡ us) → Puts b names s t ts → Puts b names s t us
+puts_where {names = names} {s = s} {t = t} e p = record {
+  kept = p.kept;
+  counted = p.counted;
+  rose = p.rose;
+  put = λ h g f. subst (λ w. Adds s.told t.told (printed names w)) (e h) (p.put h g f);
+  broke = λ h g f. subst (λ w. Breaks s.told t.told (printed names w)) (e h) (p.broke h g f);
+}
+
+-- the other name of what is sound
+pub puts_if : {a b : Bool} {names : List (List ℕ)} {s t : State} {ts : List Token} → a ≡ b → Puts a names s t ts → Puts b names s t ts
+puts_if {names = names} {s = s} {t = t} {ts = ts} e p = subst (λ c. Puts c names s t ts) e p
+
 pub puts_as : {b : Bool} {names : List (List ℕ)} {s t : State} {ts us : List Token} → ts ≡ us → Puts b names s t ts → Puts b names s t us
 puts_as {b = b} {names = names} {s = s} {t = t} e p = subst (Puts b names s t) e p
+
+-- what is left to put: once it is put, all is
+abbrev pub Left : List (List ℕ) → State → Bool → List Token → State → Bool → List Token → Type 0
+Left names start all_sound all now sound rest = (end : State) → Puts sound names now end rest → Puts all_sound names start end all
 
 pub ruleset putting = (puts_none, puts_both, puts_token)
 

@@ -1,5 +1,5 @@
 -- Expressions and their parts, written in a style.
-use Rattle.std.specs.Prelude.{ℕ, zero, suc, ◌+◌, Bool, true, false, ◌&&◌, nat_le, cond, List, [], ◌∷◌, ◌++◌, Option, Some, None}
+use Rattle.std.specs.Prelude.{ℕ, zero, suc, ◌+◌, Bool, true, false, ◌&&◌, nat_le, nat_lt, cond, List, [], ◌∷◌, ◌++◌, Option, Some, None}
 use Rattle.silq_tree.specs.declared.node.NameId.{NameId}
 use Rattle.silq_tree.specs.declared.node.BinaryOp.{BinaryOp}
 use Rattle.silq_tree.specs.declared.node.ExprId.{ExprId}
@@ -8,6 +8,7 @@ use Rattle.silq_tree.specs.Standing.{scalar_of}
 use Rattle.silq_tree.specs.Syntax as tree
 use Rattle.silq_grammar.specs.declared.token.Token.{Token}
 use Rattle.silq_grammar.specs.declared.token.Token.TheVariants.{Fixed}
+use Rattle.silq_grammar.specs.declared.token.Terminal.{Terminal}
 use Rattle.silq_grammar.specs.declared.token.Terminal.TheVariants as t
 use Rattle.silq_grammar.specs.Grammar as g
 use Rattle.silq_grammar.specs.Spelled.{expr_text, scalar_text}
@@ -36,6 +37,11 @@ chain_text tight (suc k) e = way_text tight k e
 -- the left operand of a sign
 abbrev pub left_text : BinaryOp → Bool → ℕ → tree.Expression → List Token
 left_text op tight k e = cond (tight && goes_on_at op (top_level e)) (chain_text tight k e) (operand_text (left_level op) tight e)
+
+-- whether it is written tight
+abbrev pub tight_by : Style → tree.Expression → Bool
+tight_by (Given tight) e = tight
+tight_by (Around n) e = nat_lt 64 (n + depth (least (ways false e)))
 
 abbrev pub written_by : Style → tree.Expression → g.Expr
 written_by (Given tight) e = written tight e
@@ -139,3 +145,7 @@ index_text d = Fixed t.LeftBracket nowhere ∷ (expr_text d ++ (Fixed t.RightBra
 abbrev pub statics_text : List g.Expr → List Token
 statics_text [] = []
 statics_text (d ∷ ds) = Fixed t.LeftBracket nowhere ∷ (list_text (d ∷ ds) ++ (Fixed t.RightBracket nowhere ∷ []))
+
+abbrev pub truth_word : Bool → Terminal
+truth_word true = t.True
+truth_word false = t.False

@@ -7,11 +7,11 @@ ghost use Rattle.silq_tree.specs.Children.{AreExprsBelow, HasFirst, place_exprs,
 ghost use Rattle.silq_grammar.specs.Spelled.{expr_text, scalar_text, place_text, call_text};
 ghost use Rattle.silq_print.specs.Ways.{written};
 ghost use Rattle.silq_print.specs.Levels.{operand_text, top_level, in_parens_if};
-ghost use Rattle.silq_print.specs.Styles.{way_text, chain_text, left_text, written_by, all_by, scalar_by, place_by, call_by, list_text, sound, is_sound, are_sound, is_sound_scalar, is_sound_place, number_of, is_sound_number, number_type_text, index_text, statics_text};
+ghost use Rattle.silq_print.specs.Styles.{way_text, chain_text, left_text, written_by, all_by, scalar_by, place_by, call_by, list_text, sound, is_sound, are_sound, is_sound_scalar, is_sound_place, number_of, is_sound_number, number_type_text, index_text, statics_text, truth_word};
 ghost use Rattle.silq_print.specs.declared.style.Style.TheVariants.{Given};
 ghost use Rattle.silq_print.specs.Puts.{state, Puts};
 
-use crate::depth::{best_way, depth};
+use crate::depth::{best_way, is_tight};
 use crate::level::{Level, goes_on, left_level, level_of, rank, right_level, sign_of, unary_sign};
 use crate::printer::Printer;
 use crate::style::Style;
@@ -36,6 +36,13 @@ pub(crate) fn top_level(tree: &Tree, e: ExprId) -> Level
     }
 }
 
+/// The word of a truth value.
+fn truth(value: bool) -> Terminal
+    ensures { result ≡ truth_word value }
+{
+    if value { Terminal::True } else { Terminal::False }
+}
+
 impl<'a, S: Sink> Printer<'a, S> {
     /// Puts an expression.
     #[cycle(expression)]
@@ -45,10 +52,7 @@ impl<'a, S: Sink> Printer<'a, S> {
         ensures same_sink { self.new.out.ghost_name ≡ self.old.out.ghost_name }
         ensures puts { Puts (is_sound style (expr_at program.now.tree e)) program.now.names (state self.old.failed (S.put_so_far self.old.out.now) (S.faults self.old.out.now)) (state self.new.failed (S.put_so_far self.new.out.now) (S.faults self.new.out.now)) (expr_text (written_by style (expr_at program.now.tree e))) }
     {
-        let tight = match style {
-            Style::Given { tight } => tight,
-            Style::Around { nest } => 64 < nest.saturating_add(u64::from(depth(&program.tree, e, false))),
-        };
+        let tight = is_tight(&program.tree, e, style);
         self.written(program, e, tight)
     }
 
@@ -60,7 +64,7 @@ impl<'a, S: Sink> Printer<'a, S> {
         ensures same_sink { self.new.out.ghost_name ≡ self.old.out.ghost_name }
         ensures puts { Puts (sound tight (expr_at program.now.tree e)) program.now.names (state self.old.failed (S.put_so_far self.old.out.now) (S.faults self.old.out.now)) (state self.new.failed (S.put_so_far self.new.out.now) (S.faults self.new.out.now)) (expr_text (written tight (expr_at program.now.tree e))) }
     {
-        let way = if tight { best_way(&program.tree, e) } else { 0 };
+        let way = best_way(&program.tree, e, tight);
         self.way(program, e, tight, way)
     }
 
@@ -134,12 +138,11 @@ impl<'a, S: Sink> Printer<'a, S> {
         let style = Style::Given { tight };
         match program.tree.expr(e) {
             Expr::Number { value, ty, .. } => {
-                self.number(names, *value);
+                self.number(names, value);
                 self.number_type(program, *ty, style);
             }
             Expr::Truth { value, .. } => {
-                let word = if *value { Terminal::True } else { Terminal::False };
-                self.fixed(names, word);
+                self.fixed(names, truth(*value));
             }
             Expr::Pi { .. } => self.fixed(names, Terminal::Pi),
             Expr::Place { place, .. } => self.place(program, *place, style),

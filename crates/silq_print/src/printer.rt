@@ -131,10 +131,10 @@ impl<'a, S: Sink> Printer<'a, S> {
     }
 
     /// Puts a number.
-    pub(crate) fn number(&mut self, names: &Names, value: i64)
+    pub(crate) fn number(&mut self, names: &Names, value: &i64)
         ensures same_sink { self.new.out.ghost_name ≡ self.old.out.ghost_name }
-        ensures puts { Puts true names.now (state self.old.failed (S.put_so_far self.old.out.now) (S.faults self.old.out.now)) (state self.new.failed (S.put_so_far self.new.out.now) (S.faults self.new.out.now)) (Number value nowhere ∷ []) }
+        ensures puts { Puts true names.now (state self.old.failed (S.put_so_far self.old.out.now) (S.faults self.old.out.now)) (state self.new.failed (S.put_so_far self.new.out.now) (S.faults self.new.out.now)) (Number value.now nowhere ∷ []) }
     {
-        self.put(names, Token::Number(value, NOWHERE))
+        self.put(names, Token::Number(*value, NOWHERE))
     }
 }
