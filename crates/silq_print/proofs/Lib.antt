@@ -11,3 +11,4 @@ pub mod DerivedNests
 pub mod Even
 pub mod Puts
 pub mod WaysTexts
+pub mod Blocks

@@ -7,3 +7,5 @@ pub mod Puts
 pub mod Levels
 pub mod Styles
 pub mod Depths
+pub mod Statements
+pub mod Headers
