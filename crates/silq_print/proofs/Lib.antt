@@ -12,3 +12,5 @@ pub mod Even
 pub mod Puts
 pub mod WaysTexts
 pub mod Blocks
+pub mod Headers
+pub mod Sound

@@ -228,7 +228,7 @@ impl<'a, S: Sink> Printer<'a, S> {
     /// Puts statements in braces.
     #[cycle(statement)]
     #[tactic(auto, using(silq_tree::proofs::Lists::ids))]
-    pub(crate) fn block(&mut self, program: &Program, items: &[StmtId], nest: u64)
+    fn block(&mut self, program: &Program, items: &[StmtId], nest: u64)
         requires below { AreStmtsBelow (length program.now.tree.stmts) items.now }
         requires room { AreStmtsBelow (2 ^ 40 - 2 - nest) items.now }
         ensures same_sink { self.new.out.ghost_name ≡ self.old.out.ghost_name }
@@ -237,6 +237,29 @@ impl<'a, S: Sink> Printer<'a, S> {
         self.fixed(&program.names, Terminal::LeftBrace);
         for item in items {
             self.stmt(program, *item, 1 + nest);
+        }
+        self.fixed(&program.names, Terminal::RightBrace);
+    }
+
+    /// Puts a statement of a function's body.
+    fn body_stmt(&mut self, program: &Program, s: StmtId)
+        requires { s.number < length program.now.tree.stmts }
+        ensures same_sink { self.new.out.ghost_name ≡ self.old.out.ghost_name }
+        ensures puts { Puts (is_sound_stmt 1 (stmt_at program.now.tree s)) program.now.names (state self.old.failed (S.put_so_far self.old.out.now) (S.faults self.old.out.now)) (state self.new.failed (S.put_so_far self.new.out.now) (S.faults self.new.out.now)) (stmt_text (stmt_in 1 (stmt_at program.now.tree s))) }
+    {
+        self.stmt(program, s, 1)
+    }
+
+    /// Puts the body of a function.
+    #[tactic(auto, using(silq_tree::proofs::Lists::ids))]
+    pub(crate) fn body(&mut self, program: &Program, items: &[StmtId])
+        requires { AreStmtsBelow (length program.now.tree.stmts) items.now }
+        ensures same_sink { self.new.out.ghost_name ≡ self.old.out.ghost_name }
+        ensures puts { Puts (are_sound_stmts 1 (statements_of (expr_at program.now.tree) (stmt_at program.now.tree) items.now)) program.now.names (state self.old.failed (S.put_so_far self.old.out.now) (S.faults self.old.out.now)) (state self.new.failed (S.put_so_far self.new.out.now) (S.faults self.new.out.now)) (braces_text 0 (statements_of (expr_at program.now.tree) (stmt_at program.now.tree) items.now)) }
+    {
+        self.fixed(&program.names, Terminal::LeftBrace);
+        for item in items {
+            self.body_stmt(program, *item);
         }
         self.fixed(&program.names, Terminal::RightBrace);
     }

@@ -11,4 +11,6 @@ pub mod print;
 mod printer;
 mod style;
 mod terminal;
+#[cfg(test)]
+mod tests;
 

@@ -30,7 +30,7 @@ impl<'a, S: Sink> Printer<'a, S> {
         self.params(program, fun.params.as_slice());
         self.mark(program, fun.mark);
         self.results(program, fun.results.as_slice());
-        self.block(program, fun.body.items.as_slice(), 0);
+        self.body(program, fun.body.items.as_slice());
     }
 
     /// Puts the functions of a program.

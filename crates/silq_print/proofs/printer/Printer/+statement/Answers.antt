@@ -1,4 +1,5 @@
-use Rattle.std.proofs.Common.{arith, ap, ◌∙◌}
+use Rattle.std.proofs.Common.{arith, ap, ◌∙◌, ◌-◌, ◌^◌}
+use Rattle.silq_tree.proofs.Lists.{stmt_below}
 use Rattle.silq_tree.specs.Arena.{expr_at, stmt_at}
 use Rattle.silq_tree.specs.Standing.{stmt_grown, statements_of, otherwise_of}
 use Rattle.silq_print.proofs.Puts.{puts_both, puts_token, puts_and}
@@ -51,3 +52,8 @@ stmt-returns-in-For-clause-puts g n c =
     rw (c.stmt.ensures.tree ∙ ap (stmt_grown (expr_at tree) (stmt_at tree)) c.in-For.is)
     (puts_loop c.args.nest c.in-For.name (expr_at tree c.in-For.low) (expr_at tree c.in-For.high) (statements_of (expr_at tree) (stmt_at tree) c.in-For.body.items)
     c.in-For.body.end c.in-For.at c.loop_head.ensures.puts (rw c.as_slice-in-For.ensures at c.block-in-For.ensures.puts))
+
+pub block-overflow_add-nest : goal.block-overflow_add-nest
+block-overflow_add-nest g n c =
+    let b = stmt_below (2 ^ 40 - 2 - c.args.nest) c.args.items.now c.loop-item.item-index (record { number = 0 }) c.requires.room c.loop-item-test.true in
+    record { fits = omega (arith, b) }
