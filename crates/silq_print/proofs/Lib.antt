@@ -14,3 +14,4 @@ pub mod WaysTexts
 pub mod Blocks
 pub mod Headers
 pub mod Sound
+pub mod Depths

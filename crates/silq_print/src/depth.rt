@@ -103,7 +103,9 @@ fn least(depths: &[u8; 65]) -> u8
 {
     let mut low = TOO_DEEP;
     for depth in depths {
-        low = low.min(*depth);
+        if *depth < low {
+            low = *depth;
+        }
     }
     low
 }

@@ -1,0 +1,264 @@
+-- Depths up to 64, of the ways to write an expression.
+use Rattle.std.proofs.Common.{◌≡◌, ◌⊎◌, inl, inr, ℕ, zero, suc, ◌+◌, ◌<◌, ◌≤◌, Bool, true, false, ◌&&◌, nat_le, nat_eq, cond, List, [], ◌∷◌, refl, sym, ◌∙◌, ap, arith}
+use Rattle.std.proofs.lemmas.Bool.Decides.{nat_tests}
+use Rattle.silq_tree.specs.declared.node.BinaryOp.{BinaryOp}
+use Rattle.silq_tree.specs.declared.node.BinaryOp.TheVariants as ops
+use Rattle.silq_grammar.specs.Nest.{prod_count, sum_count, and_count, or_count}
+use Rattle.silq_print.specs.Ways.{greater, Written, at_or, at_and, at_cmp, at_sum, at_prod, at_unary, to_expr, to_and, to_cmp, to_sum, to_prod, to_unary, join, depth, Ways, only, also, each_way, least}
+use Rattle.silq_print.specs.Levels.{left_level, right_level, goes_on_at, is_looser}
+use Rattle.silq_print.specs.Depths.{capped, signs, lesser, least_with}
+use Rattle.silq_print.specs.declared.level.Level.{Level}
+use Rattle.silq_print.specs.declared.level.Level.TheVariants as l
+use Rattle.silq_print.proofs.Tops.{expr_top, and_top, cmp_top, sum_top, prod_top, unary_top, test_true, test_false}
+use Rattle.silq_print.proofs.Chains.{top_of, depth_below, top_below}
+use Rattle.silq_print.proofs.WaysTexts.{level}
+
+pub depth_is : (w : Written) → depth w ≡ top_of w
+depth_is w = let a = depth_below w in let b = top_below w in omega arith
+
+pub capped_cases : (n : ℕ) → ((n ≤ 64) × (capped n ≡ n)) ⊎ ((65 ≤ n) × (capped n ≡ 65))
+capped_cases n = at_test (nat_le n 64) refl
+  where
+    at_test : (b : Bool) → nat_le n 64 ≡ b → ((n ≤ 64) × (cond b n 65 ≡ n)) ⊎ ((65 ≤ n) × (cond b n 65 ≡ 65))
+    at_test true e = inl (test_true n 64 e, refl)
+    at_test false e = inr (grind (arith, nat_tests), refl)
+
+pub greater_cases : (a b : ℕ) → ((b ≤ a) × (greater a b ≡ a)) ⊎ ((a ≤ b) × (greater a b ≡ b))
+greater_cases a b = at_test (nat_le a b) refl
+  where
+    at_test : (t : Bool) → nat_le a b ≡ t → ((b ≤ a) × (cond t b a ≡ a)) ⊎ ((a ≤ b) × (cond t b a ≡ b))
+    at_test true e = inr (test_true a b e, refl)
+    at_test false e = inl (test_false a b e, refl)
+
+pub lesser_cases : (a b : ℕ) → ((a ≤ b) × (lesser a b ≡ a)) ⊎ ((b ≤ a) × (lesser a b ≡ b))
+lesser_cases a b = at_test (nat_le a b) refl
+  where
+    at_test : (t : Bool) → nat_le a b ≡ t → ((a ≤ b) × (cond t a b ≡ a)) ⊎ ((b ≤ a) × (cond t a b ≡ b))
+    at_test true e = inl (test_true a b e, refl)
+    at_test false e = inr (test_false a b e, refl)
+
+pub capped_greater : (a b : ℕ) → greater (capped a) (capped b) ≡ capped (greater a b)
+capped_greater a b = go (capped_cases a) (capped_cases b) (greater_cases a b) (greater_cases (capped a) (capped b)) (capped_cases (greater a b))
+  where
+    go : ((a ≤ 64) × (capped a ≡ a)) ⊎ ((65 ≤ a) × (capped a ≡ 65)) → ((b ≤ 64) × (capped b ≡ b)) ⊎ ((65 ≤ b) × (capped b ≡ 65))
+        → ((b ≤ a) × (greater a b ≡ a)) ⊎ ((a ≤ b) × (greater a b ≡ b))
+        → ((capped b ≤ capped a) × (greater (capped a) (capped b) ≡ capped a)) ⊎ ((capped a ≤ capped b) × (greater (capped a) (capped b) ≡ capped b))
+        → ((greater a b ≤ 64) × (capped (greater a b) ≡ greater a b)) ⊎ ((65 ≤ greater a b) × (capped (greater a b) ≡ 65))
+        → greater (capped a) (capped b) ≡ capped (greater a b)
+    go (inl p) (inl q) (inl r) (inl s) (inl t) = omega (arith, p.0, p.1, q.0, q.1, r.0, r.1, s.0, s.1, t.0, t.1)
+    go (inl p) (inl q) (inl r) (inl s) (inr t) = omega (arith, p.0, p.1, q.0, q.1, r.0, r.1, s.0, s.1, t.0, t.1)
+    go (inl p) (inl q) (inl r) (inr s) (inl t) = omega (arith, p.0, p.1, q.0, q.1, r.0, r.1, s.0, s.1, t.0, t.1)
+    go (inl p) (inl q) (inl r) (inr s) (inr t) = omega (arith, p.0, p.1, q.0, q.1, r.0, r.1, s.0, s.1, t.0, t.1)
+    go (inl p) (inl q) (inr r) (inl s) (inl t) = omega (arith, p.0, p.1, q.0, q.1, r.0, r.1, s.0, s.1, t.0, t.1)
+    go (inl p) (inl q) (inr r) (inl s) (inr t) = omega (arith, p.0, p.1, q.0, q.1, r.0, r.1, s.0, s.1, t.0, t.1)
+    go (inl p) (inl q) (inr r) (inr s) (inl t) = omega (arith, p.0, p.1, q.0, q.1, r.0, r.1, s.0, s.1, t.0, t.1)
+    go (inl p) (inl q) (inr r) (inr s) (inr t) = omega (arith, p.0, p.1, q.0, q.1, r.0, r.1, s.0, s.1, t.0, t.1)
+    go (inl p) (inr q) (inl r) (inl s) (inl t) = omega (arith, p.0, p.1, q.0, q.1, r.0, r.1, s.0, s.1, t.0, t.1)
+    go (inl p) (inr q) (inl r) (inl s) (inr t) = omega (arith, p.0, p.1, q.0, q.1, r.0, r.1, s.0, s.1, t.0, t.1)
+    go (inl p) (inr q) (inl r) (inr s) (inl t) = omega (arith, p.0, p.1, q.0, q.1, r.0, r.1, s.0, s.1, t.0, t.1)
+    go (inl p) (inr q) (inl r) (inr s) (inr t) = omega (arith, p.0, p.1, q.0, q.1, r.0, r.1, s.0, s.1, t.0, t.1)
+    go (inl p) (inr q) (inr r) (inl s) (inl t) = omega (arith, p.0, p.1, q.0, q.1, r.0, r.1, s.0, s.1, t.0, t.1)
+    go (inl p) (inr q) (inr r) (inl s) (inr t) = omega (arith, p.0, p.1, q.0, q.1, r.0, r.1, s.0, s.1, t.0, t.1)
+    go (inl p) (inr q) (inr r) (inr s) (inl t) = omega (arith, p.0, p.1, q.0, q.1, r.0, r.1, s.0, s.1, t.0, t.1)
+    go (inl p) (inr q) (inr r) (inr s) (inr t) = omega (arith, p.0, p.1, q.0, q.1, r.0, r.1, s.0, s.1, t.0, t.1)
+    go (inr p) (inl q) (inl r) (inl s) (inl t) = omega (arith, p.0, p.1, q.0, q.1, r.0, r.1, s.0, s.1, t.0, t.1)
+    go (inr p) (inl q) (inl r) (inl s) (inr t) = omega (arith, p.0, p.1, q.0, q.1, r.0, r.1, s.0, s.1, t.0, t.1)
+    go (inr p) (inl q) (inl r) (inr s) (inl t) = omega (arith, p.0, p.1, q.0, q.1, r.0, r.1, s.0, s.1, t.0, t.1)
+    go (inr p) (inl q) (inl r) (inr s) (inr t) = omega (arith, p.0, p.1, q.0, q.1, r.0, r.1, s.0, s.1, t.0, t.1)
+    go (inr p) (inl q) (inr r) (inl s) (inl t) = omega (arith, p.0, p.1, q.0, q.1, r.0, r.1, s.0, s.1, t.0, t.1)
+    go (inr p) (inl q) (inr r) (inl s) (inr t) = omega (arith, p.0, p.1, q.0, q.1, r.0, r.1, s.0, s.1, t.0, t.1)
+    go (inr p) (inl q) (inr r) (inr s) (inl t) = omega (arith, p.0, p.1, q.0, q.1, r.0, r.1, s.0, s.1, t.0, t.1)
+    go (inr p) (inl q) (inr r) (inr s) (inr t) = omega (arith, p.0, p.1, q.0, q.1, r.0, r.1, s.0, s.1, t.0, t.1)
+    go (inr p) (inr q) r (inl s) (inl t) = at_sides r t
+      where
+        at_sides : ((b ≤ a) × (greater a b ≡ a)) ⊎ ((a ≤ b) × (greater a b ≡ b)) → (greater a b ≤ 64) × (capped (greater a b) ≡ greater a b) → greater (capped a) (capped b) ≡ capped (greater a b)
+        at_sides (inl r) t = absurd (omega (arith, p.0, q.0, r.1, t.0))
+        at_sides (inr r) t = absurd (omega (arith, p.0, q.0, r.1, t.0))
+    go (inr p) (inr q) r (inl s) (inr t) = omega (arith, p.1, q.1, s.1, t.1)
+    go (inr p) (inr q) r (inr s) (inl t) = at_sides r t
+      where
+        at_sides : ((b ≤ a) × (greater a b ≡ a)) ⊎ ((a ≤ b) × (greater a b ≡ b)) → (greater a b ≤ 64) × (capped (greater a b) ≡ greater a b) → greater (capped a) (capped b) ≡ capped (greater a b)
+        at_sides (inl r) t = absurd (omega (arith, p.0, q.0, r.1, t.0))
+        at_sides (inr r) t = absurd (omega (arith, p.0, q.0, r.1, t.0))
+    go (inr p) (inr q) r (inr s) (inr t) = omega (arith, p.1, q.1, s.1, t.1)
+
+-- more behind signs
+pub capped_behind : (s n : ℕ) → capped (s + capped n) ≡ capped (s + n)
+capped_behind s n = go (capped_cases n) (capped_cases (s + capped n)) (capped_cases (s + n))
+  where
+    go : ((n ≤ 64) × (capped n ≡ n)) ⊎ ((65 ≤ n) × (capped n ≡ 65)) → ((s + capped n ≤ 64) × (capped (s + capped n) ≡ s + capped n)) ⊎ ((65 ≤ s + capped n) × (capped (s + capped n) ≡ 65))
+        → ((s + n ≤ 64) × (capped (s + n) ≡ s + n)) ⊎ ((65 ≤ s + n) × (capped (s + n) ≡ 65)) → capped (s + capped n) ≡ capped (s + n)
+    go (inl p) q r = ap (λ m. capped (s + m)) p.1
+    go (inr p) (inl q) r = absurd (omega (arith, p.1, q.0))
+    go (inr p) (inr q) (inl r) = absurd (omega (arith, p.0, r.0))
+    go (inr p) (inr q) (inr r) = q.1 ∙ sym r.1
+
+-- the depth of a sign between operands
+
+-- an operand of a level
+abbrev pub operand_top : Level → Written → ℕ
+operand_top own w = cond (is_looser (level w) own) (1 + top_of w) (top_of w)
+
+or_is : (w : Written) → expr_top (to_expr w) ≡ operand_top l.Or w
+or_is (at_or d) = refl
+or_is (at_and d) = refl
+or_is (at_cmp d) = refl
+or_is (at_sum d) = refl
+or_is (at_prod d) = refl
+or_is (at_unary d) = refl
+
+and_is : (w : Written) → and_top (to_and w) ≡ operand_top l.And w
+and_is (at_or d) = refl
+and_is (at_and d) = refl
+and_is (at_cmp d) = refl
+and_is (at_sum d) = refl
+and_is (at_prod d) = refl
+and_is (at_unary d) = refl
+
+cmp_is : (w : Written) → cmp_top (to_cmp w) ≡ operand_top l.Comparison w
+cmp_is (at_or d) = refl
+cmp_is (at_and d) = refl
+cmp_is (at_cmp d) = refl
+cmp_is (at_sum d) = refl
+cmp_is (at_prod d) = refl
+cmp_is (at_unary d) = refl
+
+sum_is : (w : Written) → sum_top (to_sum w) ≡ operand_top l.Sum w
+sum_is (at_or d) = refl
+sum_is (at_and d) = refl
+sum_is (at_cmp d) = refl
+sum_is (at_sum d) = refl
+sum_is (at_prod d) = refl
+sum_is (at_unary d) = refl
+
+prod_is : (w : Written) → prod_top (to_prod w) ≡ operand_top l.Product w
+prod_is (at_or d) = refl
+prod_is (at_and d) = refl
+prod_is (at_cmp d) = refl
+prod_is (at_sum d) = refl
+prod_is (at_prod d) = refl
+prod_is (at_unary d) = refl
+
+unary_is : (w : Written) → unary_top (to_unary w) ≡ operand_top l.Unary w
+unary_is (at_or d) = refl
+unary_is (at_and d) = refl
+unary_is (at_cmp d) = refl
+unary_is (at_sum d) = refl
+unary_is (at_prod d) = refl
+unary_is (at_unary d) = refl
+
+sides : {a b c d : ℕ} (n : ℕ) → a ≡ b → c ≡ d → greater a (n + c) ≡ greater b (n + d)
+sides {a = a} {b = b} {c = c} {d = d} n e f = ap (λ x. greater x (n + c)) e ∙ ap (λ x. greater b (n + x)) f
+
+pub join_top : (op : BinaryOp) (v w : Written) → top_of (join op v w) ≡ greater (operand_top (left_level op) v) (signs (join op v w) + operand_top (right_level op) w)
+join_top ops.Or v w = sides (or_count (to_expr v) + 1) (or_is v) (and_is w)
+join_top ops.And v w = sides (and_count (to_and v) + 1) (and_is v) (cmp_is w)
+join_top ops.Eq v w = sides 1 (sum_is v) (sum_is w)
+join_top ops.Ne v w = sides 1 (sum_is v) (sum_is w)
+join_top ops.Lt v w = sides 1 (sum_is v) (sum_is w)
+join_top ops.Le v w = sides 1 (sum_is v) (sum_is w)
+join_top ops.Gt v w = sides 1 (sum_is v) (sum_is w)
+join_top ops.Ge v w = sides 1 (sum_is v) (sum_is w)
+join_top ops.Add v w = sides (sum_count (to_sum v) + 1) (sum_is v) (prod_is w)
+join_top ops.Sub v w = sides (sum_count (to_sum v) + 1) (sum_is v) (prod_is w)
+join_top ops.Mul v w = sides (prod_count (to_prod v) + 1) (prod_is v) (unary_is w)
+join_top ops.Div v w = sides (prod_count (to_prod v) + 1) (prod_is v) (unary_is w)
+
+-- how many signs it has then
+
+pub signs_on : (op : BinaryOp) (v w : Written) → goes_on_at op (level v) ≡ true → signs (join op v w) ≡ signs v + 1
+signs_on ops.Or (at_or d) w h = refl
+signs_on ops.Or (at_and d) w h = cc
+signs_on ops.Or (at_cmp d) w h = cc
+signs_on ops.Or (at_sum d) w h = cc
+signs_on ops.Or (at_prod d) w h = cc
+signs_on ops.Or (at_unary d) w h = cc
+signs_on ops.And (at_and d) w h = refl
+signs_on ops.And (at_or d) w h = cc
+signs_on ops.And (at_cmp d) w h = cc
+signs_on ops.And (at_sum d) w h = cc
+signs_on ops.And (at_prod d) w h = cc
+signs_on ops.And (at_unary d) w h = cc
+signs_on ops.Add (at_sum d) w h = refl
+signs_on ops.Add (at_or d) w h = cc
+signs_on ops.Add (at_and d) w h = cc
+signs_on ops.Add (at_cmp d) w h = cc
+signs_on ops.Add (at_prod d) w h = cc
+signs_on ops.Add (at_unary d) w h = cc
+signs_on ops.Sub (at_sum d) w h = refl
+signs_on ops.Sub (at_or d) w h = cc
+signs_on ops.Sub (at_and d) w h = cc
+signs_on ops.Sub (at_cmp d) w h = cc
+signs_on ops.Sub (at_prod d) w h = cc
+signs_on ops.Sub (at_unary d) w h = cc
+signs_on ops.Mul (at_prod d) w h = refl
+signs_on ops.Mul (at_or d) w h = cc
+signs_on ops.Mul (at_and d) w h = cc
+signs_on ops.Mul (at_cmp d) w h = cc
+signs_on ops.Mul (at_sum d) w h = cc
+signs_on ops.Mul (at_unary d) w h = cc
+signs_on ops.Div (at_prod d) w h = refl
+signs_on ops.Div (at_or d) w h = cc
+signs_on ops.Div (at_and d) w h = cc
+signs_on ops.Div (at_cmp d) w h = cc
+signs_on ops.Div (at_sum d) w h = cc
+signs_on ops.Div (at_unary d) w h = cc
+signs_on ops.Eq v w h = cc
+signs_on ops.Ne v w h = cc
+signs_on ops.Lt v w h = cc
+signs_on ops.Le v w h = cc
+signs_on ops.Gt v w h = cc
+signs_on ops.Ge v w h = cc
+
+pub signs_off : (op : BinaryOp) (v w : Written) → goes_on_at op (level v) ≡ false → signs (join op v w) ≡ 1
+signs_off ops.Or (at_or d) w h = cc
+signs_off ops.Or (at_and d) w h = refl
+signs_off ops.Or (at_cmp d) w h = refl
+signs_off ops.Or (at_sum d) w h = refl
+signs_off ops.Or (at_prod d) w h = refl
+signs_off ops.Or (at_unary d) w h = refl
+signs_off ops.And (at_and d) w h = cc
+signs_off ops.And (at_or d) w h = refl
+signs_off ops.And (at_cmp d) w h = refl
+signs_off ops.And (at_sum d) w h = refl
+signs_off ops.And (at_prod d) w h = refl
+signs_off ops.And (at_unary d) w h = refl
+signs_off ops.Add (at_sum d) w h = cc
+signs_off ops.Add (at_or d) w h = refl
+signs_off ops.Add (at_and d) w h = refl
+signs_off ops.Add (at_cmp d) w h = refl
+signs_off ops.Add (at_prod d) w h = refl
+signs_off ops.Add (at_unary d) w h = refl
+signs_off ops.Sub (at_sum d) w h = cc
+signs_off ops.Sub (at_or d) w h = refl
+signs_off ops.Sub (at_and d) w h = refl
+signs_off ops.Sub (at_cmp d) w h = refl
+signs_off ops.Sub (at_prod d) w h = refl
+signs_off ops.Sub (at_unary d) w h = refl
+signs_off ops.Mul (at_prod d) w h = cc
+signs_off ops.Mul (at_or d) w h = refl
+signs_off ops.Mul (at_and d) w h = refl
+signs_off ops.Mul (at_cmp d) w h = refl
+signs_off ops.Mul (at_sum d) w h = refl
+signs_off ops.Mul (at_unary d) w h = refl
+signs_off ops.Div (at_prod d) w h = cc
+signs_off ops.Div (at_or d) w h = refl
+signs_off ops.Div (at_and d) w h = refl
+signs_off ops.Div (at_cmp d) w h = refl
+signs_off ops.Div (at_sum d) w h = refl
+signs_off ops.Div (at_unary d) w h = refl
+signs_off ops.Eq v w h = refl
+signs_off ops.Ne v w h = refl
+signs_off ops.Lt v w h = refl
+signs_off ops.Le v w h = refl
+signs_off ops.Gt v w h = refl
+signs_off ops.Ge v w h = refl
+
+-- the least of greater numbers
+pub lesser_greater : (a b c : ℕ) → lesser (greater a c) (greater b c) ≡ greater (lesser a b) c
+lesser_greater a b c = go (lesser_cases a b) (greater_cases a c) (greater_cases b c) (lesser_cases (greater a c) (greater b c)) (greater_cases (lesser a b) c)
+  where
+    go : ((a ≤ b) × (lesser a b ≡ a)) ⊎ ((b ≤ a) × (lesser a b ≡ b)) → ((c ≤ a) × (greater a c ≡ a)) ⊎ ((a ≤ c) × (greater a c ≡ c)) → ((c ≤ b) × (greater b c ≡ b)) ⊎ ((b ≤ c) × (greater b c ≡ c))
+        → ((greater a c ≤ greater b c) × (lesser (greater a c) (greater b c) ≡ greater a c)) ⊎ ((greater b c ≤ greater a c) × (lesser (greater a c) (greater b c) ≡ greater b c))
+        → ((c ≤ lesser a b) × (greater (lesser a b) c ≡ lesser a b)) ⊎ ((lesser a b ≤ c) × (greater (lesser a b) c ≡ c)) → lesser (greater a c) (greater b c) ≡ greater (lesser a b) c
+    go p q r s t = grind (arith, p, q, r, s, t)
