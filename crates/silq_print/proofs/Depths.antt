@@ -1,12 +1,14 @@
 -- Depths up to 64, of the ways to write an expression.
-use Rattle.std.proofs.Common.{◌≡◌, ◌⊎◌, inl, inr, ℕ, zero, suc, ◌+◌, ◌<◌, ◌≤◌, Bool, true, false, ◌&&◌, nat_le, nat_eq, cond, List, [], ◌∷◌, refl, sym, ◌∙◌, ap, arith}
+use Rattle.std.proofs.Common.{◌≡◌, ◌⊎◌, inl, inr, ℕ, zero, suc, ◌+◌, ◌<◌, ◌≤◌, Bool, true, false, ◌&&◌, nat_le, nat_eq, cond, List, [], ◌∷◌, length, get_or, set, replicate, refl, sym, ◌∙◌, ap, arith}
 use Rattle.std.proofs.lemmas.Bool.Decides.{nat_tests}
+use Rattle.std.proofs.lemmas.Grind.{get_or-set_at}
+use Rattle.std.proofs.lemmas.List.{get_or-set_other, get_or-replicate}
 use Rattle.silq_tree.specs.declared.node.BinaryOp.{BinaryOp}
 use Rattle.silq_tree.specs.declared.node.BinaryOp.TheVariants as ops
 use Rattle.silq_grammar.specs.Nest.{prod_count, sum_count, and_count, or_count}
 use Rattle.silq_print.specs.Ways.{greater, Written, at_or, at_and, at_cmp, at_sum, at_prod, at_unary, to_expr, to_and, to_cmp, to_sum, to_prod, to_unary, join, depth, Ways, only, also, each_way, least}
 use Rattle.silq_print.specs.Levels.{left_level, right_level, goes_on_at, is_looser}
-use Rattle.silq_print.specs.Depths.{capped, signs, lesser, least_with}
+use Rattle.silq_print.specs.Depths.{capped, signs, lesser, least_with, least_of, only_at}
 use Rattle.silq_print.specs.declared.level.Level.{Level}
 use Rattle.silq_print.specs.declared.level.Level.TheVariants as l
 use Rattle.silq_print.proofs.Tops.{expr_top, and_top, cmp_top, sum_top, prod_top, unary_top, test_true, test_false}
@@ -262,3 +264,98 @@ lesser_greater a b c = go (lesser_cases a b) (greater_cases a c) (greater_cases 
         → ((greater a c ≤ greater b c) × (lesser (greater a c) (greater b c) ≡ greater a c)) ⊎ ((greater b c ≤ greater a c) × (lesser (greater a c) (greater b c) ≡ greater b c))
         → ((c ≤ lesser a b) × (greater (lesser a b) c ≡ lesser a b)) ⊎ ((lesser a b ≤ c) × (greater (lesser a b) c ≡ c)) → lesser (greater a c) (greater b c) ≡ greater (lesser a b) c
     go p q r s t = grind (arith, p, q, r, s, t)
+
+pub only_is : (n d s : ℕ) → n < 65 → s < 65 → get_or (set (replicate 65 65) n d) s 0 ≡ only_at n d s
+only_is n d s l m = at_test (nat_eq n s) refl
+  where
+    at_test : (b : Bool) → nat_eq n s ≡ b → get_or (set (replicate 65 65) n d) s 0 ≡ cond b d 65
+    at_test true e = get_or-set_at (replicate 65 65) n s d 0 (grind (arith, nat_tests)) (omega arith)
+    at_test false e = get_or-set_other (replicate 65 65) n s d 0 (grind (arith, nat_tests)) ∙ get_or-replicate 65 s 65 0 m
+
+-- the least of depths is that of the least deep way
+
+pub lesser_assoc : (a b c : ℕ) → lesser (lesser a b) c ≡ lesser a (lesser b c)
+lesser_assoc a b c = go (lesser_cases a b) (lesser_cases b c) (lesser_cases (lesser a b) c) (lesser_cases a (lesser b c))
+  where
+    go : ((a ≤ b) × (lesser a b ≡ a)) ⊎ ((b ≤ a) × (lesser a b ≡ b)) → ((b ≤ c) × (lesser b c ≡ b)) ⊎ ((c ≤ b) × (lesser b c ≡ c))
+        → ((lesser a b ≤ c) × (lesser (lesser a b) c ≡ lesser a b)) ⊎ ((c ≤ lesser a b) × (lesser (lesser a b) c ≡ c))
+        → ((a ≤ lesser b c) × (lesser a (lesser b c) ≡ a)) ⊎ ((lesser b c ≤ a) × (lesser a (lesser b c) ≡ lesser b c)) → lesser (lesser a b) c ≡ lesser a (lesser b c)
+    go p q r s = grind (arith, p, q, r, s)
+
+lesser_left : (a b : ℕ) → lesser a b ≤ a
+lesser_left a b = go (lesser_cases a b)
+  where
+    go : ((a ≤ b) × (lesser a b ≡ a)) ⊎ ((b ≤ a) × (lesser a b ≡ b)) → lesser a b ≤ a
+    go (inl p) = omega (arith, p.1)
+    go (inr p) = omega (arith, p.0, p.1)
+
+lesser_right : (a b : ℕ) → lesser a b ≤ b
+lesser_right a b = go (lesser_cases a b)
+  where
+    go : ((a ≤ b) × (lesser a b ≡ a)) ⊎ ((b ≤ a) × (lesser a b ≡ b)) → lesser a b ≤ b
+    go (inl p) = omega (arith, p.0, p.1)
+    go (inr p) = omega (arith, p.1)
+
+lesser_above : (a b k : ℕ) → k ≤ a → k ≤ b → k ≤ lesser a b
+lesser_above a b k h g = go (lesser_cases a b)
+  where
+    go : ((a ≤ b) × (lesser a b ≡ a)) ⊎ ((b ≤ a) × (lesser a b ≡ b)) → k ≤ lesser a b
+    go (inl p) = omega (arith, p.1)
+    go (inr p) = omega (arith, p.1)
+
+least_of_below : (t : List ℕ) (s : ℕ) → s < length t → least_of t ≤ get_or t s 0
+least_of_below [] s l = absurd (omega arith)
+least_of_below (n ∷ ns) zero l = lesser_left n (least_of ns)
+least_of_below (n ∷ ns) (suc s) l = let a = lesser_right n (least_of ns) in let b = least_of_below ns s (omega arith) in omega (arith, a, b)
+
+least_of_capped : (t : List ℕ) → least_of t ≤ 65
+least_of_capped [] = omega arith
+least_of_capped (n ∷ ns) = let a = lesser_right n (least_of ns) in let b = least_of_capped ns in omega (arith, a, b)
+
+least_of_above : (t : List ℕ) (k : ℕ) → k ≤ 65 → ((s : ℕ) → s < length t → k ≤ get_or t s 0) → k ≤ least_of t
+least_of_above [] k h f = h
+least_of_above (n ∷ ns) k h f = lesser_above n (least_of ns) k (f zero (omega arith)) (least_of_above ns k h (λ s l. f (suc s) (omega arith)))
+
+capped_below : (n : ℕ) → capped n ≤ 65
+capped_below n = go (capped_cases n)
+  where
+    go : ((n ≤ 64) × (capped n ≡ n)) ⊎ ((65 ≤ n) × (capped n ≡ 65)) → capped n ≤ 65
+    go (inl p) = omega (arith, p.0, p.1)
+    go (inr p) = omega (arith, p.1)
+
+capped_grows : (a b : ℕ) → a ≤ b → capped a ≤ capped b
+capped_grows a b h = go (capped_cases a) (capped_cases b)
+  where
+    go : ((a ≤ 64) × (capped a ≡ a)) ⊎ ((65 ≤ a) × (capped a ≡ 65)) → ((b ≤ 64) × (capped b ≡ b)) ⊎ ((65 ≤ b) × (capped b ≡ 65)) → capped a ≤ capped b
+    go (inl p) (inl q) = omega (arith, p.1, q.1)
+    go (inl p) (inr q) = omega (arith, p.0, p.1, q.1)
+    go (inr p) (inl q) = absurd (omega (arith, p.0, q.0))
+    go (inr p) (inr q) = omega (arith, p.1, q.1)
+
+test_below : (b : Bool) (m n : ℕ) → m ≤ n → n ≤ 65 → m ≤ cond b n 65
+test_below true m n h g = h
+test_below false m n h g = omega (arith, h, g)
+
+-- the chosen one is no deeper than both
+least_first : (w : Written) (ws : Ways) → depth (least (also w ws)) ≤ depth w
+least_first w ws = at_test (nat_le (depth w) (depth (least ws))) refl
+  where
+    at_test : (b : Bool) → nat_le (depth w) (depth (least ws)) ≡ b → depth (cond b w (least ws)) ≤ depth w
+    at_test true e = omega arith
+    at_test false e = test_false (depth w) (depth (least ws)) e
+
+least_rest : (w : Written) (ws : Ways) → depth (least (also w ws)) ≤ depth (least ws)
+least_rest w ws = at_test (nat_le (depth w) (depth (least ws))) refl
+  where
+    at_test : (b : Bool) → nat_le (depth w) (depth (least ws)) ≡ b → depth (cond b w (least ws)) ≤ depth (least ws)
+    at_test true e = test_true (depth w) (depth (least ws)) e
+    at_test false e = omega arith
+
+with_above : (ws : Ways) (s k : ℕ) → k ≤ capped (depth (least ws)) → k ≤ least_with ws s
+with_above (only w) s k h = test_below (nat_eq (signs w) s) k (capped (depth w)) h (capped_below (depth w))
+with_above (also w ws) s k h =
+    let a = capped_grows (depth (least (also w ws))) (depth w) (least_first w ws) in
+    let b = capped_grows (depth (least (also w ws))) (depth (least ws)) (least_rest w ws) in
+    lesser_above (cond (nat_eq (signs w) s) (capped (depth w)) 65) (least_with ws s) k
+    (test_below (nat_eq (signs w) s) k (capped (depth w)) (omega (arith, a, h)) (capped_below (depth w)))
+    (with_above ws s k (omega (arith, b, h)))

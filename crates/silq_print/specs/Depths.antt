@@ -1,6 +1,7 @@
 -- Depths up to 64, and 65 for those that are more.
 use Rattle.std.specs.Prelude.{◌≡◌, ℕ, zero, suc, ◌+◌, ◌<◌, Bool, true, false, nat_le, nat_eq, cond, List, [], ◌∷◌, Option, Some, None, slice_index}
 use Rattle.silq_tree.specs.Syntax as tree
+use Rattle.silq_grammar.specs.Grammar.{one_sum, compare}
 use Rattle.silq_grammar.specs.Nest.{prod_count, sum_count, and_count, or_count}
 use Rattle.silq_print.specs.Ways.{greater, Written, at_or, at_and, at_cmp, at_sum, at_prod, at_unary, depth, Ways, only, also, least, ways}
 use Rattle.silq_print.specs.Levels.{top_level, is_looser}
@@ -34,7 +35,8 @@ deepest tight (tree.more e es) = greater (low tight e) (deepest tight es)
 abbrev pub signs : Written → ℕ
 signs (at_or d) = or_count d
 signs (at_and d) = and_count d
-signs (at_cmp d) = 1
+signs (at_cmp (one_sum d)) = 0
+signs (at_cmp (compare c d s e)) = 1
 signs (at_sum d) = sum_count d
 signs (at_prod d) = prod_count d
 signs (at_unary d) = 0

@@ -7,7 +7,7 @@ ghost use Rattle.silq_tree.specs.Children.{AreExprsBelow, scalar_exprs, listed};
 ghost use Rattle.silq_print.specs.Ways as spec;
 ghost use Rattle.silq_print.specs.Ways.{greater, least, ways};
 ghost use Rattle.silq_print.specs.Styles.{fits, nth_way, tight_by};
-ghost use Rattle.silq_print.specs.Depths.{capped, low, operand_low, scalar_low, index_low, deepest, AreDepths, least_of, longer_at, only_at, chain_at};
+ghost use Rattle.silq_print.specs.Depths.{capped, lesser, low, operand_low, scalar_low, index_low, deepest, AreDepths, least_of, longer_at, only_at, chain_at};
 
 use crate::expr::top_level;
 use crate::level::{Level, goes_on, left_level, rank, right_level};
@@ -16,6 +16,20 @@ use silq_tree::{Expr, ExprId, PlaceNode, ScalarNode, Tree};
 
 /// More than the nest of 64, or no way at all.
 const TOO_DEEP: u8 = 65;
+
+/// The greater of two depths.
+fn greater(a: u8, b: u8) -> u8
+    ensures { result ≡ greater a b }
+{
+    if a <= b { b } else { a }
+}
+
+/// The lesser of two depths.
+fn lesser(a: u8, b: u8) -> u8
+    ensures { result ≡ lesser a b }
+{
+    if a <= b { a } else { b }
+}
 
 /// A depth behind so many signs.
 fn behind(signs: u8, depth: u8) -> u8
@@ -35,7 +49,7 @@ fn deepest(tree: &Tree, ids: &[ExprId], tight: bool) -> u8
 {
     let mut most = 0;
     for id in ids {
-        most = depth(tree, *id, tight).max(most);
+        most = greater(most, depth(tree, *id, tight));
     }
     most
 }
@@ -88,11 +102,9 @@ fn longer(lefts: &[u8; 65], right: u8) -> [u8; 65]
     ensures { (s : ℕ) → s < 65 → slice_index result s ≡ longer_at lefts.now right s }
 {
     let mut depths = [TOO_DEEP; 65];
-    let mut signs: u8 = 1;
-    while signs < 65 {
-        let left = lefts[usize::from(signs) - 1];
-        depths[usize::from(signs)] = left.max(behind(signs, right));
-        signs += 1;
+    for signs in 1..65u8 {
+        let left = lefts[usize::from(signs - 1)];
+        depths[usize::from(signs)] = greater(left, behind(signs, right));
     }
     depths
 }
@@ -103,9 +115,7 @@ fn least(depths: &[u8; 65]) -> u8
 {
     let mut low = TOO_DEEP;
     for depth in depths {
-        if *depth < low {
-            low = *depth;
-        }
+        low = lesser(low, *depth);
     }
     low
 }
@@ -132,12 +142,12 @@ fn depths(tree: &Tree, e: ExprId, tight: bool) -> [u8; 65]
         Expr::Place { place, .. } => {
             let first = index_depth(tree, place.first, tight);
             let second = index_depth(tree, place.second, tight);
-            one_way(0, first.max(second))
+            one_way(0, greater(first, second))
         }
         Expr::Call { statics, args, .. } => {
             let first = deepest(tree, statics.as_slice(), tight);
             let second = deepest(tree, args.as_slice(), tight);
-            one_way(0, behind(1, first.max(second)))
+            one_way(0, behind(1, greater(first, second)))
         }
         Expr::Tuple { items, .. } => one_way(0, behind(1, deepest(tree, items.as_slice(), tight))),
         Expr::Unary { arg, .. } => {
@@ -149,7 +159,7 @@ fn depths(tree: &Tree, e: ExprId, tight: bool) -> [u8; 65]
                 chain_depths(tree, *left, right, tight)
             } else {
                 let left = operand_depth(tree, *left, left_level(*op), tight);
-                one_way(1, left.max(behind(1, right)))
+                one_way(1, greater(left, behind(1, right)))
             }
         }
         _ => one_way(0, 0),
@@ -167,7 +177,8 @@ fn chain_depths(tree: &Tree, e: ExprId, right: u8, tight: bool) -> [u8; 65]
     let lefts = depths(tree, e, tight);
     let mut all = longer(&lefts, right);
     if tight {
-        all[1] = all[1].min(behind(1, least(&lefts)).max(behind(1, right)));
+        let parens = greater(behind(1, least(&lefts)), behind(1, right));
+        all[1] = lesser(all[1], parens);
     }
     all
 }
