@@ -1,17 +1,18 @@
 -- Depths up to 64, of the ways to write an expression.
-use Rattle.std.proofs.Common.{◌≡◌, ◌⊎◌, inl, inr, ℕ, zero, suc, ◌+◌, ◌<◌, ◌≤◌, Bool, true, false, ◌&&◌, nat_le, nat_eq, cond, List, [], ◌∷◌, length, get_or, set, replicate, refl, sym, ◌∙◌, ap, arith}
+use Rattle.std.proofs.Common.{◌≡◌, ◌⊎◌, inl, inr, ℕ, zero, suc, ◌+◌, ◌-◌, ◌<◌, ◌≤◌, Bool, true, false, ◌&&◌, nat_le, nat_eq, cond, List, [], ◌∷◌, length, get_or, set, replicate, drop, drop-cons, add-one, refl, sym, ◌∙◌, ap, arith}
 use Rattle.std.proofs.lemmas.Bool.Decides.{nat_tests}
 use Rattle.std.proofs.lemmas.Grind.{get_or-set_at}
 use Rattle.std.proofs.lemmas.List.{get_or-set_other, get_or-replicate}
 use Rattle.silq_tree.specs.declared.node.BinaryOp.{BinaryOp}
 use Rattle.silq_tree.specs.declared.node.BinaryOp.TheVariants as ops
+use Rattle.silq_grammar.specs.Grammar.{Expr, one_and, or, And, one_cmp, and, one_sum, compare, Sum, one_prod, plus, minus, Prod, one_unary, times, over}
 use Rattle.silq_grammar.specs.Nest.{prod_count, sum_count, and_count, or_count}
 use Rattle.silq_print.specs.Ways.{greater, Written, at_or, at_and, at_cmp, at_sum, at_prod, at_unary, to_expr, to_and, to_cmp, to_sum, to_prod, to_unary, join, depth, Ways, only, also, each_way, least}
 use Rattle.silq_print.specs.Levels.{left_level, right_level, goes_on_at, is_looser}
-use Rattle.silq_print.specs.Depths.{capped, signs, lesser, least_with, least_of, only_at}
+use Rattle.silq_print.specs.Depths.{capped, signs, lesser, least_with, least_of, only_at, longer_at, AreDepths}
 use Rattle.silq_print.specs.declared.level.Level.{Level}
 use Rattle.silq_print.specs.declared.level.Level.TheVariants as l
-use Rattle.silq_print.proofs.Tops.{expr_top, and_top, cmp_top, sum_top, prod_top, unary_top, test_true, test_false}
+use Rattle.silq_print.proofs.Tops.{expr_top, and_top, cmp_top, sum_top, prod_top, unary_top, test_true, test_false, right_below}
 use Rattle.silq_print.proofs.Chains.{top_of, depth_below, top_below}
 use Rattle.silq_print.proofs.WaysTexts.{level}
 
@@ -359,3 +360,118 @@ with_above (also w ws) s k h =
     lesser_above (cond (nat_eq (signs w) s) (capped (depth w)) 65) (least_with ws s) k
     (test_below (nat_eq (signs w) s) k (capped (depth w)) (omega (arith, a, h)) (capped_below (depth w)))
     (with_above ws s k (omega (arith, b, h)))
+
+-- the loops over depths
+
+pub lesser_top : (n : ℕ) → n ≤ 65 → lesser 65 n ≡ n
+lesser_top n h = go (lesser_cases 65 n)
+  where
+    go : ((65 ≤ n) × (lesser 65 n ≡ 65)) ⊎ ((n ≤ 65) × (lesser 65 n ≡ n)) → lesser 65 n ≡ n
+    go (inl p) = omega (arith, p.0, p.1, h)
+    go (inr p) = p.1
+
+pub least_start : (t : List ℕ) → lesser 65 (least_of t) ≡ least_of t
+least_start t = lesser_top (least_of t) (least_of_capped t)
+
+pub least_next : (t : List ℕ) (i low all : ℕ) → i < length t → lesser low (least_of (drop i t)) ≡ all → lesser (lesser low (get_or t i 0)) (least_of (drop (i + 1) t)) ≡ all
+least_next t i low all l h =
+    lesser_assoc low (get_or t i 0) (least_of (drop (i + 1) t))
+    ∙ ap (λ k. lesser low (lesser (get_or t i 0) (least_of (drop k t)))) (add-one i)
+    ∙ sym (ap (λ w. lesser low (least_of w)) (drop-cons t i 0 l)) ∙ h
+
+drop-end : (t : List ℕ) (i : ℕ) → length t ≤ i → drop i t ≡ []
+drop-end [] zero l = refl
+drop-end [] (suc i) l = refl
+drop-end (x ∷ t) zero l = absurd (omega arith)
+drop-end (x ∷ t) (suc i) l = drop-end t i (omega arith)
+
+pub least_end : (t : List ℕ) (i low all : ℕ) → length t ≤ i → low ≤ 65 → lesser low (least_of (drop i t)) ≡ all → low ≡ all
+least_end t i low all l h e = sym (at_end (lesser_cases low 65)) ∙ sym (ap (λ w. lesser low (least_of w)) (drop-end t i l)) ∙ e
+  where
+    at_end : ((low ≤ 65) × (lesser low 65 ≡ low)) ⊎ ((65 ≤ low) × (lesser low 65 ≡ 65)) → lesser low 65 ≡ low
+    at_end (inl p) = p.1
+    at_end (inr p) = omega (arith, p.0, p.1, h)
+
+pub least_most : (t : List ℕ) → least_of t ≤ 65
+least_most t = least_of_capped t
+
+pub lesser_most : (a b : ℕ) → a ≤ 65 → lesser a b ≤ 65
+lesser_most a b h = let e = lesser_left a b in omega (arith, e, h)
+
+pub longer_start : (t : List ℕ) (r s : ℕ) → s < 1 → get_or (replicate 65 65) s 0 ≡ longer_at t r s
+longer_start t r zero l = get_or-replicate 65 0 65 0 (omega arith)
+longer_start t r (suc s) l = absurd (omega arith)
+
+at_pred : (t : List ℕ) (r i : ℕ) → 1 ≤ i → greater (get_or t (i - 1) 0) (capped (i + r)) ≡ longer_at t r i
+at_pred t r zero l = absurd (omega arith)
+at_pred t r (suc j) l = let e : suc j - 1 ≡ j = omega arith in rw e refl
+
+pub longer_next : (t xs : List ℕ) (r i v : ℕ) → 1 ≤ i → i < length xs → ((s : ℕ) → s < i → get_or xs s 0 ≡ longer_at t r s) → v ≡ greater (get_or t (i - 1) 0) (capped (i + r))
+    → (s : ℕ) → s < i + 1 → get_or (set xs i v) s 0 ≡ longer_at t r s
+longer_next t xs r i v h l f e s m = at_test (nat_eq s i) refl
+  where
+    at_test : (b : Bool) → nat_eq s i ≡ b → get_or (set xs i v) s 0 ≡ longer_at t r s
+    at_test true g = let k : s ≡ i = grind (arith, nat_tests) in get_or-set_at xs i s v 0 k l ∙ e ∙ at_pred t r i h ∙ ap (longer_at t r) (sym k)
+    at_test false g = get_or-set_other xs i s v 0 (grind (arith, nat_tests)) ∙ f s (grind (arith, nat_tests))
+
+-- the least of the depths is that of the least deep way
+
+signs_or : (d : Expr) → or_count d ≤ expr_top d
+signs_or (one_and a) = omega arith
+signs_or (or e s a) = let h = right_below (expr_top e) (or_count e + 1 + and_top a) (expr_top (or e s a)) (omega arith) in omega (arith, h)
+
+signs_and : (d : And) → and_count d ≤ and_top d
+signs_and (one_cmp c) = omega arith
+signs_and (and a s c) = let h = right_below (and_top a) (and_count a + 1 + cmp_top c) (and_top (and a s c)) (omega arith) in omega (arith, h)
+
+signs_sum : (d : Sum) → sum_count d ≤ sum_top d
+signs_sum (one_prod p) = omega arith
+signs_sum (plus a s p) = let h = right_below (sum_top a) (sum_count a + 1 + prod_top p) (sum_top (plus a s p)) (omega arith) in omega (arith, h)
+signs_sum (minus a s p) = let h = right_below (sum_top a) (sum_count a + 1 + prod_top p) (sum_top (minus a s p)) (omega arith) in omega (arith, h)
+
+signs_prod : (d : Prod) → prod_count d ≤ prod_top d
+signs_prod (one_unary u) = omega arith
+signs_prod (times p s u) = let h = right_below (prod_top p) (prod_count p + 1 + unary_top u) (prod_top (times p s u)) (omega arith) in omega (arith, h)
+signs_prod (over p s u) = let h = right_below (prod_top p) (prod_count p + 1 + unary_top u) (prod_top (over p s u)) (omega arith) in omega (arith, h)
+
+signs_below : (w : Written) → signs w ≤ top_of w
+signs_below (at_or d) = signs_or d
+signs_below (at_and d) = signs_and d
+signs_below (at_cmp (one_sum d)) = omega arith
+signs_below (at_cmp (compare c d s e)) = let h = right_below (sum_top d) (1 + sum_top e) (cmp_top (compare c d s e)) (omega arith) in omega (arith, h)
+signs_below (at_sum d) = signs_sum d
+signs_below (at_prod d) = signs_prod d
+signs_below (at_unary d) = omega arith
+
+same_is : (n : ℕ) → nat_eq n n ≡ true
+same_is n = grind (arith, nat_tests)
+
+with_below : (ws : Ways) → least_with ws (signs (least ws)) ≤ capped (depth (least ws))
+with_below (only w) = let e = ap (λ b. cond b (capped (depth w)) 65) (same_is (signs w)) in omega (arith, e)
+with_below (also w ws) = at_test (nat_le (depth w) (depth (least ws))) (with_below ws)
+  where
+    at_test : (b : Bool) → least_with ws (signs (least ws)) ≤ capped (depth (least ws)) → least_with (also w ws) (signs (cond b w (least ws))) ≤ capped (depth (cond b w (least ws)))
+    at_test true h =
+        let e = ap (λ b. cond b (capped (depth w)) 65) (same_is (signs w)) in
+        let f = lesser_left (cond (nat_eq (signs w) (signs w)) (capped (depth w)) 65) (least_with ws (signs w)) in
+        omega (arith, e, f)
+    at_test false h =
+        let f = lesser_right (cond (nat_eq (signs w) (signs (least ws))) (capped (depth w)) 65) (least_with ws (signs (least ws))) in
+        omega (arith, f, h)
+
+pub lowest_is : (t : List ℕ) (ws : Ways) → length t ≡ 65 → AreDepths t ws → least_of t ≡ capped (depth (least ws))
+lowest_is t ws l h = go (capped_cases (depth (least ws)))
+  where
+    above : capped (depth (least ws)) ≤ least_of t
+    above = least_of_above t (capped (depth (least ws))) (capped_below (depth (least ws))) (λ s m. let e = h s (omega (arith, l, m)) in let a = with_above ws s (capped (depth (least ws))) (omega arith) in omega (arith, e, a))
+
+    go : ((depth (least ws) ≤ 64) × (capped (depth (least ws)) ≡ depth (least ws))) ⊎ ((65 ≤ depth (least ws)) × (capped (depth (least ws)) ≡ 65)) → least_of t ≡ capped (depth (least ws))
+    go (inl p) =
+        let a = signs_below (least ws) in
+        let b = depth_is (least ws) in
+        let m : signs (least ws) < 65 = omega (arith, a, b, p.0) in
+        let e = h (signs (least ws)) m in
+        let f = with_below ws in
+        let k = least_of_below t (signs (least ws)) (omega (arith, l, m)) in
+        omega (arith, above, e, f, k)
+    go (inr p) = let a = least_of_capped t in omega (arith, above, a, p.1)

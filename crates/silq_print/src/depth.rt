@@ -111,7 +111,8 @@ fn longer(lefts: &[u8; 65], right: u8) -> [u8; 65]
 
 /// The least of depths.
 fn least(depths: &[u8; 65]) -> u8
-    ensures { result ≡ least_of depths.now }
+    ensures value { result ≡ least_of depths.now }
+    ensures most { result ≤ 65 }
 {
     let mut low = TOO_DEEP;
     for depth in depths {
