@@ -15,3 +15,4 @@ pub mod Blocks
 pub mod Headers
 pub mod Sound
 pub mod Depths
+pub mod Deeper

@@ -99,7 +99,8 @@ fn operand_depth(tree: &Tree, e: ExprId, level: Level, tight: bool) -> u8
 /// The depths of a chain with one more sign, behind which this depth stands.
 fn longer(lefts: &[u8; 65], right: u8) -> [u8; 65]
     requires { right ≤ 65 }
-    ensures { (s : ℕ) → s < 65 → slice_index result s ≡ longer_at lefts.now right s }
+    ensures at { (s : ℕ) → s < 65 → slice_index result s ≡ longer_at lefts.now right s }
+    ensures long { length result ≡ 65 }
 {
     let mut depths = [TOO_DEEP; 65];
     for signs in 1..65u8 {
@@ -113,6 +114,7 @@ fn longer(lefts: &[u8; 65], right: u8) -> [u8; 65]
 fn least(depths: &[u8; 65]) -> u8
     ensures value { result ≡ least_of depths.now }
     ensures most { result ≤ 65 }
+    ensures long { length depths.now ≡ 65 }
 {
     let mut low = TOO_DEEP;
     for depth in depths {

@@ -1,14 +1,22 @@
-use Rattle.std.proofs.Common.{arith, ◌∙◌}
+use Rattle.std.proofs.Common.{arith, ap, true, ◌∙◌, ◌+◌, get_or}
+use Rattle.silq_print.specs.Depths.{capped, lesser, least_of, only_at, chain_at, operand_low}
+use Rattle.silq_print.proofs.Deeper.{chain_tight, single, chained}
+use Rattle.silq_print.proofs.Depths.{capped_behind}
+use Rattle.silq_print.specs.Levels.{left_level, right_level}
+use Rattle.silq_tree.specs.Standing.{expr_grown}
 use Rattle.silq_tree.specs.Arena.{expr_at}
-use Rattle.silq_print.specs.Ways.{ways}
+use Rattle.silq_print.specs.Ways.{greater, ways}
 use Rattle.silq_print.proofs.Depths.{lowest_is}
 use Rattle.silq_print.proofs.depth.+depth.Goals as goal
 
 pub depth-returns : goal.depth-returns
-depth-returns n c = c.least.ensures.value ∙ lowest_is c.depths.result (ways c.args.tight (expr_at c.args.tree.now c.args.e)) ? c.depths.ensures
+depth-returns n c = c.least.ensures.value ∙ lowest_is c.depths.result (ways c.args.tight (expr_at c.args.tree.now c.args.e)) c.least.ensures.long c.depths.ensures
 
 pub chain_depths-returns-then-tight : goal.chain_depths-returns-then-tight
-chain_depths-returns-then-tight n c = ?
+chain_depths-returns-then-tight n c = rw c.if-tight.true
+    (chain_tight (ways true (expr_at c.args.tree.now c.args.e)) c.depths-lefts.result c.longer-all.result c.args.right c.lesser.result c.least.ensures.long c.longer-all.ensures.long (rw c.if-tight.true at c.depths-lefts.ensures) c.longer-all.ensures.at
+    (c.lesser.ensures ∙ ap (lesser (get_or c.longer-all.result 1 0)) (c.greater-parens.ensures ∙ ap (λ x. greater x c.behind-then-tight.result) (c.behind.ensures ∙ ap (λ x. capped (1 + x)) c.least.ensures.value)
+    ∙ ap (greater (capped (1 + least_of c.depths-lefts.result))) c.behind-then-tight.ensures)))
 
 pub depths-returns-in-Number-default-Some-default : goal.depths-returns-in-Number-default-Some-default
 depths-returns-in-Number-default-Some-default n c = ?
@@ -26,7 +34,18 @@ pub depths-returns-in-Unary : goal.depths-returns-in-Unary
 depths-returns-in-Unary n c = ?
 
 pub depths-returns-then-goes_on : goal.depths-returns-then-goes_on
-depths-returns-then-goes_on n c = ?
+depths-returns-then-goes_on n c = λ s l.
+    let at = expr_at c.args.tree.now in
+    rw (c.expr.ensures.tree ∙ ap (expr_grown at) c.in-Binary.is)
+    (c.chain_depths.ensures s l ∙ ap (λ r. chain_at c.args.tight (ways c.args.tight (at c.in-Binary.left)) r s) (rw c.right_level.ensures at c.operand_depth-right.ensures)
+    ∙ chained c.in-Binary.op c.args.tight (at c.in-Binary.left) (at c.in-Binary.right) s ?)
 
 pub depths-returns-else-goes_on : goal.depths-returns-else-goes_on
-depths-returns-else-goes_on n c = ?
+depths-returns-else-goes_on n c = λ s l.
+    let at = expr_at c.args.tree.now in
+    rw (c.expr.ensures.tree ∙ ap (expr_grown at) c.in-Binary.is)
+    (c.one_way-else-goes_on.ensures s l ∙ ap (λ d. only_at 1 d s)
+    (c.greater-else-goes_on.ensures ∙ ap (λ d. greater d c.behind-else-goes_on.result) (rw c.left_level.ensures at c.operand_depth-left.ensures)
+    ∙ ap (greater (capped (operand_low (left_level c.in-Binary.op) c.args.tight (at c.in-Binary.left))))
+      (c.behind-else-goes_on.ensures ∙ ap (λ d. capped (1 + d)) (rw c.right_level.ensures at c.operand_depth-right.ensures) ∙ capped_behind 1 (operand_low (right_level c.in-Binary.op) c.args.tight (at c.in-Binary.right))))
+    ∙ single c.in-Binary.op c.args.tight (at c.in-Binary.left) (at c.in-Binary.right) s ?)

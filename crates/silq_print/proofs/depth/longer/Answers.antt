@@ -1,10 +1,11 @@
-use Rattle.std.proofs.Common.{arith, ap, ◌∙◌, get_or, ◌-◌, length-set, length-replicate}
+use Rattle.std.proofs.Common.{ℕ, arith, ap, ◌∙◌, get_or, ◌-◌, length-set}
+use Rattle.std.proofs.lemmas.List.{length-replicate}
 use Rattle.silq_print.specs.Ways.{greater}
 use Rattle.silq_print.proofs.Depths.{longer_start, longer_next}
 use Rattle.silq_print.proofs.depth.longer.Goals as goal
 
 pub loop-signs-init : goal.loop-signs-init
-loop-signs-init c = (λ s l. longer_start c.args.lefts.now c.args.right s l, omega arith, length-replicate 65 65)
+loop-signs-init c = (λ s l. longer_start c.args.lefts.now c.args.right s l, omega arith, length-replicate {A = ℕ} 65 65)
 
 pub loop-signs-preserved : goal.loop-signs-preserved
 loop-signs-preserved c = rw c.from-in-loop-signs.ensures (
@@ -14,5 +15,5 @@ loop-signs-preserved c = rw c.from-in-loop-signs.ensures (
   length-set _ _ _ ∙ c.loop-signs.invariant.2,
 )
 
-pub returns : goal.returns
-returns c = λ s l. c.loop-signs.invariant.0 s (omega (arith, l, c.loop-signs-test.false))
+pub returns-clause-at : goal.returns-clause-at
+returns-clause-at c = λ s l. c.loop-signs.invariant.0 s (omega (arith, l, c.loop-signs-test.false))
