@@ -2,19 +2,27 @@
 use Rattle.std.proofs.Common.{◌≡◌, ◌⊎◌, inl, inr, ℕ, zero, suc, ◌+◌, ◌-◌, ◌<◌, ◌≤◌, Bool, true, false, ◌&&◌, nat_le, nat_eq, cond, List, [], ◌∷◌, length, get_or, set, Option, Some, None, refl, sym, ◌∙◌, ap, arith}
 use Rattle.std.proofs.lemmas.Bool.Decides.{nat_tests}
 use Rattle.std.proofs.lemmas.List.{get_or-set_other, get_or-set_same}
-use Rattle.silq_tree.specs.declared.node.Spot.{Spot}
+use Rattle.std.specs.Prelude.{option_map}
+use Rattle.silq_tree.specs.declared.node.NameId.{NameId}
+use Rattle.silq_tree.specs.declared.node.ExprId.{ExprId}
+use Rattle.silq_tree.specs.declared.node.UnaryOp.{UnaryOp}
+use Rattle.silq_tree.specs.declared.node.UnaryOp.TheVariants as unaries
+use Rattle.silq_tree.specs.Standing.{part_of}
+use Rattle.silq_grammar.specs.Grammar.{Unary, place, called, paren}
+use Rattle.silq_print.specs.Bare.{nowhere}
 use Rattle.silq_tree.specs.declared.node.BinaryOp.{BinaryOp}
 use Rattle.silq_tree.specs.declared.node.BinaryOp.TheVariants as ops
 use Rattle.silq_tree.specs.Syntax as tree
-use Rattle.silq_print.specs.Ways.{greater, Written, at_unary, in_parens, join, depth, Ways, only, also, each_way, least, goes_on, lefts, ways}
+use Rattle.silq_print.specs.Ways.{greater, Written, at_unary, in_parens, to_unary, signed, exprs_of, args_of, call_of, scalar_way, place_way, exprs_way, join, depth, Ways, only, also, each_way, least, goes_on, lefts, ways}
 use Rattle.silq_print.specs.Levels.{left_level, right_level, goes_on_at, is_looser, top_level}
 use Rattle.silq_print.specs.Styles.{nth_way}
-use Rattle.silq_print.specs.Depths.{capped, low, operand_low, signs, lesser, least_with, least_of, only_at, longer_at, chain_at, AreDepths}
+use Rattle.silq_print.specs.Depths.{capped, low, operand_low, scalar_low, index_low, deepest, signs, lesser, least_with, least_of, only_at, longer_at, chain_at, AreDepths}
 use Rattle.silq_print.specs.declared.level.Level.{Level}
 use Rattle.silq_print.specs.declared.level.Level.TheVariants as l
+use Rattle.silq_print.proofs.Tops.{unary_top, scalar_top, place_top, call_top, args_top, exprs_top}
 use Rattle.silq_print.proofs.Chains.{top_of}
 use Rattle.silq_print.proofs.WaysTexts.{level, chain_fits, unary_fits, goes_on_is, nth_level, least_level}
-use Rattle.silq_print.proofs.Depths.{depth_is, capped_cases, greater_cases, lesser_cases, capped_greater, capped_behind, operand_top, join_top, signs_on, signs_off, lesser_greater, lesser_top, lowest_is}
+use Rattle.silq_print.proofs.Depths.{depth_is, capped_cases, greater_cases, lesser_cases, capped_greater, capped_behind, operand_top, unary_is, join_top, signs_on, signs_off, lesser_greater, lesser_top, lowest_is}
 
 pub chain_tight : (ws : Ways) (ls all : List ℕ) (r v : ℕ) → length ls ≡ 65 → length all ≡ 65 → AreDepths ls ws → ((s : ℕ) → s < 65 → get_or all s 0 ≡ longer_at ls r s)
     → v ≡ lesser (get_or all 1 0) (greater (capped (1 + least_of ls)) (capped (1 + r))) → (s : ℕ) → s < 65 → get_or (set all 1 v) s 0 ≡ chain_at true ws r s
@@ -187,6 +195,9 @@ parens_with op v w s =
     ∙ ap (λ b. only_at 1 (greater (capped (cond b (1 + (1 + top_of v)) (1 + top_of v))) (capped (1 + operand_top (right_level op) w))) s) (unary_fits op)
     ∙ ap (λ d. only_at 1 (greater (capped (1 + d)) (capped (1 + operand_top (right_level op) w))) s) (sym (depth_is v))
 
+not_one : (s : ℕ) → nat_eq 1 (suc (suc s)) ≡ false
+not_one s = grind (arith, nat_tests)
+
 tight_chain : (op : BinaryOp) (v w : Written) (ws : Ways) (r s : ℕ) → v ≡ least ws → AllOn op ws → ((n : ℕ) → capped (n + r) ≡ capped (n + operand_top (right_level op) w))
     → chain_at true ws r s ≡ least_with (each_way (λ u. join op u w) (also (at_unary (in_parens v)) ws)) s
 tight_chain op v w ws r zero e h f =
@@ -201,6 +212,7 @@ tight_chain op v w ws r (suc (suc s)) e h f =
     ap (greater (least_with ws (suc s))) (f (suc (suc s)))
     ∙ sym (each_with op w ws (suc s) h)
     ∙ sym (lesser_top (least_with (each_way (λ u. join op u w) ws) (suc (suc s))) (most_with (each_way (λ u. join op u w) ws) (suc (suc s))))
+    ∙ ap (λ b. lesser (cond b (greater (capped (1 + depth v)) (capped (1 + operand_top (right_level op) w))) 65) (least_with (each_way (λ u. join op u w) ws) (suc (suc s)))) (sym (not_one s))
     ∙ ap (λ x. lesser x (least_with (each_way (λ u. join op u w) ws) (suc (suc s)))) (sym (parens_with op v w (suc (suc s))))
 
 loose_chain : (op : BinaryOp) (v w : Written) (ws : Ways) (r s : ℕ) → ws ≡ only v → goes_on_at op (level v) ≡ true → ((n : ℕ) → capped (n + r) ≡ capped (n + operand_top (right_level op) w))
@@ -215,3 +227,83 @@ chained op false x y s h =
     loose_chain op (least (ways false x)) (least (ways false y)) (ways false x) (capped (operand_low (right_level op) false y)) s (only_loose x) (ap (goes_on_at op) (least_level false x) ∙ h) (right_is op false y)
 chained op true x y s h = rw (goes_on_is op (least (ways true x)) ∙ ap (goes_on_at op) (least_level true x) ∙ h)
     (tight_chain op (least (ways true x)) (least (ways true y)) (ways true x) (capped (operand_low (right_level op) true y)) s refl (all_on op (top_level x) (ways true x) (λ k. nth_level true k x) h) (right_is op true y))
+
+-- what has no sign between operands
+
+pub leaf : (d : Unary) (x s : ℕ) → unary_top d ≡ x → only_at 0 (capped x) s ≡ least_with (only (at_unary d)) s
+leaf d x s e = ap (λ y. only_at 0 (capped y) s) (sym e ∙ sym (depth_is (at_unary d)))
+
+greater_zero : (n : ℕ) → greater n 0 ≡ n
+greater_zero n = go (greater_cases n 0)
+  where
+    go : ((0 ≤ n) × (greater n 0 ≡ n)) ⊎ ((n ≤ 0) × (greater n 0 ≡ 0)) → greater n 0 ≡ n
+    go (inl p) = p.1
+    go (inr p) = omega (arith, p.0, p.1)
+
+zero_greater : (n : ℕ) → greater 0 n ≡ n
+zero_greater n = go (greater_cases 0 n)
+  where
+    go : ((n ≤ 0) × (greater 0 n ≡ 0)) ⊎ ((0 ≤ n) × (greater 0 n ≡ n)) → greater 0 n ≡ n
+    go (inl p) = omega (arith, p.0, p.1)
+    go (inr p) = p.1
+
+one_greater : (a b : ℕ) → greater (1 + a) (1 + b) ≡ 1 + greater a b
+one_greater a b = go (greater_cases a b) (greater_cases (1 + a) (1 + b))
+  where
+    go : ((b ≤ a) × (greater a b ≡ a)) ⊎ ((a ≤ b) × (greater a b ≡ b)) → ((1 + b ≤ 1 + a) × (greater (1 + a) (1 + b) ≡ 1 + a)) ⊎ ((1 + a ≤ 1 + b) × (greater (1 + a) (1 + b) ≡ 1 + b)) → greater (1 + a) (1 + b) ≡ 1 + greater a b
+    go (inl p) (inl q) = omega (arith, p.0, p.1, q.0, q.1)
+    go (inl p) (inr q) = omega (arith, p.0, p.1, q.0, q.1)
+    go (inr p) (inl q) = omega (arith, p.0, p.1, q.0, q.1)
+    go (inr p) (inr q) = omega (arith, p.0, p.1, q.0, q.1)
+
+pub scalar_leaf : (tight : Bool) (ty : tree.ScalarType) → scalar_top (scalar_way tight ty) ≡ scalar_low tight ty
+scalar_leaf tight tree.bit = refl
+scalar_leaf tight (tree.uint e) = ap (λ n. 1 + n) (sym (depth_is (least (ways tight e))))
+scalar_leaf tight (tree.int e) = ap (λ n. 1 + n) (sym (depth_is (least (ways tight e))))
+
+deepest_is : (tight : Bool) (es : tree.Expressions) → args_top (args_of (exprs_way tight es)) ≡ deepest tight es
+deepest_is tight tree.none = refl
+deepest_is tight (tree.more e tree.none) = sym (depth_is (least (ways tight e))) ∙ sym (greater_zero (low tight e))
+deepest_is tight (tree.more e (tree.more f fs)) =
+    ap (λ n. greater n (exprs_top (exprs_of (exprs_way tight (tree.more f fs))))) (sym (depth_is (least (ways tight e)))) ∙ ap (greater (low tight e)) (deepest_is tight (tree.more f fs))
+
+call_is : (f : NameId) (tight : Bool) (ss es : tree.Expressions) → call_top (call_of f (exprs_way tight ss) (exprs_way tight es)) ≡ 1 + greater (deepest tight ss) (deepest tight es)
+call_is f tight tree.none es = ap (λ n. 1 + n) (deepest_is tight es ∙ sym (zero_greater (deepest tight es)))
+call_is f tight (tree.more s ss) es =
+    one_greater (exprs_top (exprs_of (exprs_way tight (tree.more s ss)))) (args_top (args_of (exprs_way tight es)))
+    ∙ ap (λ n. 1 + greater n (args_top (args_of (exprs_way tight es)))) (deepest_is tight (tree.more s ss)) ∙ ap (λ n. 1 + greater (deepest tight (tree.more s ss)) n) (deepest_is tight es)
+
+pub call_leaf : (f : NameId) (tight : Bool) (ss es : tree.Expressions) (s : ℕ)
+    → only_at 0 (capped (1 + greater (capped (deepest tight ss)) (capped (deepest tight es)))) s ≡ least_with (only (at_unary (called (call_of f (exprs_way tight ss) (exprs_way tight es))))) s
+call_leaf f tight ss es s =
+    ap (λ n. only_at 0 (capped (1 + n)) s) (capped_greater (deepest tight ss) (deepest tight es)) ∙ ap (λ n. only_at 0 n s) (capped_behind 1 (greater (deepest tight ss) (deepest tight es)))
+    ∙ leaf (called (call_of f (exprs_way tight ss) (exprs_way tight es))) (1 + greater (deepest tight ss) (deepest tight es)) s (call_is f tight ss es)
+
+tuple_is : (tight : Bool) (es : tree.Expressions) → 1 + exprs_top (exprs_of (exprs_way tight es)) ≡ 1 + deepest tight es
+tuple_is tight tree.none = refl
+tuple_is tight (tree.more e es) = ap (λ n. 1 + n) (deepest_is tight (tree.more e es))
+
+pub tuple_leaf : (tight : Bool) (es : tree.Expressions) (s : ℕ) → only_at 0 (capped (1 + capped (deepest tight es))) s ≡ least_with (only (at_unary (paren nowhere (exprs_of (exprs_way tight es)) nowhere))) s
+tuple_leaf tight es s = ap (λ n. only_at 0 n s) (capped_behind 1 (deepest tight es)) ∙ leaf (paren nowhere (exprs_of (exprs_way tight es)) nowhere) (1 + deepest tight es) s (tuple_is tight es)
+
+pub unary_leaf : (op : UnaryOp) (tight : Bool) (e : tree.Expression) (s : ℕ) → only_at 0 (capped (1 + capped (operand_low l.Unary tight e))) s ≡ least_with (only (at_unary (signed op (to_unary (least (ways tight e)))))) s
+unary_leaf unaries.Not tight e s =
+    ap (λ n. only_at 0 n s) (capped_behind 1 (operand_low l.Unary tight e))
+    ∙ leaf (signed unaries.Not (to_unary (least (ways tight e)))) (1 + operand_low l.Unary tight e) s (ap (λ n. 1 + n) (unary_is (least (ways tight e)) ∙ sym (operand_low_is l.Unary tight e)))
+unary_leaf unaries.Neg tight e s =
+    ap (λ n. only_at 0 n s) (capped_behind 1 (operand_low l.Unary tight e))
+    ∙ leaf (signed unaries.Neg (to_unary (least (ways tight e)))) (1 + operand_low l.Unary tight e) s (ap (λ n. 1 + n) (unary_is (least (ways tight e)) ∙ sym (operand_low_is l.Unary tight e)))
+
+place_is : (at : ExprId → tree.Expression) (tight : Bool) (x : NameId) (f g : Option ExprId) → (f ≡ None → g ≡ None)
+    → greater (capped (index_low tight (option_map at f))) (capped (index_low tight (option_map at g))) ≡ capped (place_top (place_way tight (part_of at x f g)))
+place_is at tight x None None h = refl
+place_is at tight x None (Some j) h = cc (h refl)
+place_is at tight x (Some i) None h =
+    capped_greater (1 + low tight (at i)) 0 ∙ ap capped (greater_zero (1 + low tight (at i)) ∙ ap (λ n. 1 + n) (depth_is (least (ways tight (at i)))))
+place_is at tight x (Some i) (Some j) h =
+    capped_greater (1 + low tight (at i)) (1 + low tight (at j))
+    ∙ ap (λ n. capped (greater (1 + n) (1 + low tight (at j)))) (depth_is (least (ways tight (at i)))) ∙ ap (λ n. capped (greater (1 + top_of (least (ways tight (at i)))) (1 + n))) (depth_is (least (ways tight (at j))))
+
+pub place_leaf : (at : ExprId → tree.Expression) (tight : Bool) (x : NameId) (f g : Option ExprId) (s : ℕ) → (f ≡ None → g ≡ None)
+    → only_at 0 (greater (capped (index_low tight (option_map at f))) (capped (index_low tight (option_map at g)))) s ≡ least_with (only (at_unary (place (place_way tight (part_of at x f g))))) s
+place_leaf at tight x f g s h = ap (λ n. only_at 0 n s) (place_is at tight x f g h) ∙ leaf (place (place_way tight (part_of at x f g))) (place_top (place_way tight (part_of at x f g))) s refl

@@ -142,7 +142,7 @@ prod_is (at_sum d) = refl
 prod_is (at_prod d) = refl
 prod_is (at_unary d) = refl
 
-unary_is : (w : Written) → unary_top (to_unary w) ≡ operand_top l.Unary w
+pub unary_is : (w : Written) → unary_top (to_unary w) ≡ operand_top l.Unary w
 unary_is (at_or d) = refl
 unary_is (at_and d) = refl
 unary_is (at_cmp d) = refl

@@ -1,9 +1,10 @@
-use Rattle.std.proofs.Common.{arith, ap, true, ◌∙◌, ◌+◌, get_or}
-use Rattle.silq_print.specs.Depths.{capped, lesser, least_of, only_at, chain_at, operand_low}
-use Rattle.silq_print.proofs.Deeper.{chain_tight, single, chained}
+use Rattle.std.proofs.Common.{arith, ap, sym, true, ◌∙◌, ◌+◌, get_or}
+use Rattle.silq_print.specs.Depths.{capped, lesser, least_of, only_at, chain_at, operand_low, index_low, deepest}
+use Rattle.silq_print.proofs.Deeper.{chain_tight, single, chained, leaf, scalar_leaf, call_leaf, tuple_leaf, unary_leaf, place_leaf}
+use Rattle.std.specs.Prelude.{option_map}
 use Rattle.silq_print.proofs.Depths.{capped_behind}
-use Rattle.silq_print.specs.Levels.{left_level, right_level}
-use Rattle.silq_tree.specs.Standing.{expr_grown}
+use Rattle.silq_print.specs.Levels.{left_level, right_level, goes_on_at}
+use Rattle.silq_tree.specs.Standing.{expr_grown, expressions_of}
 use Rattle.silq_tree.specs.Arena.{expr_at}
 use Rattle.silq_print.specs.Ways.{greater, ways}
 use Rattle.silq_print.proofs.Depths.{lowest_is}
@@ -19,26 +20,43 @@ chain_depths-returns-then-tight n c = rw c.if-tight.true
     ∙ ap (greater (capped (1 + least_of c.depths-lefts.result))) c.behind-then-tight.ensures)))
 
 pub depths-returns-in-Number-default-Some-default : goal.depths-returns-in-Number-default-Some-default
-depths-returns-in-Number-default-Some-default n c = ?
+depths-returns-in-Number-default-Some-default n c = λ s l.
+    let at = expr_at c.args.tree.now in
+    rw (c.expr.ensures.tree ∙ ap (expr_grown at) c.in-Number-default-Some-default.is)
+    (c.one_way.ensures s l ∙ ap (λ d. only_at 0 d s) c.width_depth.ensures ∙ leaf _ _ s (scalar_leaf c.args.tight _))
 
 pub depths-returns-in-Place : goal.depths-returns-in-Place
-depths-returns-in-Place n c = ?
+depths-returns-in-Place n c = λ s l.
+    let at = expr_at c.args.tree.now in
+    rw (c.expr.ensures.tree ∙ ap (expr_grown at) c.in-Place.is)
+    (c.one_way-in-Place.ensures s l ∙ ap (λ d. only_at 0 d s) (c.greater.ensures ∙ ap (λ d. greater d c.index_depth-second.result) c.index_depth-first.ensures ∙ ap (greater (capped (index_low c.args.tight (option_map at c.in-Place.place.first)))) c.index_depth-second.ensures)
+    ∙ place_leaf at c.args.tight c.in-Place.place.name c.in-Place.place.first c.in-Place.place.second s (rw c.in-Place.is at c.expr.ensures.first))
 
 pub depths-returns-in-Call : goal.depths-returns-in-Call
-depths-returns-in-Call n c = ?
+depths-returns-in-Call n c = λ s l.
+    let at = expr_at c.args.tree.now in
+    rw (c.expr.ensures.tree ∙ ap (expr_grown at) c.in-Call.is)
+    (c.one_way-in-Call.ensures s l ∙ ap (λ d. only_at 0 d s) (c.behind.ensures ∙ ap (λ d. capped (1 + d)) (c.greater-in-Call.ensures ∙ ap (λ d. greater d c.deepest-second.result) (rw c.as_slice.ensures at c.deepest-first.ensures) ∙ ap (greater (capped (deepest c.args.tight (expressions_of at c.in-Call.statics)))) (rw c.as_slice-in-Call.ensures at c.deepest-second.ensures)))
+    ∙ call_leaf c.in-Call.fun c.args.tight (expressions_of at c.in-Call.statics) (expressions_of at c.in-Call.args) s)
 
 pub depths-returns-in-Tuple : goal.depths-returns-in-Tuple
-depths-returns-in-Tuple n c = ?
+depths-returns-in-Tuple n c = λ s l.
+    let at = expr_at c.args.tree.now in
+    rw (c.expr.ensures.tree ∙ ap (expr_grown at) c.in-Tuple.is)
+    (c.one_way-in-Tuple.ensures s l ∙ ap (λ d. only_at 0 d s) (c.behind-in-Tuple.ensures ∙ ap (λ d. capped (1 + d)) (rw c.as_slice-in-Tuple.ensures at c.deepest.ensures)) ∙ tuple_leaf c.args.tight (expressions_of at c.in-Tuple.items) s)
 
 pub depths-returns-in-Unary : goal.depths-returns-in-Unary
-depths-returns-in-Unary n c = ?
+depths-returns-in-Unary n c = λ s l.
+    let at = expr_at c.args.tree.now in
+    rw (c.expr.ensures.tree ∙ ap (expr_grown at) c.in-Unary.is)
+    (c.one_way-in-Unary.ensures s l ∙ ap (λ d. only_at 0 d s) (c.behind-in-Unary.ensures ∙ ap (λ d. capped (1 + d)) c.operand_depth.ensures) ∙ unary_leaf c.in-Unary.op c.args.tight (at c.in-Unary.arg) s)
 
 pub depths-returns-then-goes_on : goal.depths-returns-then-goes_on
 depths-returns-then-goes_on n c = λ s l.
     let at = expr_at c.args.tree.now in
     rw (c.expr.ensures.tree ∙ ap (expr_grown at) c.in-Binary.is)
     (c.chain_depths.ensures s l ∙ ap (λ r. chain_at c.args.tight (ways c.args.tight (at c.in-Binary.left)) r s) (rw c.right_level.ensures at c.operand_depth-right.ensures)
-    ∙ chained c.in-Binary.op c.args.tight (at c.in-Binary.left) (at c.in-Binary.right) s ?)
+    ∙ chained c.in-Binary.op c.args.tight (at c.in-Binary.left) (at c.in-Binary.right) s (sym (ap (goes_on_at c.in-Binary.op) c.top_level.ensures) ∙ sym c.goes_on.ensures ∙ c.if-goes_on.true))
 
 pub depths-returns-else-goes_on : goal.depths-returns-else-goes_on
 depths-returns-else-goes_on n c = λ s l.
@@ -48,4 +66,4 @@ depths-returns-else-goes_on n c = λ s l.
     (c.greater-else-goes_on.ensures ∙ ap (λ d. greater d c.behind-else-goes_on.result) (rw c.left_level.ensures at c.operand_depth-left.ensures)
     ∙ ap (greater (capped (operand_low (left_level c.in-Binary.op) c.args.tight (at c.in-Binary.left))))
       (c.behind-else-goes_on.ensures ∙ ap (λ d. capped (1 + d)) (rw c.right_level.ensures at c.operand_depth-right.ensures) ∙ capped_behind 1 (operand_low (right_level c.in-Binary.op) c.args.tight (at c.in-Binary.right))))
-    ∙ single c.in-Binary.op c.args.tight (at c.in-Binary.left) (at c.in-Binary.right) s ?)
+    ∙ single c.in-Binary.op c.args.tight (at c.in-Binary.left) (at c.in-Binary.right) s (sym (ap (goes_on_at c.in-Binary.op) c.top_level.ensures) ∙ sym c.goes_on.ensures ∙ c.if-goes_on.false))
