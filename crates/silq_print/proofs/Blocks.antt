@@ -118,7 +118,7 @@ module _ {names : List (List ℕ)} where
 module _ {names : List (List ℕ)} (at : ExprId → tree.Expression) (stmt : StmtId → tree.Statement) (n : ℕ) where
   pub first_of_block : {s m : State} (ids : List StmtId) → Puts true names s m (Fixed t.LeftBrace nowhere ∷ [])
       → Left names s (are_sound_stmts (1 + n) (statements_of at stmt ids)) (braces_text n (statements_of at stmt ids)) m
-        (are_sound_stmts (1 + n) (statements_of at stmt ids)) (rest_of_block n (statements_of at stmt ids))
+      (are_sound_stmts (1 + n) (statements_of at stmt ids)) (rest_of_block n (statements_of at stmt ids))
   first_of_block ids p = λ u q. puts_token p q
 
   pub next_of_block : {s m o : State} {all_sound : Bool} {all : List Token} (ids : List StmtId) (i : ℕ) (d : StmtId) → i < length ids

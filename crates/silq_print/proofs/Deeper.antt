@@ -1,22 +1,25 @@
 -- The depths of the ways of an expression, from those of its parts.
-use Rattle.std.proofs.Common.{◌≡◌, ◌⊎◌, inl, inr, ℕ, zero, suc, ◌+◌, ◌-◌, ◌<◌, ◌≤◌, Bool, true, false, ◌&&◌, nat_le, nat_eq, cond, List, [], ◌∷◌, length, get_or, set, Option, Some, None, refl, sym, ◌∙◌, ap, arith}
+use Rattle.std.proofs.Common.{◌≡◌, ◌⊎◌, inl, inr, ℕ, ℤ, zero, suc, ◌+◌, ◌-◌, ◌<◌, ◌≤◌, Bool, true, false, ◌&&◌, nat_le, nat_eq, cond, List, [], ◌∷◌, length, get_or, set, Option, Some, None, refl, sym, ◌∙◌, ap, arith}
 use Rattle.std.proofs.lemmas.Bool.Decides.{nat_tests}
 use Rattle.std.proofs.lemmas.List.{get_or-set_other, get_or-set_same}
 use Rattle.std.specs.Prelude.{option_map}
+use Rattle.silq_tree.specs.declared.node.Spot.{Spot}
 use Rattle.silq_tree.specs.declared.node.NameId.{NameId}
 use Rattle.silq_tree.specs.declared.node.ExprId.{ExprId}
 use Rattle.silq_tree.specs.declared.node.UnaryOp.{UnaryOp}
 use Rattle.silq_tree.specs.declared.node.UnaryOp.TheVariants as unaries
-use Rattle.silq_tree.specs.Standing.{part_of}
-use Rattle.silq_grammar.specs.Grammar.{Unary, place, called, paren}
+use Rattle.silq_tree.specs.declared.node.ScalarNode.{ScalarNode}
+use Rattle.silq_tree.specs.declared.node.Expr.TheVariants as exprs
+use Rattle.silq_tree.specs.Standing.{part_of, scalar_of, expr_grown}
+use Rattle.silq_grammar.specs.Grammar.{Unary, number, typed_number, place, called, paren}
 use Rattle.silq_print.specs.Bare.{nowhere}
 use Rattle.silq_tree.specs.declared.node.BinaryOp.{BinaryOp}
 use Rattle.silq_tree.specs.declared.node.BinaryOp.TheVariants as ops
 use Rattle.silq_tree.specs.Syntax as tree
 use Rattle.silq_print.specs.Ways.{greater, Written, at_unary, in_parens, to_unary, signed, exprs_of, args_of, call_of, scalar_way, place_way, exprs_way, join, depth, Ways, only, also, each_way, least, goes_on, lefts, ways}
 use Rattle.silq_print.specs.Levels.{left_level, right_level, goes_on_at, is_looser, top_level}
-use Rattle.silq_print.specs.Styles.{nth_way}
-use Rattle.silq_print.specs.Depths.{capped, low, operand_low, scalar_low, index_low, deepest, signs, lesser, least_with, least_of, only_at, longer_at, chain_at, AreDepths}
+use Rattle.silq_print.specs.Styles.{nth_way, number_of}
+use Rattle.silq_print.specs.Depths.{capped, low, operand_low, scalar_low, number_low, index_low, deepest, signs, lesser, least_with, least_of, only_at, longer_at, chain_at, AreDepths}
 use Rattle.silq_print.specs.declared.level.Level.{Level}
 use Rattle.silq_print.specs.declared.level.Level.TheVariants as l
 use Rattle.silq_print.proofs.Tops.{unary_top, scalar_top, place_top, call_top, args_top, exprs_top}
@@ -307,3 +310,27 @@ place_is at tight x (Some i) (Some j) h =
 pub place_leaf : (at : ExprId → tree.Expression) (tight : Bool) (x : NameId) (f g : Option ExprId) (s : ℕ) → (f ≡ None → g ≡ None)
     → only_at 0 (greater (capped (index_low tight (option_map at f))) (capped (index_low tight (option_map at g)))) s ≡ least_with (only (at_unary (place (place_way tight (part_of at x f g))))) s
 place_leaf at tight x f g s h = ap (λ n. only_at 0 n s) (place_is at tight x f g h) ∙ leaf (place (place_way tight (part_of at x f g))) (place_top (place_way tight (part_of at x f g))) s refl
+
+pub number_leaf : (at : ExprId → tree.Expression) (tight : Bool) (v : ℤ) (ty : Option ScalarNode) (spot : Spot) (s : ℕ)
+    → only_at 0 (capped (number_low tight (number_of at ty))) s ≡ least_with (ways tight (expr_grown at (exprs.Number v ty spot))) s
+number_leaf at tight v None spot s = leaf (number v nowhere) 0 s refl
+number_leaf at tight v (Some ty) spot s = leaf (typed_number v nowhere nowhere (scalar_way tight (scalar_of at ty))) (scalar_low tight (scalar_of at ty)) s (scalar_leaf tight (scalar_of at ty))
+
+-- The ways have one sign, two, and so on.
+abbrev CountUp : ℕ → Ways → Type 0
+CountUp k (only w) = signs w ≡ k
+CountUp k (also w ws) = (signs w ≡ k) × CountUp (suc k) ws
+
+other_signs : (w : Written) (k s : ℕ) → signs w ≡ k → k < s → cond (nat_eq (signs w) s) (capped (depth w)) 65 ≡ 65
+other_signs w k s e l = let c : nat_eq (signs w) s ≡ false = grind (arith, nat_tests) in ap (λ b. cond b (capped (depth w)) 65) c
+
+same_signs : (w : Written) (k : ℕ) → signs w ≡ k → cond (nat_eq (signs w) k) (capped (depth w)) 65 ≡ capped (depth w)
+same_signs w k e = let c : nat_eq (signs w) k ≡ true = grind (arith, nat_tests) in ap (λ b. cond b (capped (depth w)) 65) c
+
+-- no way has fewer signs
+none_below : (ws : Ways) (k s : ℕ) → CountUp k ws → s < k → least_with ws s ≡ 65
+none_below (only w) k s h l = let c : nat_eq (signs w) s ≡ false = grind (arith, nat_tests) in ap (λ b. cond b (capped (depth w)) 65) c
+none_below (also w ws) k s h l =
+    let g = h.0 in
+    let c : nat_eq (signs w) s ≡ false = grind (arith, nat_tests) in
+    ap (λ b. lesser (cond b (capped (depth w)) 65) (least_with ws s)) c ∙ ap (lesser 65) (none_below ws (suc k) s h.1 (omega (arith, l)))

@@ -22,6 +22,10 @@ scalar_low tight tree.bit = 0
 scalar_low tight (tree.uint e) = 1 + low tight e
 scalar_low tight (tree.int e) = 1 + low tight e
 
+abbrev pub number_low : Bool → Option tree.ScalarType → ℕ
+number_low tight None = 0
+number_low tight (Some ty) = scalar_low tight ty
+
 abbrev pub index_low : Bool → Option tree.Expression → ℕ
 index_low tight None = 0
 index_low tight (Some e) = 1 + low tight e

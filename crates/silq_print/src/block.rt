@@ -31,7 +31,14 @@ fn update_sign(op: UpdateOp) -> Terminal
 
 impl<'a, S: Sink> Printer<'a, S> {
     /// Puts a sign between a variable and its value.
-    fn store(&mut self, program: &Program, target: PlaceNode, sign: Terminal, value: ExprId, nest: u64)
+    fn store(
+        &mut self,
+        program: &Program,
+        target: PlaceNode,
+        sign: Terminal,
+        value: ExprId,
+        nest: u64,
+    )
         requires below { AreExprsBelow (length program.now.tree.exprs) (place_exprs target) }
         requires first { HasFirst target }
         requires value { value.number < length program.now.tree.exprs }
@@ -182,18 +189,45 @@ impl<'a, S: Sink> Printer<'a, S> {
         ensures puts { Puts (is_sound_stmt nest (stmt_at program.now.tree s)) program.now.names (state self.old.failed (S.put_so_far self.old.out.now) (S.faults self.old.out.now)) (state self.new.failed (S.put_so_far self.new.out.now) (S.faults self.new.out.now)) (stmt_text (stmt_in nest (stmt_at program.now.tree s))) }
     {
         match program.tree.stmt(s) {
-            Stmt::Assign { target, value, .. } => self.store(program, *target, Terminal::Becomes, *value, nest),
-            Stmt::Spread { names, value, .. } => self.spread(program, names.as_slice(), *value, nest),
-            Stmt::Update { target, op, value, .. } => self.store(program, *target, update_sign(*op), *value, nest),
+            Stmt::Assign { target, value, .. } => self.store(
+                program,
+                *target,
+                Terminal::Becomes,
+                *value,
+                nest,
+            ),
+            Stmt::Spread { names, value, .. } => self.spread(
+                program,
+                names.as_slice(),
+                *value,
+                nest,
+            ),
+            Stmt::Update {
+                target,
+                op,
+                value,
+                ..
+            } => self.store(program, *target, update_sign(*op), *value, nest),
             Stmt::Forget { name, value, .. } => self.forget(program, *name, *value, nest),
             Stmt::Phase { angle, .. } => self.phase(program, *angle, nest),
-            Stmt::If { cond, then, other, .. } => {
+            Stmt::If {
+                cond,
+                then,
+                other,
+                ..
+            } => {
                 self.fixed(&program.names, Terminal::If);
                 self.expr(program, *cond, Style::Around { nest });
                 self.block(program, then.items.as_slice(), nest);
                 self.rest(program, other, nest);
             }
-            Stmt::For { name, low, high, body, .. } => {
+            Stmt::For {
+                name,
+                low,
+                high,
+                body,
+                ..
+            } => {
                 self.loop_head(program, *name, *low, *high, nest);
                 self.block(program, body.items.as_slice(), nest);
             }

@@ -3,11 +3,11 @@
 ghost use Rattle.std.specs.Prelude.{◌≡◌, ◌+◌, ◌<◌, ◌≤◌, length, true, false, ℕ, nat_lt, slice_index, option_map};
 ghost use Rattle.silq_tree.specs.Arena.{expr_at};
 ghost use Rattle.silq_tree.specs.Standing.{expressions_of, scalar_of};
-ghost use Rattle.silq_tree.specs.Children.{AreExprsBelow, scalar_exprs, listed};
+ghost use Rattle.silq_tree.specs.Children.{AreExprsBelow, scalar_exprs, number_exprs, listed};
 ghost use Rattle.silq_print.specs.Ways as spec;
 ghost use Rattle.silq_print.specs.Ways.{greater, least, ways};
-ghost use Rattle.silq_print.specs.Styles.{fits, nth_way, tight_by};
-ghost use Rattle.silq_print.specs.Depths.{capped, lesser, low, operand_low, scalar_low, index_low, deepest, AreDepths, least_of, longer_at, only_at, chain_at};
+ghost use Rattle.silq_print.specs.Styles.{fits, nth_way, tight_by, number_of};
+ghost use Rattle.silq_print.specs.Depths.{capped, lesser, low, operand_low, scalar_low, number_low, index_low, deepest, AreDepths, least_of, longer_at, only_at, chain_at};
 
 use crate::expr::top_level;
 use crate::level::{Level, goes_on, left_level, rank, right_level};
@@ -65,6 +65,19 @@ fn width_depth(tree: &Tree, ty: ScalarNode, tight: bool) -> u8
         ScalarNode::Bit => 0,
         ScalarNode::UInt(width) => behind(1, depth(tree, width, tight)),
         ScalarNode::Int(width) => behind(1, depth(tree, width, tight)),
+    }
+}
+
+/// How much nest the type of a number adds, where it has one.
+#[cycle(depth)]
+#[tactic(auto, using(silq_tree::proofs::Lists::ids))]
+fn number_depth(tree: &Tree, ty: Option<ScalarNode>, tight: bool) -> u8
+    requires { AreExprsBelow (length tree.now.exprs) (number_exprs ty) }
+    ensures { result ≡ capped (number_low tight (number_of (expr_at tree.now) ty)) }
+{
+    match ty {
+        Some(scalar) => width_depth(tree, scalar, tight),
+        None => 0,
     }
 }
 
@@ -141,7 +154,7 @@ fn depths(tree: &Tree, e: ExprId, tight: bool) -> [u8; 65]
     ensures { AreDepths result (ways tight (expr_at tree.now e)) }
 {
     match tree.expr(e) {
-        Expr::Number { ty: Some(ty), .. } => one_way(0, width_depth(tree, *ty, tight)),
+        Expr::Number { ty, .. } => one_way(0, number_depth(tree, *ty, tight)),
         Expr::Place { place, .. } => {
             let first = index_depth(tree, place.first, tight);
             let second = index_depth(tree, place.second, tight);
@@ -156,7 +169,12 @@ fn depths(tree: &Tree, e: ExprId, tight: bool) -> [u8; 65]
         Expr::Unary { arg, .. } => {
             one_way(0, behind(1, operand_depth(tree, *arg, Level::Unary, tight)))
         }
-        Expr::Binary { op, left, right, .. } => {
+        Expr::Binary {
+            op,
+            left,
+            right,
+            ..
+        } => {
             let right = operand_depth(tree, *right, right_level(*op), tight);
             if goes_on(*op, top_level(tree, *left)) {
                 chain_depths(tree, *left, right, tight)

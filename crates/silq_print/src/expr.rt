@@ -40,7 +40,11 @@ pub(crate) fn top_level(tree: &Tree, e: ExprId) -> Level
 fn truth(value: bool) -> Terminal
     ensures { result ≡ truth_word value }
 {
-    if value { Terminal::True } else { Terminal::False }
+    if value {
+        Terminal::True
+    } else {
+        Terminal::False
+    }
 }
 
 impl<'a, S: Sink> Printer<'a, S> {
@@ -146,13 +150,23 @@ impl<'a, S: Sink> Printer<'a, S> {
             }
             Expr::Pi { .. } => self.fixed(names, Terminal::Pi),
             Expr::Place { place, .. } => self.place(program, *place, style),
-            Expr::Call { fun, statics, args, .. } => self.call(program, *fun, statics.as_slice(), args.as_slice(), style),
+            Expr::Call {
+                fun,
+                statics,
+                args,
+                ..
+            } => self.call(program, *fun, statics.as_slice(), args.as_slice(), style),
             Expr::Tuple { items, .. } => self.tuple(program, items.as_slice(), style),
             Expr::Unary { op, arg, .. } => {
                 self.fixed(names, unary_sign(*op));
                 self.operand(program, *arg, Level::Unary, tight);
             }
-            Expr::Binary { op, left, right, .. } => {
+            Expr::Binary {
+                op,
+                left,
+                right,
+                ..
+            } => {
                 self.left(program, *op, *left, tight, way);
                 self.fixed(names, sign_of(*op));
                 self.operand(program, *right, right_level(*op), tight);
@@ -230,7 +244,14 @@ impl<'a, S: Sink> Printer<'a, S> {
     /// Puts a call; without static arguments it has no brackets.
     #[cycle(expression)]
     #[tactic(auto, using(silq_tree::proofs::Lists::ids))]
-    pub(crate) fn call(&mut self, program: &Program, fun: NameId, statics: &[ExprId], args: &[ExprId], style: Style)
+    pub(crate) fn call(
+        &mut self,
+        program: &Program,
+        fun: NameId,
+        statics: &[ExprId],
+        args: &[ExprId],
+        style: Style,
+    )
         requires statics { AreExprsBelow (length program.now.tree.exprs) statics.now }
         requires args { AreExprsBelow (length program.now.tree.exprs) args.now }
         ensures same_sink { self.new.out.ghost_name ≡ self.old.out.ghost_name }

@@ -13,4 +13,3 @@ mod style;
 mod terminal;
 #[cfg(test)]
 mod tests;
-

@@ -1,6 +1,6 @@
 use Rattle.std.proofs.Common.{arith, ap, sym, true, ◌∙◌, ◌+◌, get_or}
 use Rattle.silq_print.specs.Depths.{capped, lesser, least_of, only_at, chain_at, operand_low, index_low, deepest}
-use Rattle.silq_print.proofs.Deeper.{chain_tight, single, chained, leaf, scalar_leaf, call_leaf, tuple_leaf, unary_leaf, place_leaf}
+use Rattle.silq_print.proofs.Deeper.{chain_tight, single, chained, number_leaf, call_leaf, tuple_leaf, unary_leaf, place_leaf}
 use Rattle.std.specs.Prelude.{option_map}
 use Rattle.silq_print.proofs.Depths.{capped_behind}
 use Rattle.silq_print.specs.Levels.{left_level, right_level, goes_on_at}
@@ -19,11 +19,11 @@ chain_depths-returns-then-tight n c = rw c.if-tight.true
     (c.lesser.ensures ∙ ap (lesser (get_or c.longer-all.result 1 0)) (c.greater-parens.ensures ∙ ap (λ x. greater x c.behind-then-tight.result) (c.behind.ensures ∙ ap (λ x. capped (1 + x)) c.least.ensures.value)
     ∙ ap (greater (capped (1 + least_of c.depths-lefts.result))) c.behind-then-tight.ensures)))
 
-pub depths-returns-in-Number-default-Some-default : goal.depths-returns-in-Number-default-Some-default
-depths-returns-in-Number-default-Some-default n c = λ s l.
+pub depths-returns-in-Number : goal.depths-returns-in-Number
+depths-returns-in-Number n c = λ s l.
     let at = expr_at c.args.tree.now in
-    rw (c.expr.ensures.tree ∙ ap (expr_grown at) c.in-Number-default-Some-default.is)
-    (c.one_way.ensures s l ∙ ap (λ d. only_at 0 d s) c.width_depth.ensures ∙ leaf _ _ s (scalar_leaf c.args.tight _))
+    rw (c.expr.ensures.tree ∙ ap (expr_grown at) c.in-Number.is)
+    (c.one_way.ensures s l ∙ ap (λ d. only_at 0 d s) c.number_depth.ensures ∙ number_leaf at c.args.tight c.in-Number.value c.in-Number.ty c.in-Number.at s)
 
 pub depths-returns-in-Place : goal.depths-returns-in-Place
 depths-returns-in-Place n c = λ s l.
@@ -65,5 +65,5 @@ depths-returns-else-goes_on n c = λ s l.
     (c.one_way-else-goes_on.ensures s l ∙ ap (λ d. only_at 1 d s)
     (c.greater-else-goes_on.ensures ∙ ap (λ d. greater d c.behind-else-goes_on.result) (rw c.left_level.ensures at c.operand_depth-left.ensures)
     ∙ ap (greater (capped (operand_low (left_level c.in-Binary.op) c.args.tight (at c.in-Binary.left))))
-      (c.behind-else-goes_on.ensures ∙ ap (λ d. capped (1 + d)) (rw c.right_level.ensures at c.operand_depth-right.ensures) ∙ capped_behind 1 (operand_low (right_level c.in-Binary.op) c.args.tight (at c.in-Binary.right))))
+    (c.behind-else-goes_on.ensures ∙ ap (λ d. capped (1 + d)) (rw c.right_level.ensures at c.operand_depth-right.ensures) ∙ capped_behind 1 (operand_low (right_level c.in-Binary.op) c.args.tight (at c.in-Binary.right))))
     ∙ single c.in-Binary.op c.args.tight (at c.in-Binary.left) (at c.in-Binary.right) s (sym (ap (goes_on_at c.in-Binary.op) c.top_level.ensures) ∙ sym c.goes_on.ensures ∙ c.if-goes_on.false))

@@ -1,7 +1,7 @@
 use Rattle.std.proofs.Common.{◌≡◌, ◌+◌, ◌*◌, ◌≤◌, drop}
 use Rattle.silq_tree.specs.Arena.{expr_at}
 use Rattle.silq_tree.specs.Standing.{expressions_of}
-use Rattle.silq_tree.specs.Children.{scalar_exprs, listed}
+use Rattle.silq_tree.specs.Children.{scalar_exprs, number_exprs, listed}
 use Rattle.silq_tree.proofs.Lists.{exprs_top}
 use Rattle.silq_print.specs.Ways.{greater}
 use Rattle.silq_print.specs.Depths.{capped, deepest}
@@ -26,6 +26,9 @@ decreases-deepest l = 8 * exprs_top l.ids.now
 
 abbrev pub decreases-width_depth : goal.decreases-width_depth
 decreases-width_depth l = 8 * exprs_top (scalar_exprs l.ty)
+
+abbrev pub decreases-number_depth : goal.decreases-number_depth
+decreases-number_depth l = 8 * exprs_top (number_exprs l.ty) + 1
 
 abbrev pub decreases-index_depth : goal.decreases-index_depth
 decreases-index_depth l = 8 * exprs_top (listed l.index)
