@@ -111,7 +111,7 @@ module _ {op : BinaryOp} {X Y : Type 0} (l : Level op X Y) where
       let e : t ≤ m = left_below t (c + 1 + y) m (omega arith) in
       let f : c + 1 + y ≤ m = right_below t (c + 1 + y) m (omega arith) in
       let r : greater (l.top (l.as_chain v)) (l.count (l.as_chain v) + 1 + l.under (l.as_operand w)) ≤ m
-      = both_below (l.top (l.as_chain v)) (l.count (l.as_chain v) + 1 + l.under (l.as_operand w)) m (omega arith) (omega arith) in
+          = both_below (l.top (l.as_chain v)) (l.count (l.as_chain v) + 1 + l.under (l.as_operand w)) m (omega arith) (omega arith) in
       (omega arith, omega arith)
 
   chain_joined : (c t y : ℕ) (ls : Ways) (w : Written) → Has c t ls → l.under (l.as_operand w) ≤ y

@@ -64,14 +64,9 @@ call_within : (n : ℕ) (f : NameId) (ss ds : List g.Expr) → 1 + n ≤ 64 → 
 call_within n f [] ds h a b = let e : n ≤ 64 = omega arith in (e, (h, at_most_both 64 (args_nests (1 + n) (args_of ds)) (n ∷ []) (args_within (1 + n) ds h b) (e, tt)))
 call_within n f (s ∷ ss) ds h a b =
     let e : n ≤ 64 = omega arith in
-    let m = args_nests (1 + n) (args_of ds) in (
-      e,
-      (
-        h,
-        at_most_both 64 (exprs_nests (1 + n) (exprs_of (s ∷ ss))) (n ∷ (1 + n) ∷ (m ++ n ∷ [])) (exprs_within (1 + n) s ss h a)
-            (e, (h, at_most_both 64 m (n ∷ []) (args_within (1 + n) ds h b) (e, tt))),
-      ),
-    )
+    let m = args_nests (1 + n) (args_of ds) in
+    (e, (h, at_most_both 64 (exprs_nests (1 + n) (exprs_of (s ∷ ss))) (n ∷ (1 + n) ∷ (m ++ n ∷ [])) (exprs_within (1 + n) s ss h a)
+    (e, (h, at_most_both 64 m (n ∷ []) (args_within (1 + n) ds h b) (e, tt)))))
 
 exprs_all : (n : ℕ) (d : g.Exprs) → Within (exprs_nests n d) → AllIn n (exprs_in n (exprs_tree d))
 exprs_all n (g.last e) h = ((expr_keeps n e).keeps h, tt)
@@ -100,6 +95,7 @@ place_keeps n (g.part_of_part x s l e r m f q) = also_ (also_ (joined (expr_keep
 
 -- names of a tuple
 
+
 all_names : (n : ℕ) (x : NameId) (d : g.NameList) → Keeps (n ∷ n ∷ names_nests n d) (names_nests n (names_of x (names_tree d)))
 all_names n x (g.last_name y s) = kept
 all_names n x (g.and_names y s c ns) = record { keeps = λ h. (h.0, (h.0, (all_names n y ns).keeps (h.0, (h.0, h.1.1.1.1)))) }
@@ -107,7 +103,7 @@ all_names n x (g.and_names y s c ns) = record { keeps = λ h. (h.0, (h.0, (all_n
 spread_keeps : (n : ℕ) (x : NameId) (d : g.NameList) (e : g.Expr)
     → Keeps ((1 + n) ∷ (1 + n) ∷ (1 + n) ∷ (names_nests (1 + n) d ++ (n ∷ n ∷ (expr_nests n e ++ n ∷ [])))) (stmt_nests n (spread_in (x ∷ names_tree d) (expr_in n (expr_tree e))))
 spread_keeps n x (g.last_name y s) e = also_ (also_ (also_ (also_ (also_ (also_ (joined (expr_keeps n e) kept))))))
-spread_keeps n x (g.and_names y s c ns) e = also_ (also_ (also_ (joined {bs = names_nests (1 + n) (names_of y (names_tree ns))} (all_names (1 + n) y ns) (also_ (also_ (joined (expr_keeps n e) kept))))))
+spread_keeps n x (g.and_names y s c ns) e = also_ (also_ (also_ (joined { bs = names_nests (1 + n) (names_of y (names_tree ns)) } (all_names (1 + n) y ns) (also_ (also_ (joined (expr_keeps n e) kept))))))
 
 -- choices
 

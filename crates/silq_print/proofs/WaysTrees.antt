@@ -117,7 +117,7 @@ each_joined op l r (also v ws) w s t = (joined op v w s.0 t, each_joined op l r 
 
 binary_stand : (k : Bool) (op : BinaryOp) (l r : tree.Expression) (at : Spot) → AllStand (bare_expr l) (ways k l) → AllStand (bare_expr r) (ways k r)
     → AllStand (bare_expr (tree.binary op l r at)) (ways k (tree.binary op l r at))
-binary_stand k op l r at s t =
+binary_stand k op l r at s t = 
     each_joined op (bare_expr l) (bare_expr r) (lefts k op (ways k l)) (least (ways k r)) (lefts_stand (bare_expr l) k op (ways k l) s) (least_stands (bare_expr r) (ways k r) t)
 
 best_stands : (k : Bool) (e : tree.Expression) → AllStand (bare_expr e) (ways k e) → bare_expr (expr_tree (to_expr (least (ways k e)))) ≡ bare_expr e
@@ -188,10 +188,8 @@ mutual
   unary_stand k (called c) = call_stand k c
   unary_stand k (paren l (last e) r) = expr_stand k e
   unary_stand k (paren l (and_more e s es) r) =
-      record {
-        is = several_listed (to_expr (least (ways k (expr_tree e)))) (exprs_way k (exprs_tree es)) (exprs_long k es)
-            ∙ (λ i. tree.tuple (tree.more (best_stands k (expr_tree e) (expr_stand k e) i) (exprs_stand k es i)) nowhere);
-      }
+      record { is = several_listed (to_expr (least (ways k (expr_tree e)))) (exprs_way k (exprs_tree es)) (exprs_long k es)
+      ∙ (λ i. tree.tuple (tree.more (best_stands k (expr_tree e) (expr_stand k e) i) (exprs_stand k es i)) nowhere) }
 
   pub scalar_stands : (k : Bool) (d : Scalar) → bare_scalar (scalar_tree (scalar_way k (scalar_tree d))) ≡ bare_scalar (scalar_tree d)
   scalar_stands k (bit s) = refl
