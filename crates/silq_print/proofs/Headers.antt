@@ -11,7 +11,9 @@ use Rattle.silq_tree.specs.Children.{AreExprsBelow}
 use Rattle.silq_tree.proofs.Lists.{exprs_below_front, exprs_below_back}
 use Rattle.silq_tree.specs.Syntax as tree
 use Rattle.silq_tree.specs.Arena.{Forest, fun_at, program_at}
-use Rattle.silq_tree.specs.Standing.{part_of, scalar_of, sized, type_of, param_of}
+use Rattle.silq_tree.specs.declared.node.ScalarNode.{ScalarNode}
+use Rattle.silq_tree.specs.declared.node.Expr.TheVariants as exprs
+use Rattle.silq_tree.specs.Standing.{expr_grown, part_of, scalar_of, sized, type_of, param_of}
 use Rattle.silq_grammar.specs.declared.token.Token.{Token}
 use Rattle.silq_grammar.specs.declared.token.Token.TheVariants.{Name, Number, Fixed}
 use Rattle.silq_grammar.specs.declared.token.Terminal.TheVariants as t
@@ -116,9 +118,11 @@ module _ {names : List (List ℕ)} where
       → Puts (is_sound_type 1 (type_of at p.ty)) names s u (param_text (param_in (param_of at p)))
   puts_param at p a b c d = puts_as (param_parts p.held p.name (type_of at p.ty) p.at) (puts_both a (puts_token b (puts_token c d)))
 
-  pub puts_number_size : {s m u : State} (n : ℕ) (v : ℤ) (spot : Spot) → Puts true names s m (Fixed t.Caret nowhere ∷ []) → Puts true names m u (Number v nowhere ∷ [])
-      → Puts (is_sound_size n (tree.number v spot)) names s u (size_text (size_in n (tree.number v spot)))
-  puts_number_size n v spot p q = puts_token p q
+  pub puts_number_size : {s m u : State} (at : ExprId → tree.Expression) (n : ℕ) (v : ℤ) (ty : Option ScalarNode) (spot : Spot) → ty ≡ None
+      → Puts true names s m (Fixed t.Caret nowhere ∷ []) → Puts true names m u (Number v nowhere ∷ [])
+      → Puts (is_sound_size n (expr_grown at (exprs.Number v ty spot))) names s u (size_text (size_in n (expr_grown at (exprs.Number v ty spot))))
+  puts_number_size at n v None spot h p q = puts_token p q
+  puts_number_size at n v (Some ty) spot h p q = cc
 
   pub puts_name_size : {s m u : State} (at : ExprId → tree.Expression) (n : ℕ) (x : NameId) (first second : Option ExprId) (spot : Spot) → false ≡ is_some first
       → Puts true names s m (Fixed t.Caret nowhere ∷ []) → Puts true names m u (Name x nowhere ∷ [])
