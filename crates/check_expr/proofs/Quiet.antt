@@ -1,6 +1,8 @@
 -- The walk of an expression counts no statement.
 use Rattle.std.specs.Prelude.{ℕ, Bool, true, false, cond, List, [], ◌∷◌, Option, Some, None, Result, Ok, Err, ℤ}
-use Rattle.check_expr.specs.Context.{BuiltIn, HGate, XGate, YGate, ZGate, Dup, Measure, Vector, RotateX, RotateY, RotateZ, Scope, Context, Check, ◌>>=◌, ◌>>◌, give_back, pass, fail, of_result, rules, variables, put_variables, new_place, signature, unknown_at, known_names, needed, all_needed, is_known_name}
+use Rattle.check_expr.specs.Context.{Scope, Context, Check, ◌>>=◌, ◌>>◌, give_back, pass, fail, of_result, rules, variables, put_variables, new_place, signature, unknown_at, known_names, needed, all_needed, is_known_name}
+use Rattle.check_expr.specs.declared.words.BuiltIn.{BuiltIn}
+use Rattle.check_expr.specs.declared.words.BuiltIn.TheVariants.{HGate, XGate, YGate, ZGate, Dup, Measure, Vector, RotateX, RotateY, RotateZ}
 use Rattle.check_expr.specs.Expression.{is_tuple, single_of, flip_value, many, length_value, lone_need, lone_wants, later_arguments, call_gate, new_value, one_value, static_value, unless_static, typed_value, move, unmoved, use_rules, use_part, use_found, use_place, unary_value, binary_value, single, operands, Asked, suits, gate_value, gate_values, vector_value, call_built_in, Arguments, natural, static_arguments, placed, argument_at, result_origin, result_values, call_own, call_found, asked_of_items, first_asked, later_asked, expr, arguments}
 use Rattle.check_expr.specs.Reading.{Uncounted}
 use Rattle.check_expr.specs.Uses.{Found, built_in, find_fun}
@@ -56,7 +58,7 @@ q_if : {A : Type 0} (b : Bool) {m n : Check A} → Quiet m → Quiet n → Quiet
 q_if true q h = q
 q_if false q h = h
 
-q_rules : (s : Spot) (rs : List (Bool × ℕ)) → Quiet (rules s rs)
+pub q_rules : (s : Spot) (rs : List (Bool × ℕ)) → Quiet (rules s rs)
 unfolding rules
 q_rules s [] = q_pass
 q_rules s (r ∷ rs) = q_if r.0 (q_fail (rule r.1 s)) (q_rules s rs)
@@ -67,7 +69,7 @@ q_variables = record { runs = λ c. tt }
 q_put : (vs : List Var) → Quiet (put_variables vs)
 q_put vs = record { runs = λ c. tt }
 
-q_place : Quiet new_place
+pub q_place : Quiet new_place
 q_place = record { runs = λ c. tt }
 
 q_signature : (k : InstanceKey) → Quiet (signature k)
@@ -77,13 +79,13 @@ q_unknown : (o : Option Spot) → Quiet (unknown_at o)
 q_unknown None = q_pass
 q_unknown (Some s) = q_fail (rule 1 s)
 
-q_names : (sc : Scope) (e : Expression) → Quiet (known_names sc e)
+pub q_names : (sc : Scope) (e : Expression) → Quiet (known_names sc e)
 q_names sc e = record { runs = λ c. (q_unknown (first_unknown (is_known_name sc c.vars) (names e))).runs c }
 
 q_needed : (sc : Scope) (e : Expression) → Quiet (needed sc e)
 q_needed sc e = q_then (q_names sc e) (q_result (needed_at sc.statics e (at e)))
 
-q_all_needed : (es : Expressions) (sc : Scope) → Quiet (all_needed es sc)
+pub q_all_needed : (es : Expressions) (sc : Scope) → Quiet (all_needed es sc)
 q_all_needed none sc = q_back []
 q_all_needed (more e es) sc = q_bind (q_needed sc e) (λ v. q_bind (q_all_needed es sc) (λ vs. q_back (v ∷ vs)))
 
@@ -139,13 +141,13 @@ q_single_of e [] = search quiet
 q_single_of e (v ∷ []) = search quiet
 q_single_of e (v ∷ w ∷ vs) = search quiet
 
-q_single : (e : Expression) (vs : List Value) → Quiet (single e vs)
+pub q_single : (e : Expression) (vs : List Value) → Quiet (single e vs)
 q_single e vs = q_if (is_tuple e) (q_fail _) (q_single_of e vs)
 
 q_operands : (sc : Scope) (a : Expression) (left right : List Ty → Check Value) → ((w : List Ty) → Quiet (left w)) → ((w : List Ty) → Quiet (right w)) → Quiet (operands sc a left right)
 q_operands sc a left right l r = search (quiet, l, r)
 
-q_suits : (e : Expression) (wants : List Ty) (v : Value) → Quiet (suits e wants v)
+pub q_suits : (e : Expression) (wants : List Ty) (v : Value) → Quiet (suits e wants v)
 q_suits e [] v = search quiet
 q_suits e (t ∷ []) v = search quiet
 q_suits e (t ∷ u ∷ ts) v = search quiet

@@ -16,9 +16,7 @@ use Rattle.silq_types.specs.declared.signature.Signature.{Signature}
 use Rattle.silq_types.specs.Rules.{Fault, rule, unknown_name}
 use Rattle.silq_types.specs.Types.{Statics, value_of, same_name, single_shape, first_unknown, names, needed_at, at}
 use Rattle.check_expr.specs.Walk.{Walk, answer, broken, counted, asked, bind}
-
-pub data BuiltIn : Type 0 where
-  HGate XGate YGate ZGate Dup Measure Vector RotateX RotateY RotateZ : BuiltIn
+use Rattle.check_expr.specs.declared.words.BuiltIn.{BuiltIn}
 
 -- what a part of a body sees: the names of built-in functions, the earlier functions (the nearest first), its own function and the types of its results, the static values, and the parts that each run-time condition holds
 pub record Scope : Type 0 where

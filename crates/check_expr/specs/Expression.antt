@@ -27,8 +27,11 @@ use Rattle.silq_types.specs.Types.{Statics, place_name, place_indices, single_sh
 use Rattle.check_expr.specs.declared.need.Need.{Need}
 use Rattle.check_expr.specs.declared.need.Need.TheVariants as needs
 use Rattle.check_expr.specs.Walk.{answer}
-use Rattle.check_expr.specs.Context.{BuiltIn, HGate, XGate, YGate, ZGate, Dup, Measure, Vector, RotateX, RotateY, RotateZ, Scope, Check, ◌>>=◌, ◌>>◌, give_back, pass, fail, of_result, rules, variables, new_place, signature, part_at, variable, indices, overlaps, same_part, is_in_condition, find_var, replace, is_known_name, part_type, known_names, needed, all_needed}
-use Rattle.check_expr.specs.Uses.{Use, Found, is_consumed, built_in, find_fun, param_need, uses, argument_uses, both_consume, consume_and_hold, some_pair}
+use Rattle.check_expr.specs.Context.{Scope, Check, ◌>>=◌, ◌>>◌, give_back, pass, fail, of_result, rules, variables, new_place, signature, part_at, variable, indices, overlaps, same_part, is_in_condition, find_var, replace, is_known_name, part_type, known_names, needed, all_needed}
+use Rattle.check_expr.specs.declared.words.BuiltIn.{BuiltIn}
+use Rattle.check_expr.specs.declared.words.BuiltIn.TheVariants.{HGate, XGate, YGate, ZGate, Dup, Measure, Vector, RotateX, RotateY, RotateZ}
+use Rattle.check_expr.specs.Uses.{Found, is_consumed, built_in, find_fun, param_need, uses, argument_uses, both_consume, consume_and_hold, some_pair}
+use Rattle.check_expr.specs.declared.uses.Use.{Use}
 
 -- ---- values
 

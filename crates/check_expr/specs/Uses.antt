@@ -8,12 +8,11 @@ use Rattle.silq_types.specs.declared.values.Part.{Part}
 use Rattle.silq_types.specs.declared.values.Var.{Var}
 use Rattle.silq_types.specs.Types.{Statics, same_name, is_lifted}
 use Rattle.check_expr.specs.declared.need.Need.{Need}
+use Rattle.check_expr.specs.declared.uses.Use.{Use}
 use Rattle.check_expr.specs.declared.need.Need.TheVariants as needs
-use Rattle.check_expr.specs.Context.{BuiltIn, HGate, XGate, YGate, ZGate, Measure, Scope, part_at, variable, overlaps, find_var, part_type}
-
-pub record Use : Type 0 where
-  pub part : Part
-  pub need : Need
+use Rattle.check_expr.specs.Context.{Scope, part_at, variable, overlaps, find_var, part_type}
+use Rattle.check_expr.specs.declared.words.BuiltIn.{BuiltIn}
+use Rattle.check_expr.specs.declared.words.BuiltIn.TheVariants.{HGate, XGate, YGate, ZGate, Measure}
 
 abbrev pub is_consumed : Need → Bool
 is_consumed needs.Consumed = true

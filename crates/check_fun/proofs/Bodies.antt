@@ -5,7 +5,8 @@ use native.Mathlib.Omega.{arith}
 use Rattle.std.proofs.lemmas.Bool.{eqb-true, eq-eqb}
 use Rattle.check_expr.proofs.Alike.{some_same, same_key_same}
 use Rattle.check_expr.proofs.Owners.{gives-bind, o_bind, o_then, o_back, o_fail, o_rules, o_from}
-use Rattle.check_expr.specs.Context.{BuiltIn, Scope, Context, ◌>>◌}
+use Rattle.check_expr.specs.Context.{Scope, Context, ◌>>◌}
+use Rattle.check_expr.specs.declared.words.BuiltIn.{BuiltIn}
 use Rattle.check_expr.specs.Expression.{paired}
 use Rattle.check_expr.specs.Owners.{owners, owned, Sole, Proper, ProperFor, Gives, Ensures, fun_at, IsProper, AreProper}
 use Rattle.check_expr.specs.Uses.{Found, find_fun}

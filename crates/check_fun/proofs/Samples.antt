@@ -16,7 +16,9 @@ use Rattle.silq_types.specs.declared.types.Ty.{Ty}
 use Rattle.silq_types.specs.declared.types.Shape.TheVariants.{Bit, UInt}
 use Rattle.check_expr.specs.Walk.{Met, limited, new, met_as, Counts, with_counts, counted}
 use Rattle.check_expr.specs.Walk as walk
-use Rattle.check_expr.specs.Context.{◌>>=◌, ◌>>◌, rules, BuiltIn, HGate, XGate, Dup, Measure}
+use Rattle.check_expr.specs.Context.{◌>>=◌, ◌>>◌, rules}
+use Rattle.check_expr.specs.declared.words.BuiltIn.{BuiltIn}
+use Rattle.check_expr.specs.declared.words.BuiltIn.TheVariants.{HGate, XGate, Dup, Measure}
 
 -- ---- short spellings
 

@@ -1,11 +1,9 @@
 -- Of the ways to write a chain there is one as good as any derivation: with no more signs, and no deeper.
-use Rattle.std.proofs.Common.{◌≡◌, ◌⊎◌, inl, inr, ℕ, ◌+◌, ◌-◌, ◌≤◌, nat_le, Bool, true, false, ◌&&◌, cond, List, [], ◌∷◌, refl, sym, ◌∙◌, ap, subst, arith}
+use Rattle.std.proofs.Common.{◌≡◌, ◌⊎◌, inl, inr, ℕ, ◌+◌, ◌≤◌, nat_le, Bool, true, false, cond, List, [], ◌∷◌, refl, arith}
 use Rattle.silq_tree.specs.declared.node.BinaryOp.{BinaryOp}
-use Rattle.silq_tree.specs.declared.node.BinaryOp.TheVariants as ops
-use Rattle.silq_grammar.specs.Grammar.{Expr, And, Cmp, Sum, Prod, Unary}
-use Rattle.silq_grammar.specs.Nest.{prod_count, sum_count, and_count, or_count, expr_nests}
-use Rattle.silq_print.specs.Ways.{greater, greatest, Written, at_or, at_and, at_cmp, at_sum, at_prod, at_unary, to_expr, in_parens, to_unary, to_prod, to_sum, to_cmp, to_and, join, depth, Ways, only, also, each_way, less_deep, least, goes_on, lefts}
-use Rattle.silq_print.proofs.Tops.{AllAtMost, test_true, test_false, left_below, right_below, both_below, IsTop, expr_is, expr_top, and_top, cmp_top, sum_top, prod_top, unary_top}
+use Rattle.silq_grammar.specs.Nest.{expr_nests}
+use Rattle.silq_print.specs.Ways.{greater, greatest, Written, at_unary, to_expr, in_parens, join, depth, Ways, only, also, each_way, least, goes_on, lefts}
+use Rattle.silq_print.proofs.Tops.{AllAtMost, test_true, test_false, left_below, right_below, both_below, expr_is, expr_top}
 
 abbrev pub top_of : Written → ℕ
 top_of w = expr_top (to_expr w)
@@ -111,7 +109,7 @@ module _ {op : BinaryOp} {X Y : Type 0} (l : Level op X Y) where
       let e : t ≤ m = left_below t (c + 1 + y) m (omega arith) in
       let f : c + 1 + y ≤ m = right_below t (c + 1 + y) m (omega arith) in
       let r : greater (l.top (l.as_chain v)) (l.count (l.as_chain v) + 1 + l.under (l.as_operand w)) ≤ m
-          = both_below (l.top (l.as_chain v)) (l.count (l.as_chain v) + 1 + l.under (l.as_operand w)) m (omega arith) (omega arith) in
+      = both_below (l.top (l.as_chain v)) (l.count (l.as_chain v) + 1 + l.under (l.as_operand w)) m (omega arith) (omega arith) in
       (omega arith, omega arith)
 
   chain_joined : (c t y : ℕ) (ls : Ways) (w : Written) → Has c t ls → l.under (l.as_operand w) ≤ y

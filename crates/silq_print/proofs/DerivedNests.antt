@@ -1,16 +1,16 @@
 -- The derivation of a program's tree is within the nest of 64 where the program is.
-use Rattle.std.proofs.Common.{◌≡◌, ℕ, ◌+◌, ◌≤◌, Bool, true, false, nat_le, cond, List, [], ◌∷◌, ◌++◌, map, refl, sym, ◌∙◌, ap, subst, arith}
+use Rattle.std.proofs.Common.{◌≡◌, ℕ, ◌+◌, ◌≤◌, Bool, true, false, nat_le, cond, List, [], ◌∷◌, ◌++◌, map, refl, arith}
 use Rattle.silq_tree.specs.declared.node.NameId.{NameId}
 use Rattle.silq_tree.specs.declared.node.Spot.{Spot}
 use Rattle.silq_tree.specs.declared.node.Mark.{Mark}
 use Rattle.silq_tree.specs.declared.node.Mark.TheVariants as marks
 use Rattle.silq_tree.specs.Syntax as tree
 use Rattle.silq_grammar.specs.Grammar as g
-use Rattle.silq_grammar.specs.Trees.{expr_tree, scalar_tree, place_tree, call_tree, args_tree, exprs_tree, names_tree, stmt_tree, choice_tree, block_tree, stmts_tree, sized_tree, type_tree, result_tree, param_tree, params_tree, statics_tree, static_part_tree, param_part_tree, mark_tree, result_part_tree, function_tree, program_tree}
+use Rattle.silq_grammar.specs.Trees.{expr_tree, scalar_tree, place_tree, call_tree, args_tree, exprs_tree, names_tree, stmt_tree, choice_tree, block_tree, stmts_tree, sized_tree, type_tree, result_tree, param_tree, params_tree, static_part_tree, param_part_tree, mark_tree, result_part_tree, function_tree, program_tree}
 use Rattle.silq_grammar.specs.Nest.{expr_nests, scalar_nests, place_nests, call_nests, args_nests, exprs_nests, names_nests, stmt_nests, choice_nests, block_nests, stmts_nests, size_nests, type_nests, result_nests, param_nests, params_nests, statics_nests, static_part_nests, param_part_nests, mark_nests, result_part_nests, function_nests, program_nests}
 use Rattle.silq_print.specs.Bare.{nowhere}
 use Rattle.silq_print.specs.Ways.{depth, least, ways, written, exprs_of, args_of, call_of}
-use Rattle.silq_print.specs.Derived.{expr_in, exprs_in, place_in, call_in, names_of, spread_in, rest_of, rest_in, choice_of, stmt_in, choice_in, block_in, stmts_in, scalar_in, size_in, marked, type_in, param_in, params_of, param_part, statics_of, static_part, results_of, result_part, mark_part, function_in, derived}
+use Rattle.silq_print.specs.Derived.{expr_in, exprs_in, place_in, call_in, names_of, spread_in, rest_of, choice_of, stmt_in, choice_in, block_in, stmts_in, scalar_in, size_in, marked, type_in, param_in, params_of, param_part, statics_of, static_part, results_of, result_part, mark_part, function_in, derived}
 use Rattle.silq_print.proofs.Tops.{AllAtMost, at_most_both, at_most_left, at_most_right, test_true, expr_is, expr_top}
 use Rattle.silq_print.proofs.Chains.{top_below}
 use Rattle.silq_print.proofs.Lowest.{expr_low}
@@ -64,9 +64,14 @@ call_within : (n : ℕ) (f : NameId) (ss ds : List g.Expr) → 1 + n ≤ 64 → 
 call_within n f [] ds h a b = let e : n ≤ 64 = omega arith in (e, (h, at_most_both 64 (args_nests (1 + n) (args_of ds)) (n ∷ []) (args_within (1 + n) ds h b) (e, tt)))
 call_within n f (s ∷ ss) ds h a b =
     let e : n ≤ 64 = omega arith in
-    let m = args_nests (1 + n) (args_of ds) in
-    (e, (h, at_most_both 64 (exprs_nests (1 + n) (exprs_of (s ∷ ss))) (n ∷ (1 + n) ∷ (m ++ n ∷ [])) (exprs_within (1 + n) s ss h a)
-    (e, (h, at_most_both 64 m (n ∷ []) (args_within (1 + n) ds h b) (e, tt)))))
+    let m = args_nests (1 + n) (args_of ds) in (
+      e,
+      (
+        h,
+        at_most_both 64 (exprs_nests (1 + n) (exprs_of (s ∷ ss))) (n ∷ (1 + n) ∷ (m ++ n ∷ [])) (exprs_within (1 + n) s ss h a)
+            (e, (h, at_most_both 64 m (n ∷ []) (args_within (1 + n) ds h b) (e, tt))),
+      ),
+    )
 
 exprs_all : (n : ℕ) (d : g.Exprs) → Within (exprs_nests n d) → AllIn n (exprs_in n (exprs_tree d))
 exprs_all n (g.last e) h = ((expr_keeps n e).keeps h, tt)
@@ -95,7 +100,6 @@ place_keeps n (g.part_of_part x s l e r m f q) = also_ (also_ (joined (expr_keep
 
 -- names of a tuple
 
-
 all_names : (n : ℕ) (x : NameId) (d : g.NameList) → Keeps (n ∷ n ∷ names_nests n d) (names_nests n (names_of x (names_tree d)))
 all_names n x (g.last_name y s) = kept
 all_names n x (g.and_names y s c ns) = record { keeps = λ h. (h.0, (h.0, (all_names n y ns).keeps (h.0, (h.0, h.1.1.1.1)))) }
@@ -103,7 +107,7 @@ all_names n x (g.and_names y s c ns) = record { keeps = λ h. (h.0, (h.0, (all_n
 spread_keeps : (n : ℕ) (x : NameId) (d : g.NameList) (e : g.Expr)
     → Keeps ((1 + n) ∷ (1 + n) ∷ (1 + n) ∷ (names_nests (1 + n) d ++ (n ∷ n ∷ (expr_nests n e ++ n ∷ [])))) (stmt_nests n (spread_in (x ∷ names_tree d) (expr_in n (expr_tree e))))
 spread_keeps n x (g.last_name y s) e = also_ (also_ (also_ (also_ (also_ (also_ (joined (expr_keeps n e) kept))))))
-spread_keeps n x (g.and_names y s c ns) e = also_ (also_ (also_ (joined { bs = names_nests (1 + n) (names_of y (names_tree ns)) } (all_names (1 + n) y ns) (also_ (also_ (joined (expr_keeps n e) kept))))))
+spread_keeps n x (g.and_names y s c ns) e = also_ (also_ (also_ (joined {bs = names_nests (1 + n) (names_of y (names_tree ns))} (all_names (1 + n) y ns) (also_ (also_ (joined (expr_keeps n e) kept))))))
 
 -- choices
 

@@ -1,5 +1,5 @@
 -- The derivation of a tree stands for it, places aside.
-use Rattle.std.proofs.Common.{◌≡◌, ℕ, ◌+◌, Bool, true, false, nat_le, cond, List, [], ◌∷◌, map, refl, sym, ◌∙◌, ap}
+use Rattle.std.proofs.Common.{◌≡◌, ℕ, ◌+◌, Bool, true, false, nat_le, cond, List, [], ◌∷◌, map, refl, ◌∙◌, ap}
 use Rattle.silq_tree.specs.declared.node.NameId.{NameId}
 use Rattle.silq_tree.specs.declared.node.Spot.{Spot}
 use Rattle.silq_tree.specs.declared.node.Mark.{Mark}
@@ -9,7 +9,7 @@ use Rattle.silq_grammar.specs.Grammar as g
 use Rattle.silq_grammar.specs.Trees.{expr_tree, scalar_tree, place_tree, call_tree, args_tree, exprs_tree, names_tree, stmt_tree, choice_tree, block_tree, stmts_tree, sized_tree, type_tree, result_tree, param_tree, params_tree, statics_tree, static_part_tree, param_part_tree, mark_tree, result_part_tree, function_tree, program_tree}
 use Rattle.silq_print.specs.Bare.{nowhere, bare_expr, bare_scalar, bare_place, bare_exprs, bare_stmt, bare_block, bare_stmts, bare_type, bare_param, bare_function, bare_program}
 use Rattle.silq_print.specs.Ways.{depth, least, ways, written}
-use Rattle.silq_print.specs.Derived.{expr_in, exprs_in, place_in, call_in, names_of, spread_in, rest_of, rest_in, choice_of, stmt_in, choice_in, block_in, stmts_in, scalar_in, size_in, marked, type_in, param_in, params_of, param_part, statics_of, static_part, results_of, result_part, mark_part, function_in, derived}
+use Rattle.silq_print.specs.Derived.{expr_in, exprs_in, place_in, call_in, names_of, spread_in, rest_of, choice_of, stmt_in, choice_in, block_in, stmts_in, scalar_in, size_in, marked, type_in, param_in, params_of, param_part, statics_of, static_part, results_of, result_part, mark_part, function_in, derived}
 use Rattle.silq_print.proofs.WaysTrees.{written_stands, listed, call_listed}
 
 expr_stands : (n : ℕ) (d : g.Expr) → bare_expr (expr_tree (expr_in n (expr_tree d))) ≡ bare_expr (expr_tree d)

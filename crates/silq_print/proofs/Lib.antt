@@ -16,3 +16,14 @@ pub mod Headers
 pub mod Sound
 pub mod Depths
 pub mod Deeper
+pub mod ContentTexts
+pub mod ContentTrees
+pub mod ContentProper
+pub mod LexedText
+pub mod LexedTokens
+pub mod LexedRows
+pub mod LexedNames
+pub mod LexedBack
+pub mod LexedMade
+pub mod LexedProper
+pub mod ReadBack

@@ -1,15 +1,15 @@
 -- Each way to write an expression stands for it, places aside.
-use Rattle.std.proofs.Common.{◌≡◌, Bool, true, false, ◌&&◌, nat_le, cond, List, [], ◌∷◌, refl, sym, ◌∙◌, ap}
+use Rattle.std.proofs.Common.{◌≡◌, Bool, true, false, ◌&&◌, nat_le, cond, List, [], ◌∷◌, refl, ◌∙◌, ap}
 use Rattle.silq_tree.specs.declared.node.NameId.{NameId}
 use Rattle.silq_tree.specs.declared.node.Spot.{Spot}
 use Rattle.silq_tree.specs.declared.node.UnaryOp.TheVariants as unaries
 use Rattle.silq_tree.specs.declared.node.BinaryOp.{BinaryOp}
 use Rattle.silq_tree.specs.declared.node.BinaryOp.TheVariants as ops
 use Rattle.silq_tree.specs.Syntax as tree
-use Rattle.silq_grammar.specs.Grammar.{Comparison, equal, not_equal, below, at_most, above, at_least, Expr, one_and, or, And, one_cmp, and, Cmp, one_sum, compare, Sum, one_prod, plus, minus, Prod, one_unary, times, over, Unary, bang, negative, number, typed_number, true_, false_, pi, place, called, paren, Scalar, bit, uint, int, Place, whole, part, part_of_part, Call, plain, with_statics, Args, no_args, args, Exprs, last, and_more}
+use Rattle.silq_grammar.specs.Grammar.{Expr, one_and, or, And, one_cmp, and, Cmp, one_sum, compare, Sum, one_prod, plus, minus, Prod, one_unary, times, over, Unary, bang, negative, number, typed_number, true_, false_, pi, place, called, paren, Scalar, bit, uint, int, Place, whole, part, part_of_part, Call, plain, with_statics, Args, no_args, args, Exprs, last, and_more}
 use Rattle.silq_grammar.specs.Trees.{comparison_op, expr_tree, and_tree, cmp_tree, sum_tree, prod_tree, unary_tree, scalar_tree, place_tree, call_tree, args_tree, exprs_tree}
 use Rattle.silq_print.specs.Bare.{nowhere, bare_expr, bare_scalar, bare_place, bare_exprs}
-use Rattle.silq_print.specs.Ways.{Written, at_or, at_and, at_cmp, at_sum, at_prod, at_unary, to_expr, in_parens, to_unary, to_prod, to_sum, to_cmp, to_and, join, depth, Ways, only, also, each_way, less_deep, least, goes_on, lefts, exprs_of, args_of, call_of, ways, scalar_way, place_way, exprs_way, written}
+use Rattle.silq_print.specs.Ways.{Written, at_or, at_and, at_cmp, at_sum, at_prod, at_unary, to_expr, in_parens, to_unary, to_prod, to_sum, to_cmp, to_and, join, depth, Ways, only, also, each_way, least, goes_on, lefts, exprs_of, args_of, call_of, ways, scalar_way, place_way, exprs_way, written}
 
 -- the way stands for the tree, places aside
 pub record Stands (e : tree.Expression) (w : Written) : Type 0 where
@@ -117,7 +117,7 @@ each_joined op l r (also v ws) w s t = (joined op v w s.0 t, each_joined op l r 
 
 binary_stand : (k : Bool) (op : BinaryOp) (l r : tree.Expression) (at : Spot) → AllStand (bare_expr l) (ways k l) → AllStand (bare_expr r) (ways k r)
     → AllStand (bare_expr (tree.binary op l r at)) (ways k (tree.binary op l r at))
-binary_stand k op l r at s t = 
+binary_stand k op l r at s t =
     each_joined op (bare_expr l) (bare_expr r) (lefts k op (ways k l)) (least (ways k r)) (lefts_stand (bare_expr l) k op (ways k l) s) (least_stands (bare_expr r) (ways k r) t)
 
 best_stands : (k : Bool) (e : tree.Expression) → AllStand (bare_expr e) (ways k e) → bare_expr (expr_tree (to_expr (least (ways k e)))) ≡ bare_expr e
@@ -188,8 +188,10 @@ mutual
   unary_stand k (called c) = call_stand k c
   unary_stand k (paren l (last e) r) = expr_stand k e
   unary_stand k (paren l (and_more e s es) r) =
-      record { is = several_listed (to_expr (least (ways k (expr_tree e)))) (exprs_way k (exprs_tree es)) (exprs_long k es)
-      ∙ (λ i. tree.tuple (tree.more (best_stands k (expr_tree e) (expr_stand k e) i) (exprs_stand k es i)) nowhere) }
+      record {
+        is = several_listed (to_expr (least (ways k (expr_tree e)))) (exprs_way k (exprs_tree es)) (exprs_long k es)
+            ∙ (λ i. tree.tuple (tree.more (best_stands k (expr_tree e) (expr_stand k e) i) (exprs_stand k es i)) nowhere);
+      }
 
   pub scalar_stands : (k : Bool) (d : Scalar) → bare_scalar (scalar_tree (scalar_way k (scalar_tree d))) ≡ bare_scalar (scalar_tree d)
   scalar_stands k (bit s) = refl

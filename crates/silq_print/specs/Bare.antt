@@ -1,5 +1,5 @@
 -- Tokens and trees with each place put to one value: two of them are equal where the tokens, or the trees, differ in places alone.
-use Rattle.std.specs.Prelude.{List, map}
+use Rattle.std.specs.Prelude.{map}
 use Rattle.silq_tree.specs.declared.node.Spot.{Spot}
 use Rattle.silq_tree.specs.Syntax.{Expression, ScalarType, Place, Expressions, number, typed_number, truth, pi, place, called, tuple, unary, binary, bit, uint, int, whole, part, part_of_part, none, more, Statement, Block, Otherwise, Statements, assign, spread, update, forget, forget_value, phase, choice, loop, return_nothing, return_value, call, block, else_block, else_choice, done, next, WrittenType, scalar, array, Parameter, Function, Program}
 use Rattle.silq_grammar.specs.declared.token.Token.{Token}

@@ -1,5 +1,5 @@
 -- Laws of printed texts.
-use Rattle.std.specs.Prelude.{◌≡◌, ℕ, List, Option, None, map}
+use Rattle.std.specs.Prelude.{◌≡◌, ℕ, List, None, map}
 use Rattle.std.specs.Str.{chars}
 use Rattle.silq_lex.specs.Tokens.{tokens_of}
 use Rattle.silq_tree.specs.declared.node.FunId.{FunId}

@@ -9,3 +9,5 @@ pub mod Styles
 pub mod Depths
 pub mod Statements
 pub mod Headers
+pub mod Content
+pub mod Proper

@@ -1,0 +1,11 @@
+//! What is asked of an argument or of a returned value.
+
+use crate::need::Need;
+use silq_types::Ty;
+
+/// How a value is used, and its type where one is fixed.
+#[derive(Clone, Copy, Debug, PartialEq, Eq)]
+pub struct Ask {
+    pub need: Need,
+    pub want: Option<Ty>,
+}
