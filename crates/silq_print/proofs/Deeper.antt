@@ -42,7 +42,7 @@ operand_low_is own tight e =
     ap (λ d. cond (is_looser (top_level e) own) (1 + d) d) (depth_is (least (ways tight e)))
     ∙ ap (λ m. cond (is_looser m own) (1 + top_of (least (ways tight e))) (top_of (least (ways tight e)))) (sym (least_level tight e))
 
-most_with : (ws : Ways) (s : ℕ) → least_with ws s ≤ 65
+pub most_with : (ws : Ways) (s : ℕ) → least_with ws s ≤ 65
 most_with (only w) s = at_test (nat_eq (signs w) s) (capped_cases (depth w))
   where
     at_test : (b : Bool) → ((depth w ≤ 64) × (capped (depth w) ≡ depth w)) ⊎ ((65 ≤ depth w) × (capped (depth w) ≡ 65)) → cond b (capped (depth w)) 65 ≤ 65
@@ -105,11 +105,11 @@ one_on op j v w h = at_test (nat_eq (signs v) j) refl
         ap (λ t. cond t (capped (depth (join op v w))) 65) c ∙ over_top (capped (suc j + operand_top (right_level op) w)) (capped_most (suc j + operand_top (right_level op) w))
 
 -- each of these goes on
-abbrev AllOn : BinaryOp → Ways → Type 0
+abbrev pub AllOn : BinaryOp → Ways → Type 0
 AllOn op (only w) = goes_on_at op (level w) ≡ true
 AllOn op (also w ws) = (goes_on_at op (level w) ≡ true) × AllOn op ws
 
-all_on : (op : BinaryOp) (m : Level) (ws : Ways) → ((k : ℕ) → level (nth_way k ws) ≡ m) → goes_on_at op m ≡ true → AllOn op ws
+pub all_on : (op : BinaryOp) (m : Level) (ws : Ways) → ((k : ℕ) → level (nth_way k ws) ≡ m) → goes_on_at op m ≡ true → AllOn op ws
 all_on op m (only w) f h = ap (goes_on_at op) (f 0) ∙ h
 all_on op m (also w ws) f h = (ap (goes_on_at op) (f 0) ∙ h, all_on op m ws (λ k. f (suc k)) h)
 
@@ -175,7 +175,7 @@ only_loose (tree.binary op x y at) = refl
 right_is : (op : BinaryOp) (tight : Bool) (y : tree.Expression) (n : ℕ) → capped (n + capped (operand_low (right_level op) tight y)) ≡ capped (n + operand_top (right_level op) (least (ways tight y)))
 right_is op tight y n = capped_behind n (operand_low (right_level op) tight y) ∙ ap (λ d. capped (n + d)) (operand_low_is (right_level op) tight y)
 
-unary_off : (op : BinaryOp) → goes_on_at op l.Unary ≡ false
+pub unary_off : (op : BinaryOp) → goes_on_at op l.Unary ≡ false
 unary_off ops.Or = refl
 unary_off ops.And = refl
 unary_off ops.Eq = refl
@@ -315,22 +315,3 @@ pub number_leaf : (at : ExprId → tree.Expression) (tight : Bool) (v : ℤ) (ty
     → only_at 0 (capped (number_low tight (number_of at ty))) s ≡ least_with (ways tight (expr_grown at (exprs.Number v ty spot))) s
 number_leaf at tight v None spot s = leaf (number v nowhere) 0 s refl
 number_leaf at tight v (Some ty) spot s = leaf (typed_number v nowhere nowhere (scalar_way tight (scalar_of at ty))) (scalar_low tight (scalar_of at ty)) s (scalar_leaf tight (scalar_of at ty))
-
--- The ways have one sign, two, and so on.
-abbrev CountUp : ℕ → Ways → Type 0
-CountUp k (only w) = signs w ≡ k
-CountUp k (also w ws) = (signs w ≡ k) × CountUp (suc k) ws
-
-other_signs : (w : Written) (k s : ℕ) → signs w ≡ k → k < s → cond (nat_eq (signs w) s) (capped (depth w)) 65 ≡ 65
-other_signs w k s e l = let c : nat_eq (signs w) s ≡ false = grind (arith, nat_tests) in ap (λ b. cond b (capped (depth w)) 65) c
-
-same_signs : (w : Written) (k : ℕ) → signs w ≡ k → cond (nat_eq (signs w) k) (capped (depth w)) 65 ≡ capped (depth w)
-same_signs w k e = let c : nat_eq (signs w) k ≡ true = grind (arith, nat_tests) in ap (λ b. cond b (capped (depth w)) 65) c
-
--- no way has fewer signs
-none_below : (ws : Ways) (k s : ℕ) → CountUp k ws → s < k → least_with ws s ≡ 65
-none_below (only w) k s h l = let c : nat_eq (signs w) s ≡ false = grind (arith, nat_tests) in ap (λ b. cond b (capped (depth w)) 65) c
-none_below (also w ws) k s h l =
-    let g = h.0 in
-    let c : nat_eq (signs w) s ≡ false = grind (arith, nat_tests) in
-    ap (λ b. lesser (cond b (capped (depth w)) 65) (least_with ws s)) c ∙ ap (lesser 65) (none_below ws (suc k) s h.1 (omega (arith, l)))

@@ -304,7 +304,7 @@ lesser_above a b k h g = go (lesser_cases a b)
     go (inl p) = omega (arith, p.1)
     go (inr p) = omega (arith, p.1)
 
-least_of_below : (t : List ℕ) (s : ℕ) → s < length t → least_of t ≤ get_or t s 0
+pub least_of_below : (t : List ℕ) (s : ℕ) → s < length t → least_of t ≤ get_or t s 0
 least_of_below [] s l = absurd (omega arith)
 least_of_below (n ∷ ns) zero l = lesser_left n (least_of ns)
 least_of_below (n ∷ ns) (suc s) l = let a = lesser_right n (least_of ns) in let b = least_of_below ns s (omega arith) in omega (arith, a, b)
@@ -317,7 +317,7 @@ least_of_above : (t : List ℕ) (k : ℕ) → k ≤ 65 → ((s : ℕ) → s < le
 least_of_above [] k h f = h
 least_of_above (n ∷ ns) k h f = lesser_above n (least_of ns) k (f zero (omega arith)) (least_of_above ns k h (λ s l. f (suc s) (omega arith)))
 
-capped_below : (n : ℕ) → capped n ≤ 65
+pub capped_below : (n : ℕ) → capped n ≤ 65
 capped_below n = go (capped_cases n)
   where
     go : ((n ≤ 64) × (capped n ≡ n)) ⊎ ((65 ≤ n) × (capped n ≡ 65)) → capped n ≤ 65
@@ -345,14 +345,14 @@ least_first w ws = at_test (nat_le (depth w) (depth (least ws))) refl
     at_test true e = omega arith
     at_test false e = test_false (depth w) (depth (least ws)) e
 
-least_rest : (w : Written) (ws : Ways) → depth (least (also w ws)) ≤ depth (least ws)
+pub least_rest : (w : Written) (ws : Ways) → depth (least (also w ws)) ≤ depth (least ws)
 least_rest w ws = at_test (nat_le (depth w) (depth (least ws))) refl
   where
     at_test : (b : Bool) → nat_le (depth w) (depth (least ws)) ≡ b → depth (cond b w (least ws)) ≤ depth (least ws)
     at_test true e = test_true (depth w) (depth (least ws)) e
     at_test false e = omega arith
 
-with_above : (ws : Ways) (s k : ℕ) → k ≤ capped (depth (least ws)) → k ≤ least_with ws s
+pub with_above : (ws : Ways) (s k : ℕ) → k ≤ capped (depth (least ws)) → k ≤ least_with ws s
 with_above (only w) s k h = test_below (nat_eq (signs w) s) k (capped (depth w)) h (capped_below (depth w))
 with_above (also w ws) s k h =
     let a = capped_grows (depth (least (also w ws))) (depth w) (least_first w ws) in
@@ -434,7 +434,7 @@ signs_prod (one_unary u) = omega arith
 signs_prod (times p s u) = let h = right_below (prod_top p) (prod_count p + 1 + unary_top u) (prod_top (times p s u)) (omega arith) in omega (arith, h)
 signs_prod (over p s u) = let h = right_below (prod_top p) (prod_count p + 1 + unary_top u) (prod_top (over p s u)) (omega arith) in omega (arith, h)
 
-signs_below : (w : Written) → signs w ≤ top_of w
+pub signs_below : (w : Written) → signs w ≤ top_of w
 signs_below (at_or d) = signs_or d
 signs_below (at_and d) = signs_and d
 signs_below (at_cmp (one_sum d)) = omega arith
@@ -443,10 +443,10 @@ signs_below (at_sum d) = signs_sum d
 signs_below (at_prod d) = signs_prod d
 signs_below (at_unary d) = omega arith
 
-same_is : (n : ℕ) → nat_eq n n ≡ true
+pub same_is : (n : ℕ) → nat_eq n n ≡ true
 same_is n = grind (arith, nat_tests)
 
-with_below : (ws : Ways) → least_with ws (signs (least ws)) ≤ capped (depth (least ws))
+pub with_below : (ws : Ways) → least_with ws (signs (least ws)) ≤ capped (depth (least ws))
 with_below (only w) = let e = ap (λ b. cond b (capped (depth w)) 65) (same_is (signs w)) in omega (arith, e)
 with_below (also w ws) = at_test (nat_le (depth w) (depth (least ws))) (with_below ws)
   where

@@ -118,7 +118,7 @@ module _ {names : List (List ℕ)} where
       → Puts (is_sound_type 1 (type_of at p.ty)) names s u (param_text (param_in (param_of at p)))
   puts_param at p a b c d = puts_as (param_parts p.held p.name (type_of at p.ty) p.at) (puts_both a (puts_token b (puts_token c d)))
 
-  pub puts_number_size : {s m u : State} (at : ExprId → tree.Expression) (n : ℕ) (v : ℤ) (ty : Option ScalarNode) (spot : Spot) → ty ≡ None
+  pub puts_number_size : {s m u : State} (at : ExprId → tree.Expression) (n : ℕ) (v : ℤ) (ty : Option ScalarNode) (spot : Spot) → false ≡ is_some ty
       → Puts true names s m (Fixed t.Caret nowhere ∷ []) → Puts true names m u (Number v nowhere ∷ [])
       → Puts (is_sound_size n (expr_grown at (exprs.Number v ty spot))) names s u (size_text (size_in n (expr_grown at (exprs.Number v ty spot))))
   puts_number_size at n v None spot h p q = puts_token p q

@@ -16,6 +16,7 @@ pub mod Headers
 pub mod Sound
 pub mod Depths
 pub mod Deeper
+pub mod Chosen
 pub mod ContentTexts
 pub mod ContentTrees
 pub mod ContentProper

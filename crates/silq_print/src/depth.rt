@@ -241,12 +241,10 @@ fn tight_way(tree: &Tree, e: ExprId) -> u8
 {
     let depths = depths(tree, e, true);
     let low = least(&depths);
-    let mut way = 0;
-    for depth in &depths[1..] {
-        if *depth == low {
-            return way;
+    for signs in 1..65u8 {
+        if depths[usize::from(signs)] == low {
+            return signs - 1;
         }
-        way += 1;
     }
     0
 }

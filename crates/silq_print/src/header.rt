@@ -55,13 +55,13 @@ impl<'a, S: Sink> Printer<'a, S> {
     {
         let names = &program.names;
         match program.tree.expr(e) {
-            Expr::Number {
-                value,
-                ty: None,
-                ..
-            } => {
-                self.fixed(names, Terminal::Caret);
-                self.number(names, value);
+            Expr::Number { value, ty, .. } => {
+                if ty.is_some() {
+                    self.paren_size(program, e, nest);
+                } else {
+                    self.fixed(names, Terminal::Caret);
+                    self.number(names, value);
+                }
             }
             Expr::Place { place, .. } => {
                 if place.first.is_some() {

@@ -7,7 +7,7 @@ ghost use Rattle.silq_tree.specs.Arena.{fun_at, program_at};
 ghost use Rattle.silq_grammar.specs.Spelled.{function_text, program_text};
 ghost use Rattle.silq_print.specs.Derived.{function_in, derived};
 ghost use Rattle.silq_print.specs.Headers.{is_sound_function, is_sound_program};
-ghost use Rattle.silq_print.specs.Laws.{IsOfText};
+ghost use Rattle.silq_print.specs.Laws.{IsOfText, ReadsBack};
 ghost use Rattle.silq_print.specs.Printed.{program_printed};
 ghost use Rattle.silq_print.specs.Puts.{state, Puts};
 
@@ -53,6 +53,7 @@ pub fn print<S: Sink>(program: &Program, out: &mut S) -> Result<(), Failed>
     ensures count { S.faults out.old ≤ S.faults out.new }
     ensures failed { OnErr result (Rose (S.faults out.old) (S.faults out.new)) }
     ensures broken { OnErr result (Breaks (S.put_so_far out.old) (S.put_so_far out.new) (program_printed program.now.names (program_at program.now.tree program.now.funs))) }
+    ensures reads_back { ReadsBack program.now.tree program.now.names program.now.funs (program_printed program.now.names (program_at program.now.tree program.now.funs)) }
 {
     let mut printer = Printer::new(out);
     printer.program(program);
