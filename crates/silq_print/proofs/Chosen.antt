@@ -44,9 +44,10 @@ binary_up op x y f = at_test (goes_on op (least (ways true x))) (goes_on_is op (
   where
     at_test : (b : Bool) → b ≡ goes_on_at op (top_level x)
         → CountUp 1 (each_way (λ w. join op w (least (ways true y))) (cond (true && b) (also (at_unary (in_parens (least (ways true x)))) (ways true x)) (only (least (ways true x)))))
-    at_test true g =
-        (signs_off op (at_unary (in_parens (least (ways true x)))) (least (ways true y)) (unary_off op),
-        each_up op (least (ways true y)) (ways true x) 1 (all_on op (top_level x) (ways true x) (λ k. nth_level true k x) (sym g)) (f (sym g)))
+    at_test true g = (
+      signs_off op (at_unary (in_parens (least (ways true x)))) (least (ways true y)) (unary_off op),
+      each_up op (least (ways true y)) (ways true x) 1 (all_on op (top_level x) (ways true x) (λ k. nth_level true k x) (sym g)) (f (sym g)),
+    )
     at_test false g = signs_off op (least (ways true x)) (least (ways true y)) (ap (goes_on_at op) (least_level true x) ∙ sym g)
 
 chain_up : (op : BinaryOp) (x : tree.Expression) → goes_on_at op (top_level x) ≡ true → CountUp 1 (ways true x)
