@@ -1,5 +1,5 @@
 -- The tokens of statements.
-use Rattle.std.proofs.Common.{◌≡◌, ℕ, zero, suc, ◌+◌, ◌<◌, ◌≤◌, drop, get_or, length, Bool, true, false, ◌&&◌, List, [], ◌∷◌, ◌++◌, Option, Some, None, refl, sym, ◌∙◌, ap, subst, append_assoc, append-nil, drop-cons, add-one, arith}
+use Rattle.std.proofs.Common.{◌≡◌, ℕ, zero, suc, ◌+◌, ◌<◌, ◌≤◌, drop, get_or, length, Bool, true, false, ◌&&◌, List, [], ◌∷◌, ◌++◌, refl, sym, ◌∙◌, ap, append_assoc, append-nil, drop-cons, add-one, arith}
 use Rattle.silq_tree.specs.declared.node.NameId.{NameId}
 use Rattle.silq_tree.specs.declared.node.ExprId.{ExprId}
 use Rattle.silq_tree.specs.declared.node.StmtId.{StmtId}
@@ -11,14 +11,14 @@ use Rattle.silq_grammar.specs.declared.token.Token.{Token}
 use Rattle.silq_grammar.specs.declared.token.Token.TheVariants.{Name, Fixed}
 use Rattle.silq_grammar.specs.declared.token.Terminal.TheVariants as t
 use Rattle.silq_grammar.specs.Grammar as g
-use Rattle.silq_grammar.specs.Spelled.{expr_text, place_text, names_text, stmt_text, stmts_text, choice_text, block_text}
+use Rattle.silq_grammar.specs.Spelled.{expr_text, names_text, stmt_text, stmts_text, choice_text, block_text}
 use Rattle.silq_print.specs.Bare.{nowhere}
-use Rattle.silq_print.specs.Derived.{Rest, no_rest, block_rest, choice_rest, expr_in, place_in, names_of, rest_of, choice_of, stmt_in, choice_in, rest_in, stmts_in}
-use Rattle.silq_print.specs.Styles.{place_by, is_sound, is_sound_place}
-use Rattle.silq_print.specs.Statements.{rest_text, braces_text, more_names, names_list, store_text, spread_text, forget_part, forget_text, phase_text, return_text, call_line, loop_head, are_two, is_choice, is_sound_forget, is_sound_return, is_sound_call, is_sound_store, is_sound_stmt, is_sound_rest, is_sound_block, are_sound_stmts}
+use Rattle.silq_print.specs.Derived.{Rest, no_rest, block_rest, choice_rest, expr_in, names_of, rest_of, choice_of, stmt_in, choice_in, rest_in, stmts_in}
+use Rattle.silq_print.specs.Styles.{is_sound}
+use Rattle.silq_print.specs.Statements.{rest_text, braces_text, more_names, names_list, spread_text, loop_head, is_choice, is_sound_stmt, is_sound_rest, are_sound_stmts}
 use Rattle.silq_print.specs.Puts.{State, Puts}
 use Rattle.silq_print.specs.declared.style.Style.TheVariants.{Around}
-use Rattle.silq_print.proofs.Puts.{Left, both_first, both_second, puts_none, puts_both, puts_token, puts_and, puts_weaker, puts_where, puts_as, puts_if}
+use Rattle.silq_print.proofs.Puts.{Left, both_first, both_second, puts_none, puts_both, puts_token, puts_weaker, puts_where, puts_as, puts_if}
 
 -- the statements of a block that are left, and the closing brace
 abbrev pub rest_of_block : ℕ → tree.Statements → List Token

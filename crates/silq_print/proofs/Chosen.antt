@@ -1,16 +1,14 @@
 -- The way that the depths choose: the first of the least deep ones.
 use Rattle.std.proofs.Common.{◌≡◌, ◌⊎◌, inl, inr, ℕ, zero, suc, ◌+◌, ◌-◌, ◌<◌, ◌≤◌, Bool, true, false, ◌&&◌, nat_le, nat_eq, cond, List, length, get_or, refl, sym, ◌∙◌, ap, arith}
 use Rattle.std.proofs.lemmas.Bool.Decides.{nat_tests}
-use Rattle.silq_tree.specs.declared.node.Spot.{Spot}
 use Rattle.silq_tree.specs.declared.node.BinaryOp.{BinaryOp}
 use Rattle.silq_tree.specs.Syntax as tree
 use Rattle.silq_print.specs.Ways.{Written, at_unary, in_parens, join, depth, Ways, only, also, each_way, least, goes_on, lefts, ways}
 use Rattle.silq_print.specs.Levels.{goes_on_at, top_level}
 use Rattle.silq_print.specs.Styles.{nth_way, fits}
 use Rattle.silq_print.specs.Depths.{capped, signs, lesser, least_with, least_of, AreDepths}
-use Rattle.silq_print.proofs.Tops.{test_true, test_false}
-use Rattle.silq_print.proofs.Chains.{top_of}
-use Rattle.silq_print.proofs.WaysTexts.{level, goes_on_is, nth_level, least_level}
+use Rattle.silq_print.proofs.Tops.{test_true}
+use Rattle.silq_print.proofs.WaysTexts.{goes_on_is, nth_level, least_level}
 use Rattle.silq_print.proofs.Depths.{depth_is, capped_cases, lesser_cases, signs_on, signs_off, lesser_top, lowest_is, least_rest, with_below, with_above, signs_below, same_is}
 use Rattle.silq_print.proofs.Deeper.{AllOn, all_on, unary_off, most_with}
 

@@ -1,5 +1,5 @@
 -- Depths up to 64, of the ways to write an expression.
-use Rattle.std.proofs.Common.{◌≡◌, ◌⊎◌, inl, inr, ℕ, zero, suc, ◌+◌, ◌-◌, ◌<◌, ◌≤◌, Bool, true, false, ◌&&◌, nat_le, nat_eq, cond, List, [], ◌∷◌, length, get_or, set, replicate, drop, drop-cons, add-one, refl, sym, ◌∙◌, ap, arith}
+use Rattle.std.proofs.Common.{◌≡◌, ◌⊎◌, inl, inr, ℕ, zero, suc, ◌+◌, ◌-◌, ◌<◌, ◌≤◌, Bool, true, false, nat_le, nat_eq, cond, List, [], ◌∷◌, length, get_or, set, replicate, drop, drop-cons, add-one, refl, sym, ◌∙◌, ap, arith}
 use Rattle.std.proofs.lemmas.Bool.Decides.{nat_tests}
 use Rattle.std.proofs.lemmas.Grind.{get_or-set_at}
 use Rattle.std.proofs.lemmas.List.{get_or-set_other, get_or-replicate}
@@ -7,7 +7,7 @@ use Rattle.silq_tree.specs.declared.node.BinaryOp.{BinaryOp}
 use Rattle.silq_tree.specs.declared.node.BinaryOp.TheVariants as ops
 use Rattle.silq_grammar.specs.Grammar.{Expr, one_and, or, And, one_cmp, and, one_sum, compare, Sum, one_prod, plus, minus, Prod, one_unary, times, over}
 use Rattle.silq_grammar.specs.Nest.{prod_count, sum_count, and_count, or_count}
-use Rattle.silq_print.specs.Ways.{greater, Written, at_or, at_and, at_cmp, at_sum, at_prod, at_unary, to_expr, to_and, to_cmp, to_sum, to_prod, to_unary, join, depth, Ways, only, also, each_way, least}
+use Rattle.silq_print.specs.Ways.{greater, Written, at_or, at_and, at_cmp, at_sum, at_prod, at_unary, to_expr, to_and, to_cmp, to_sum, to_prod, to_unary, join, depth, Ways, only, also, least}
 use Rattle.silq_print.specs.Levels.{left_level, right_level, goes_on_at, is_looser}
 use Rattle.silq_print.specs.Depths.{capped, signs, lesser, least_with, least_of, only_at, longer_at, AreDepths}
 use Rattle.silq_print.specs.declared.level.Level.{Level}

@@ -1,5 +1,5 @@
 -- The tokens of headers and of programs.
-use Rattle.std.proofs.Common.{◌≡◌, ℕ, ℤ, zero, suc, ◌+◌, ◌<◌, ◌≤◌, drop, get_or, length, map, Bool, true, false, ◌&&◌, List, [], ◌∷◌, ◌++◌, Option, Some, None, refl, sym, ◌∙◌, ap, subst, append_assoc, append-nil, drop-cons, add-one, arith}
+use Rattle.std.proofs.Common.{◌≡◌, ℕ, ℤ, zero, suc, ◌+◌, ◌<◌, ◌≤◌, drop, get_or, length, map, Bool, true, false, ◌&&◌, List, [], ◌∷◌, ◌++◌, Option, Some, None, refl, sym, ◌∙◌, ap, subst, append-nil, drop-cons, add-one, arith}
 use Rattle.std.specs.Prelude.{option_map, is_some, flat_map}
 use Rattle.silq_tree.specs.declared.node.NameId.{NameId}
 use Rattle.silq_tree.specs.declared.node.ExprId.{ExprId}
@@ -17,17 +17,16 @@ use Rattle.silq_tree.specs.Standing.{expr_grown, part_of, scalar_of, sized, type
 use Rattle.silq_grammar.specs.declared.token.Token.{Token}
 use Rattle.silq_grammar.specs.declared.token.Token.TheVariants.{Name, Number, Fixed}
 use Rattle.silq_grammar.specs.declared.token.Terminal.TheVariants as t
-use Rattle.silq_grammar.specs.Grammar as g
 use Rattle.silq_grammar.specs.Spelled.{scalar_text, size_text, type_text, param_text, params_text, statics_text, static_part_text, param_part_text, mark_text, result_text, result_part_text, block_text, function_text, program_text}
 use Rattle.silq_print.specs.Bare.{nowhere}
-use Rattle.silq_print.specs.Derived.{scalar_in, size_in, marked, type_in, param_in, param_part, params_of, statics_of, static_part, results_of, result_part, mark_part, block_in, function_in, derived}
+use Rattle.silq_print.specs.Derived.{scalar_in, size_in, type_in, param_in, param_part, params_of, statics_of, static_part, results_of, result_part, mark_part, block_in, function_in, derived}
 use Rattle.silq_print.specs.Levels.{in_parens_if}
-use Rattle.silq_print.specs.Styles.{scalar_by, is_sound, is_sound_scalar}
+use Rattle.silq_print.specs.Styles.{scalar_by, is_sound_scalar}
 use Rattle.silq_print.specs.Statements.{is_sound_block}
 use Rattle.silq_print.specs.Headers.{word_if, size_part, is_sound_size, is_sound_part, is_sound_type, more_params, params_list, are_sound_params, static_text, more_statics, statics_list, more_types, types_list, are_sound_types, is_sound_function, is_sound_program}
 use Rattle.silq_print.specs.Puts.{State, Puts}
 use Rattle.silq_print.specs.declared.style.Style.TheVariants.{Around}
-use Rattle.silq_print.proofs.Puts.{Left, puts_none, puts_both, puts_token, puts_and, puts_as, puts_if}
+use Rattle.silq_print.proofs.Puts.{Left, puts_none, puts_both, puts_token, puts_as, puts_if}
 
 scalar_is : (n : ℕ) (ty : tree.ScalarType) → scalar_by (Around (1 + n)) ty ≡ scalar_in n ty
 scalar_is n tree.bit = refl

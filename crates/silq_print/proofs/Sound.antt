@@ -1,5 +1,5 @@
 -- The tree of a program within the limits is sound.
-use Rattle.std.proofs.Common.{◌≡◌, ℕ, ◌+◌, ◌<◌, ◌≤◌, zero, suc, get_or, length, Some, Bool, true, false, ◌&&◌, nat_le, nat_lt, cond, List, [], ◌∷◌, ◌++◌, map, Option, None, refl, sym, ◌∙◌, ap, subst, arith}
+use Rattle.std.proofs.Common.{◌≡◌, ℕ, ◌+◌, ◌<◌, ◌≤◌, zero, suc, get_or, length, Some, Bool, true, false, ◌&&◌, nat_le, nat_lt, cond, List, [], ◌∷◌, ◌++◌, Option, None, refl, sym, ◌∙◌, ap, arith}
 use Rattle.std.proofs.lemmas.Bool.Decides.{nat_tests}
 use Rattle.silq_tree.specs.declared.node.NameId.{NameId}
 use Rattle.silq_tree.specs.declared.node.Spot.{Spot}
@@ -16,18 +16,18 @@ use Rattle.silq_grammar.specs.Grammar as g
 use Rattle.silq_grammar.proofs.Nests.{program_deep}
 use Rattle.silq_parse.specs.Lexed.{all_tokens}
 use Rattle.silq_parse.specs.Functions.{AreInOrder}
-use Rattle.silq_parse.specs.Faults.{fault_by, fault_of_tokens, first_fault}
+use Rattle.silq_parse.specs.Faults.{fault_by, fault_of_tokens}
 use Rattle.silq_parse.specs.declared.fault.ParseFault.{ParseFault}
 use Rattle.silq_print.specs.Laws.{IsOfText}
 use Rattle.silq_print.proofs.Even.{Even, one, program_even}
 use Rattle.silq_grammar.specs.Trees.{expr_tree, and_tree, cmp_tree, sum_tree, prod_tree, unary_tree, scalar_tree, place_tree, call_tree, args_tree, exprs_tree, names_tree, stmt_tree, choice_tree, block_tree, stmts_tree, sized_tree, type_tree, result_tree, param_tree, params_tree, param_part_tree, result_part_tree, function_tree, program_tree}
 use Rattle.silq_grammar.specs.Nest.{prod_count, sum_count, and_count, or_count, expr_nests, scalar_nests, place_nests, call_nests, args_nests, exprs_nests, names_nests, stmt_nests, choice_nests, block_nests, stmts_nests, size_nests, type_nests, result_nests, param_nests, params_nests, static_part_nests, param_part_nests, mark_nests, result_part_nests, function_nests, program_nests, first_deep}
-use Rattle.silq_print.specs.Ways.{greater, depth, least, ways, written}
+use Rattle.silq_print.specs.Ways.{greater, depth, least, ways}
 use Rattle.silq_print.specs.Styles.{fits, sound, sound_scalar, sound_place, all_sound, is_sound, are_sound, is_sound_scalar, is_sound_place}
-use Rattle.silq_print.specs.Statements.{are_two, is_choice, is_sound_call, is_sound_stmt, is_sound_rest, is_sound_block, are_sound_stmts}
+use Rattle.silq_print.specs.Statements.{are_two, is_choice, is_sound_call, is_sound_stmt, is_sound_block, are_sound_stmts}
 use Rattle.silq_print.specs.Headers.{is_sound_size, is_sound_type, are_sound_params, are_sound_types, is_sound_function, is_sound_program}
-use Rattle.silq_print.specs.declared.style.Style.TheVariants.{Given, Around}
-use Rattle.silq_print.proofs.Tops.{AllAtMost, at_most_left, at_most_right, left_below, right_below, expr_is, expr_top, and_top, cmp_top, sum_top, prod_top, unary_top, scalar_top, place_top, call_top, args_top, exprs_top}
+use Rattle.silq_print.specs.declared.style.Style.TheVariants.{Around}
+use Rattle.silq_print.proofs.Tops.{at_most_left, at_most_right, left_below, right_below, expr_is, expr_top, and_top, cmp_top, sum_top, prod_top, unary_top, scalar_top, place_top, call_top, args_top, exprs_top}
 use Rattle.silq_print.proofs.Chains.{depth_below}
 use Rattle.silq_print.proofs.Lowest.{expr_low}
 use Rattle.silq_print.proofs.DerivedNests.{Within}

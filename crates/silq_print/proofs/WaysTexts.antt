@@ -4,7 +4,6 @@ use Rattle.std.proofs.lemmas.Bool.Decides.{nat_tests}
 use Rattle.silq_tree.specs.declared.node.NameId.{NameId}
 use Rattle.silq_tree.specs.declared.node.ExprId.{ExprId}
 use Rattle.silq_tree.specs.declared.node.Spot.{Spot}
-use Rattle.silq_tree.specs.declared.node.PlaceNode.{PlaceNode}
 use Rattle.silq_tree.specs.declared.node.ScalarNode.{ScalarNode}
 use Rattle.silq_tree.specs.declared.node.ScalarNode.TheVariants as scalars
 use Rattle.silq_tree.specs.declared.node.Expr.TheVariants as exprs
@@ -19,11 +18,11 @@ use Rattle.silq_grammar.specs.declared.token.Token.{Token}
 use Rattle.silq_grammar.specs.declared.token.Token.TheVariants.{Name, Number, Fixed}
 use Rattle.silq_grammar.specs.declared.token.Terminal.TheVariants as t
 use Rattle.silq_grammar.specs.Grammar.{Expr}
-use Rattle.silq_grammar.specs.Spelled.{expr_text, and_text, cmp_text, sum_text, prod_text, unary_text, scalar_text, place_text, call_text, args_text, exprs_text}
+use Rattle.silq_grammar.specs.Spelled.{expr_text, and_text, cmp_text, sum_text, prod_text, unary_text, call_text, args_text, exprs_text}
 use Rattle.silq_print.specs.Bare.{nowhere}
-use Rattle.silq_print.specs.Ways.{Written, at_or, at_and, at_cmp, at_sum, at_prod, at_unary, to_expr, in_parens, to_unary, to_prod, to_sum, to_cmp, to_and, join, signed, depth, Ways, only, also, each_way, less_deep, least, goes_on, lefts, exprs_of, args_of, call_of, ways, scalar_way, place_way, exprs_way, written}
-use Rattle.silq_print.specs.Levels.{rank, level_of, left_level, right_level, goes_on_by, goes_on_at, sign_of, unary_sign, top_level, in_parens_if, is_looser, operand_text}
-use Rattle.silq_print.specs.Styles.{nth_way, tight_by, way_text, chain_text, left_text, written_by, all_by, scalar_by, place_by, call_by, more_text, list_text, fits, sound, sound_scalar, sound_place, all_sound, is_sound, are_sound, is_sound_scalar, is_sound_place, number_of, is_sound_number, number_type_text, index_text, statics_text}
+use Rattle.silq_print.specs.Ways.{Written, at_or, at_and, at_cmp, at_sum, at_prod, at_unary, to_expr, in_parens, to_unary, to_prod, to_sum, to_cmp, to_and, join, depth, Ways, only, also, each_way, least, goes_on, lefts, exprs_of, args_of, call_of, ways, exprs_way, written}
+use Rattle.silq_print.specs.Levels.{level_of, left_level, right_level, goes_on_at, sign_of, unary_sign, top_level, in_parens_if, is_looser, operand_text}
+use Rattle.silq_print.specs.Styles.{nth_way, tight_by, way_text, chain_text, left_text, written_by, all_by, call_by, more_text, list_text, fits, sound, all_sound, is_sound, are_sound, number_of, is_sound_number, number_type_text, index_text, statics_text}
 use Rattle.silq_print.specs.Puts.{State, Puts}
 use Rattle.silq_print.specs.declared.style.Style.{Style}
 use Rattle.silq_print.specs.declared.style.Style.TheVariants.{Given, Around}

@@ -1,15 +1,14 @@
 -- The tokens of headers, part by part, and where they are sound: each expression is.
-use Rattle.std.specs.Prelude.{ℕ, ◌+◌, Bool, true, false, ◌&&◌, List, [], ◌∷◌, ◌++◌, Option, Some, None, map}
+use Rattle.std.specs.Prelude.{ℕ, ◌+◌, Bool, true, false, ◌&&◌, List, [], ◌∷◌, ◌++◌, Option, Some, None}
 use Rattle.silq_tree.specs.declared.node.NameId.{NameId}
-use Rattle.silq_tree.specs.declared.node.Mark.{Mark}
 use Rattle.silq_tree.specs.Syntax as tree
 use Rattle.silq_grammar.specs.declared.token.Token.{Token}
 use Rattle.silq_grammar.specs.declared.token.Token.TheVariants.{Name, Fixed}
 use Rattle.silq_grammar.specs.declared.token.Terminal.{Terminal}
 use Rattle.silq_grammar.specs.declared.token.Terminal.TheVariants as t
-use Rattle.silq_grammar.specs.Spelled.{expr_text, size_text, type_text, param_text, mark_text, function_text}
+use Rattle.silq_grammar.specs.Spelled.{size_text, type_text, param_text}
 use Rattle.silq_print.specs.Bare.{nowhere}
-use Rattle.silq_print.specs.Derived.{size_in, type_in, param_in, function_in}
+use Rattle.silq_print.specs.Derived.{size_in, type_in, param_in}
 use Rattle.silq_print.specs.Styles.{is_sound, is_sound_scalar}
 use Rattle.silq_print.specs.Statements.{is_sound_block}
 use Rattle.silq_print.specs.declared.style.Style.TheVariants.{Around}

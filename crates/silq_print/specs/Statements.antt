@@ -8,10 +8,10 @@ use Rattle.silq_grammar.specs.declared.token.Token.TheVariants.{Name, Fixed}
 use Rattle.silq_grammar.specs.declared.token.Terminal.{Terminal}
 use Rattle.silq_grammar.specs.declared.token.Terminal.TheVariants as t
 use Rattle.silq_grammar.specs.Grammar as g
-use Rattle.silq_grammar.specs.Spelled.{expr_text, place_text, call_text, choice_text, block_text, stmts_text}
+use Rattle.silq_grammar.specs.Spelled.{expr_text, place_text, call_text, choice_text, block_text}
 use Rattle.silq_print.specs.Bare.{nowhere}
-use Rattle.silq_print.specs.Derived.{Rest, no_rest, block_rest, choice_rest, expr_in, call_in, rest_in, stmts_in}
-use Rattle.silq_print.specs.Styles.{place_by, written_by, is_sound, are_sound, is_sound_place}
+use Rattle.silq_print.specs.Derived.{Rest, no_rest, block_rest, choice_rest, expr_in, call_in, stmts_in}
+use Rattle.silq_print.specs.Styles.{place_by, is_sound, are_sound, is_sound_place}
 use Rattle.silq_print.specs.declared.style.Style.TheVariants.{Around}
 
 -- what stands behind a block

@@ -1,4 +1,4 @@
-use Rattle.std.proofs.Common.{arith, ap, sym, true, ◌∙◌, ◌+◌, get_or}
+use Rattle.std.proofs.Common.{ap, sym, true, ◌∙◌, ◌+◌, get_or}
 use Rattle.silq_print.specs.Depths.{capped, lesser, least_of, only_at, chain_at, operand_low, index_low, deepest}
 use Rattle.silq_print.proofs.Deeper.{chain_tight, single, chained, number_leaf, call_leaf, tuple_leaf, unary_leaf, place_leaf}
 use Rattle.std.specs.Prelude.{option_map}

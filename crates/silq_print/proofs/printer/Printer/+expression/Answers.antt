@@ -1,8 +1,8 @@
-use Rattle.std.proofs.Common.{◌≡◌, ℕ, Bool, true, false, List, [], ◌∷◌, ap, ◌∙◌, arith, to_z-of_z, SFits, w64}
+use Rattle.std.proofs.Common.{ap, ◌∙◌, arith}
 use Rattle.silq_tree.specs.Arena.{expr_at}
-use Rattle.silq_tree.specs.Standing.{expr_grown, expressions_of, scalar_of, place_of}
-use Rattle.silq_print.specs.Styles.{written_by, all_by, list_text, more_text, statics_text, are_sound}
-use Rattle.silq_print.proofs.Puts.{puts_none, puts_both, puts_token, puts_and, puts_as, puts_where}
+use Rattle.silq_tree.specs.Standing.{expr_grown, expressions_of}
+use Rattle.silq_print.specs.Styles.{written_by, all_by}
+use Rattle.silq_print.proofs.Puts.{puts_both, puts_token, puts_and, puts_as}
 use Rattle.silq_print.proofs.WaysTexts.{call_is, two_indexes, puts_best, puts_style, puts_number, puts_called, puts_tuple, puts_unary, puts_binary, first_of_list, next_of_list, end_of_list, puts_statics}
 use Rattle.silq_print.proofs.printer.Printer.+expression.Goals as goal
 

@@ -2,7 +2,6 @@ use Rattle.std.proofs.Common.{arith, ap, ◌∙◌, ◌-◌, ◌^◌}
 use Rattle.silq_tree.proofs.Lists.{stmt_below}
 use Rattle.silq_tree.specs.Arena.{expr_at, stmt_at}
 use Rattle.silq_tree.specs.Standing.{stmt_grown, statements_of, otherwise_of}
-use Rattle.silq_print.proofs.Puts.{puts_both, puts_token, puts_and}
 use Rattle.silq_print.proofs.Blocks.{puts_spread, puts_choice, puts_loop, puts_block_rest, puts_else_choice, first_of_block, next_of_block, end_of_block}
 use Rattle.silq_print.proofs.printer.Printer.+statement.Goals as goal
 

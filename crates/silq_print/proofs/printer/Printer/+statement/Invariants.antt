@@ -1,10 +1,8 @@
-use Rattle.std.proofs.Common.{◌≡◌, ◌+◌, ◌*◌, drop, []}
+use Rattle.std.proofs.Common.{◌≡◌, ◌+◌, ◌*◌, drop}
 use Rattle.silq_tree.specs.Arena.{expr_at, stmt_at}
 use Rattle.silq_tree.specs.Standing.{statements_of}
 use Rattle.silq_tree.specs.Children.{else_stmts}
 use Rattle.silq_tree.proofs.Lists.{stmts_top}
-use Rattle.silq_grammar.specs.Spelled.{stmts_text}
-use Rattle.silq_print.specs.Derived.{stmts_in}
 use Rattle.silq_print.specs.Statements.{are_sound_stmts, braces_text}
 use Rattle.silq_print.specs.Puts.{state}
 use Rattle.silq_print.proofs.Puts.{Left}

@@ -1,4 +1,4 @@
-use Rattle.silq_print.proofs.Puts.{puts_both, puts_token, puts_and}
+use Rattle.silq_print.proofs.Puts.{puts_and}
 use Rattle.std.proofs.Common.{arith, ap, ◌∙◌}
 use Rattle.silq_tree.specs.Arena.{expr_at}
 use Rattle.silq_tree.specs.Standing.{expr_grown}

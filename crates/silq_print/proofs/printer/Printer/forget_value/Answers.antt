@@ -1,4 +1,4 @@
-use Rattle.silq_print.proofs.Puts.{puts_both, puts_token, puts_and}
+use Rattle.silq_print.proofs.Puts.{puts_token}
 use Rattle.silq_print.proofs.printer.Printer.forget_value.Goals as goal
 
 pub returns-in-Some-clause-puts : goal.returns-in-Some-clause-puts

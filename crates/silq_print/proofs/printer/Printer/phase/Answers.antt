@@ -1,4 +1,4 @@
-use Rattle.silq_print.proofs.Puts.{puts_both, puts_token, puts_and}
+use Rattle.silq_print.proofs.Puts.{puts_token, puts_and}
 use Rattle.silq_print.proofs.printer.Printer.phase.Goals as goal
 
 pub returns-clause-puts : goal.returns-clause-puts

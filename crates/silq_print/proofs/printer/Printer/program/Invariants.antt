@@ -1,6 +1,5 @@
-use Rattle.std.proofs.Common.{◌≡◌, true, drop, map, [], ◌∷◌, ◌++◌}
-use Rattle.silq_tree.specs.Arena.{expr_at, program_at}
-use Rattle.silq_tree.specs.Standing.{type_of, param_of}
+use Rattle.std.proofs.Common.{◌≡◌, drop}
+use Rattle.silq_tree.specs.Arena.{program_at}
 use Rattle.silq_print.specs.Puts.{state}
 use Rattle.silq_print.proofs.Puts.{Left}
 use Rattle.silq_grammar.specs.Spelled.{program_text}

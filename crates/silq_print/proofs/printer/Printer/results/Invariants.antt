@@ -1,6 +1,6 @@
-use Rattle.std.proofs.Common.{◌≡◌, true, drop, map, [], ◌∷◌, ◌++◌}
-use Rattle.silq_tree.specs.Arena.{expr_at, program_at}
-use Rattle.silq_tree.specs.Standing.{type_of, param_of}
+use Rattle.std.proofs.Common.{◌≡◌, drop, map}
+use Rattle.silq_tree.specs.Arena.{expr_at}
+use Rattle.silq_tree.specs.Standing.{type_of}
 use Rattle.silq_print.specs.Puts.{state}
 use Rattle.silq_print.proofs.Puts.{Left}
 use Rattle.silq_print.specs.Headers.{types_list, more_types, are_sound_types}
