@@ -9,6 +9,14 @@ pub mod Chains
 pub mod Lowest
 pub mod DerivedNests
 pub mod Even
+pub mod Puts
+pub mod WaysTexts
+pub mod Blocks
+pub mod Headers
+pub mod Sound
+pub mod Depths
+pub mod Deeper
+pub mod Chosen
 pub mod ContentTexts
 pub mod ContentTrees
 pub mod ContentProper

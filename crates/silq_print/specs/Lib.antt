@@ -3,5 +3,11 @@ pub mod Laws
 pub mod Ways
 pub mod Derived
 pub mod Printed
+pub mod Puts
+pub mod Levels
+pub mod Styles
+pub mod Depths
+pub mod Statements
+pub mod Headers
 pub mod Content
 pub mod Proper

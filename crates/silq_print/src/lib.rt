@@ -1,4 +1,15 @@
 #![tactic(auto)]
-//! Programs as texts: what a text of a program keeps, its places aside.
+//! Programs as texts: how a program is printed, and what a text of a program keeps, its places aside.
 
+mod block;
+mod depth;
+mod expr;
+mod header;
 pub mod laws;
+mod level;
+pub mod print;
+mod printer;
+mod style;
+mod terminal;
+#[cfg(test)]
+mod tests;

@@ -1,0 +1,18 @@
+use Rattle.std.proofs.Common.{arith, ◌∙◌}
+use Rattle.silq_print.proofs.Blocks.{first_of_names, next_of_names, end_of_names}
+use Rattle.silq_print.proofs.printer.Printer.name_list.Goals as goal
+
+pub loop-id-init : goal.loop-id-init
+loop-id-init g c = record {
+  same_sink = c.name.ensures.same_sink;
+  left = first_of_names c.args.ids.now c.in-Some.first.now c.in-Some.rest.now c.in-Some.ensures.cases.0 c.name.ensures.puts;
+}
+
+pub loop-id-preserved : goal.loop-id-preserved
+loop-id-preserved g c = record {
+  same_sink = c.name-in-loop-id.ensures.same_sink ∙ c.fixed.ensures.same_sink ∙ c.loop-id.invariant.same_sink;
+  left = next_of_names c.in-Some.rest.now c.loop-id.id-index _ c.loop-id-test.true c.loop-id.invariant.left c.fixed.ensures.puts c.name-in-loop-id.ensures.puts;
+}
+
+pub returns-clause-puts : goal.returns-clause-puts
+returns-clause-puts g c = end_of_names c.in-Some.rest.now c.loop-id.id-index (omega (arith, c.loop-id-test.false)) c.loop-id.invariant.left

@@ -1,0 +1,6 @@
+use Rattle.silq_print.proofs.Puts.{puts_both, puts_token, puts_and}
+use Rattle.silq_print.proofs.printer.Printer.spread.Goals as goal
+
+pub returns-clause-puts : goal.returns-clause-puts
+returns-clause-puts g c =
+    puts_token c.fixed.ensures.puts (puts_both c.name_list.ensures.puts (puts_token c.fixed-2.ensures.puts (puts_token c.fixed-3.ensures.puts (puts_and c.expr.ensures.puts c.fixed-4.ensures.puts))))
