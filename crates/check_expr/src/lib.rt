@@ -18,7 +18,7 @@ pub mod need;
 pub mod obey;
 mod operators;
 mod own;
-mod part_types;
+pub mod part_types;
 mod part_uses;
 mod parts;
 pub mod places;

@@ -1,5 +1,5 @@
 -- The entry among the names and among the functions.
-use Rattle.std.specs.Prelude.{◌≡◌, refl, ℕ, zero, suc, ◌+◌, ◌<◌, ◌≤◌, Bool, true, false, ◌==◌, cond, List, [], ◌∷◌, ◌++◌, length, map, take, drop, get_or, reverse, Option, Some, None, slice_get}
+use Rattle.std.specs.Prelude.{◌≡◌, refl, ℕ, zero, suc, ◌+◌, ◌<◌, ◌≤◌, Bool, true, false, ◌==◌, cond, List, [], ◌∷◌, ◌++◌, length, map, take, drop, get_or, reverse, Option, Some, slice_get}
 use Rattle.std.specs.Str.{bytes_eq}
 use mathlib.Core.Path.{sym, ap, ◌∙◌, subst}
 use native.Mathlib.Omega.{arith}
@@ -41,17 +41,10 @@ length_mapped f (x ∷ xs) = ap suc (length_mapped f xs)
 functions_length : (l : Shelf) → length (functions_of l) ≡ length l.funs
 functions_length l = length_mapped (fun_at l.nodes) l.funs
 
-take_whole : {A : Type 0} (xs : List A) → take (length xs) xs ≡ xs
-take_whole [] = refl
-take_whole (x ∷ xs) = ap (λ ys. x ∷ ys) (take_whole xs)
-
 length_take : {A : Type 0} (n : ℕ) (xs : List A) → n ≤ length xs → length (take n xs) ≡ n
 length_take zero xs le = refl
 length_take (suc n) [] le = absurd (omega (arith, le))
 length_take (suc n) (x ∷ xs) le = ap suc (length_take n xs (omega (arith, le)))
-
-pub whole_before : (l : Shelf) → before_at l (length l.funs) ≡ reverse (functions_of l)
-whole_before l = ap (λ n. reverse (take n (functions_of l))) (sym (functions_length l)) ∙ ap reverse (take_whole (functions_of l))
 
 pub length_before : (l : Shelf) (n : ℕ) → n < length l.funs → length (before_at l n) ≡ n
 length_before l n lt = length-reverse (take n (functions_of l)) ∙ length_take n (functions_of l) (subst (λ k. n ≤ k) (sym (functions_length l)) (omega (arith, lt)))

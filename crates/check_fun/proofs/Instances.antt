@@ -1,5 +1,5 @@
 -- The check of one instance: the function that a key names, and what its header, its body and its signature say of the whole.
-use Rattle.std.specs.Prelude.{◌≡◌, refl, ℕ, zero, suc, ◌+◌, ◌<◌, ◌≤◌, Bool, true, false, cond, ◌==◌, not, ◌&&◌, ◌||◌, List, [], ◌∷◌, ◌++◌, length, map, take, reverse, get_or, Option, Some, None, Result, Ok, Err, IfSome, ℤ}
+use Rattle.std.specs.Prelude.{◌≡◌, refl, ℕ, zero, suc, ◌+◌, ◌<◌, ◌≤◌, Bool, true, false, cond, ◌==◌, ◌&&◌, ◌||◌, List, [], ◌∷◌, ◌++◌, length, map, take, reverse, Option, Some, None, Result, Ok, Err, IfSome}
 use mathlib.Core.Path.{sym, ap, ◌∙◌, subst}
 use native.Mathlib.Omega.{arith}
 use Rattle.std.proofs.lemmas.Bool.{eqb-true, eqb-false}
@@ -9,7 +9,6 @@ use Rattle.silq_tree.specs.Standing.{fun_grown, block_of, param_of}
 use Rattle.silq_tree.specs.Syntax.{Function, Parameter}
 use Rattle.silq_tree.specs.declared.node.Fun.{Fun}
 use Rattle.silq_tree.specs.declared.node.Mark.{Mark}
-use Rattle.silq_tree.specs.declared.node.NameId.{NameId}
 use Rattle.silq_tree.specs.declared.node.ParamNode.{ParamNode}
 use Rattle.silq_tree.specs.declared.node.Spot.{Spot}
 use Rattle.silq_types.specs.Known.{Signatures, signature_of}
@@ -17,24 +16,22 @@ use Rattle.silq_types.specs.Rules.{Fault, rule, and_then, unknown_name, lifted_w
 use Rattle.silq_types.specs.Types.{Statics, Header, header_of, header_type, param_types, result_types, is_lifted, is_empty, written_at}
 use Rattle.silq_types.specs.declared.signature.InstanceKey.{InstanceKey}
 use Rattle.silq_types.specs.declared.signature.Param.{Param}
-use Rattle.silq_types.specs.declared.signature.Returned.{Returned}
 use Rattle.silq_types.specs.declared.signature.Signature.{Signature}
 use Rattle.silq_types.specs.declared.types.Ty.{Ty}
 use Rattle.silq_types.specs.declared.values.Value.{Value}
 use Rattle.silq_types.specs.declared.values.Var.{Var}
 use Rattle.check_expr.specs.declared.fault.CheckFault.{CheckFault}
-use Rattle.check_expr.specs.declared.words.BuiltIn.{BuiltIn}
 use Rattle.check_expr.specs.Context.{Context, new_place}
 use Rattle.check_fun.specs.Counting.{Runs, Fails, checker_at}
 use Rattle.check_expr.specs.Expression.{paired}
 use Rattle.check_expr.specs.Faults.{fault_as}
 use Rattle.check_expr.specs.Library.{Shelf, functions_of, function_at, before_at}
 use Rattle.check_fun.specs.Program.{instances, check_one, instance_walk, kept, signature_by, with_instance, param_vars, returned_as}
-use Rattle.check_expr.specs.State.{State, Keeps, context_of, scope_in}
+use Rattle.check_expr.specs.State.{State, context_of, scope_in}
 use Rattle.check_fun.specs.Statement.{whole_body}
 use Rattle.check_expr.specs.Steps.{Reads, IsFirst}
-use Rattle.check_expr.specs.Walk.{Walk, answer, bind, Counts, Checker, with_counts}
-use Rattle.check_fun.proofs.Growth.{ok_inside, ok_same, ran, none_passed, none_below, AllBelow, instances_grow, Ran}
+use Rattle.check_expr.specs.Walk.{Walk, answer, Counts, with_counts}
+use Rattle.check_fun.proofs.Growth.{ok_inside, ok_same, ran, none_passed, none_below, AllBelow, instances_grow}
 use Rattle.check_expr.proofs.Readings.{with_counts-bind}
 
 -- ---- the functions before one
@@ -144,7 +141,7 @@ module _ (l : Shelf) (fun d : ℕ) (place : Spot → Spot) (k : InstanceKey) (c 
   body_here h cx r tree is begins e =
       ap (λ f. body_of_grown f h) tree
       ∙ ap (λ s. with_counts (instances l.words (before_at l fun)) d
-          (whole_body (block_of (expr_at l.nodes) (stmt_at l.nodes) node.body) (record { words = l.words; before = before_at l fun; this = function_at l fun; results = h.results; statics = s; held = [] }) (record { vars = param_vars 0 (map (param_of (expr_at l.nodes)) node.params) h.params; next = length h.params })) c 0) (sym is)
+      (whole_body (block_of (expr_at l.nodes) (stmt_at l.nodes) node.body) (record { words = l.words; before = before_at l fun; this = function_at l fun; results = h.results; statics = s; held = [] }) (record { vars = param_vars 0 (map (param_of (expr_at l.nodes)) node.params) h.params; next = length h.params })) c 0) (sym is)
       ∙ subst (λ (x : State). with_counts (checker_at l x) x.depth (walk_of x) c x.height ≡ r) begins e
 
   walk_here : (h : Header) (r : Result ((List Value × Context) × Counts × ℕ) Fault) → body_of_grown (function_at l fun) h ≡ r → Ran_body h ≡ and_then r (λ x. Ok (x.0.0, x.1, x.2))
@@ -226,17 +223,19 @@ pub fresh_state : (met : Signatures) (old now : State) (p : ℕ) → Reads met n
 fresh_state met old now p r =
     let same = ok_fst _ _ _ _ r.runs in
     let vars : now.vars ≡ old.vars = sym (ap (λ x. x.1.vars) same.0) in
-    let next : now.next ≡ suc old.next = sym (ap (λ x. x.1.next) same.0) in
-    (sym (ap (λ x. x.0) same.0),
-    ap (λ x. record { this = x; results = now.results; depth = now.depth; height = now.height; vars = now.vars; start = now.start; next = now.next; statics = now.statics; held = now.held }) r.keeps.this
-    ∙ ap (λ x. record { this = old.this; results = x; depth = now.depth; height = now.height; vars = now.vars; start = now.start; next = now.next; statics = now.statics; held = now.held }) r.keeps.results
-    ∙ ap (λ x. record { this = old.this; results = old.results; depth = x; height = now.height; vars = now.vars; start = now.start; next = now.next; statics = now.statics; held = now.held }) r.keeps.depth
-    ∙ ap (λ x. record { this = old.this; results = old.results; depth = old.depth; height = x; vars = now.vars; start = now.start; next = now.next; statics = now.statics; held = now.held }) (sym same.1)
-    ∙ ap (λ x. record { this = old.this; results = old.results; depth = old.depth; height = old.height; vars = x; start = now.start; next = now.next; statics = now.statics; held = now.held }) vars
-    ∙ ap (λ x. record { this = old.this; results = old.results; depth = old.depth; height = old.height; vars = old.vars; start = now.start; next = x; statics = now.statics; held = now.held }) next
-    ∙ ap (λ x. record { this = old.this; results = old.results; depth = old.depth; height = old.height; vars = old.vars; start = now.start; next = suc old.next; statics = x; held = now.held }) r.keeps.statics
-    ∙ ap (λ x. record { this = old.this; results = old.results; depth = old.depth; height = old.height; vars = old.vars; start = now.start; next = suc old.next; statics = old.statics; held = x }) r.keeps.held,
-    r.keeps.start, vars)
+    let next : now.next ≡ suc old.next = sym (ap (λ x. x.1.next) same.0) in (
+      sym (ap (λ x. x.0) same.0),
+      ap (λ x. record { this = x; results = now.results; depth = now.depth; height = now.height; vars = now.vars; start = now.start; next = now.next; statics = now.statics; held = now.held }) r.keeps.this
+          ∙ ap (λ x. record { this = old.this; results = x; depth = now.depth; height = now.height; vars = now.vars; start = now.start; next = now.next; statics = now.statics; held = now.held }) r.keeps.results
+          ∙ ap (λ x. record { this = old.this; results = old.results; depth = x; height = now.height; vars = now.vars; start = now.start; next = now.next; statics = now.statics; held = now.held }) r.keeps.depth
+          ∙ ap (λ x. record { this = old.this; results = old.results; depth = old.depth; height = x; vars = now.vars; start = now.start; next = now.next; statics = now.statics; held = now.held }) (sym same.1)
+          ∙ ap (λ x. record { this = old.this; results = old.results; depth = old.depth; height = old.height; vars = x; start = now.start; next = now.next; statics = now.statics; held = now.held }) vars
+          ∙ ap (λ x. record { this = old.this; results = old.results; depth = old.depth; height = old.height; vars = old.vars; start = now.start; next = x; statics = now.statics; held = now.held }) next
+          ∙ ap (λ x. record { this = old.this; results = old.results; depth = old.depth; height = old.height; vars = old.vars; start = now.start; next = suc old.next; statics = x; held = now.held }) r.keeps.statics
+          ∙ ap (λ x. record { this = old.this; results = old.results; depth = old.depth; height = old.height; vars = old.vars; start = now.start; next = suc old.next; statics = old.statics; held = x }) r.keeps.held,
+      r.keeps.start,
+      vars,
+    )
 
 -- a parameter's variable is added to the context
 pub param_added : (first cx mid now : State) (n : ℕ) (v : Var) → cx ≡ record first { vars = cx.vars; start = cx.start; next = n }

@@ -15,7 +15,7 @@ pub mod BlockRounds
 pub mod BlockSteps
 pub mod BlockTold
 pub mod Counted
-pub mod Ends
+pub mod LastVars
 pub mod EntryFound
 pub mod EntryRules
 pub mod HeaderNames
@@ -32,3 +32,7 @@ pub mod Targets
 pub mod Updating
 pub mod WantedRoom
 pub mod Zipped
+pub mod Concluding
+pub mod Returning
+pub mod BodySteps
+pub mod StepParts

@@ -1,15 +1,8 @@
 -- The measure of the functions that check statements and instances: the open instances that may come, and then where the code stands.
-use Rattle.std.specs.Prelude.{◌≡◌, refl, ℕ, suc, ◌+◌, ◌-◌, ◌*◌, ◌<◌, ◌≤◌}
+use Rattle.std.specs.Prelude.{◌≡◌, ℕ, ◌+◌, ◌-◌, ◌*◌, ◌<◌, ◌≤◌}
 use Rattle.std.proofs.Common.{arith}
+use Rattle.check_fun.proofs.BlockLevels.{level}
 use mathlib.Core.Path.{sym, ap, ◌∙◌, subst}
-
--- the measure's last part lies below 8 * stmts + 16
-unfoldable pub level : ℕ → ℕ → ℕ → ℕ
-level depth stmts k = (64 - depth) * (8 * stmts + 16) + k
-
-pub level_less : (d e n j k : ℕ) → d ≡ e → j < k → level d n j < level e n k
-unfolding level
-level_less d e n j k h l = subst (λ x. level d n j < level x n k) h (omega (arith, l))
 
 one_more : (m w : ℕ) → (m + 1) * w ≡ m * w + w
 one_more m w = grind arith

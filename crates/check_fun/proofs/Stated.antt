@@ -32,3 +32,10 @@ module _ (check : Checker) (st : Statement) (sc : Scope) (old : State) (c d : Co
 
   pub runs_stmt : (now : State) (e : Counts) → Runs check count_statement old c tt old d → Runs check (stmt_step st sc) old d tt now e → Runs check (stmt st sc) old c tt now e
   runs_stmt now e q r = subst (λ m. Runs check m old c tt now e) (sym (stmt_counted st sc)) (runs_then check count_statement (stmt_step st sc) old old now c d e tt tt q r)
+
+-- the step of the statement that a node stands for
+pub stepped : (check : Checker) (st grown : Statement) (sc : Scope) (old now : State) (c d : Counts) → st ≡ grown → Runs check (stmt_step grown sc) old c tt now d → Runs check (stmt_step st sc) old c tt now d
+stepped check st grown sc old now c d e r = rw e r
+
+pub failing : (check : Checker) (st grown : Statement) (sc : Scope) (old : State) (c : Counts) (f : CheckFault) → st ≡ grown → Fails check (stmt_step grown sc) old c f → Fails check (stmt_step st sc) old c f
+failing check st grown sc old c f e r = rw e r

@@ -17,7 +17,15 @@ use silq_tree::ExprId;
 use silq_types::Ty;
 
 /// The values of an expression.
-pub(crate) fn values(library: &Library, cx: &mut Context, tally: &mut Tally, e: ExprId, need: Need, wants: &[Ty]) -> Result<ValueList, CheckFault>
+#[cycle(statement)]
+pub(crate) fn values(
+    library: &Library,
+    cx: &mut Context,
+    tally: &mut Tally,
+    e: ExprId,
+    need: Need,
+    wants: &[Ty],
+) -> Result<ValueList, CheckFault>
     requires id { e.number < length library.now.nodes.exprs }
     requires this { cx.old.this < length library.now.funs }
     requires depth { cx.old.depth ≤ 64 }

@@ -168,6 +168,7 @@ fn put_back(
 }
 
 /// Assigns a value to a name, behind the statement's count.
+#[cycle(statement)]
 pub(crate) fn assign_name(
     library: &Library,
     cx: &mut Context,
@@ -190,6 +191,7 @@ pub(crate) fn assign_name(
 }
 
 /// Assigns the values of an expression to names, behind the statement's count.
+#[cycle(statement)]
 pub(crate) fn spread(
     library: &Library,
     cx: &mut Context,
@@ -210,6 +212,7 @@ pub(crate) fn spread(
 }
 
 /// Assigns a value to a part, behind the statement's count: the part is taken out with a new place, and has to come back.
+#[cycle(statement)]
 pub(crate) fn assign_part(
     library: &Library,
     cx: &mut Context,

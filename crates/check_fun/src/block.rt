@@ -159,6 +159,7 @@ fn is_bit(ty: &Ty) -> bool
 }
 
 /// Checks a run-time condition, and gives the parts that it names.
+#[cycle(statement)]
 fn condition(
     library: &Library,
     cx: &mut Context,

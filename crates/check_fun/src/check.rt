@@ -29,7 +29,12 @@ pub struct Checked {
 
 /// Checks a program from the function `entry` with these static values: accepted, or the first broken rule, unsupported item or
 /// passed limit in the order of the walk.
-pub fn check(alloc: Global, program: Program, entry: &str, statics: &[i64]) -> Result<Checked, CheckFault>
+pub fn check(
+    alloc: Global,
+    program: Program,
+    entry: &str,
+    statics: &[i64],
+) -> Result<Checked, CheckFault>
     requires { AreFunsBelow (length program.tree.funs) program.funs }
     ensures library { IfOk result (λ c. c.library ≡ record { nodes = program.tree; words = words_of program.names; funs = program.funs }) }
     ensures accepted { IfOk result (λ c. (s : Signature) × (check_named (record { words = words_of program.names; funs = program_at program.tree program.funs }) (number_of_name program.names entry.now) statics.now ≡ Ok (record { entry = s; met = c.known })) × (signature_of c.known c.entry ≡ Some s)) }
@@ -41,14 +46,18 @@ pub fn check(alloc: Global, program: Program, entry: &str, statics: &[i64]) -> R
     let Ok(library) = Library::new(alloc, program) else {
         return Err(CheckFault::Memory);
     };
-    headers(&library)?;
+    if let Err(fault) = headers(&library) {
+        return Err(fault);
+    }
     let Some(name) = name else {
         return Err(unknown_entry());
     };
-    let (entry, known) = check_entry(&library, name, statics)?;
-    Ok(Checked {
-        library,
-        entry,
-        known,
-    })
+    match check_entry(&library, name, statics) {
+        Ok((entry, known)) => Ok(Checked {
+            library,
+            entry,
+            known,
+        }),
+        Err(fault) => Err(fault),
+    }
 }

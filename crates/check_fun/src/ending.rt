@@ -16,33 +16,6 @@ use check_expr::rule;
 use silq_tree::Spot;
 use silq_types::Var;
 
-/// No Linear value is left among the variables from the n-th on.
-fn none_left_from(cx: &Context, n: usize, at: Spot) -> Result<(), CheckFault>
-    ensures runs { (check : Checker) (c : Counts) → OnOk result (Runs check (none_left (drop n cx.now.vars) at) cx.now c tt cx.now c) }
-    ensures fails { (check : Checker) (c : Counts) → IfErr result (λ f. Fails check (none_left (drop n cx.now.vars) at) cx.now c f) }
-{
-    let vars = cx.vars();
-    for i in n..vars.len() {
-        if is_live_linear(vars[i]) {
-            return Err(CheckFault::Broken {
-                rule: rule::LINEAR_LEFT,
-                at,
-            });
-        }
-    }
-    Ok(())
-}
-
-/// The variables from the n-th on end here.
-pub(crate) fn end_from(cx: &mut Context, n: usize, at: Spot) -> Result<(), CheckFault>
-    ensures runs { (check : Checker) (c : Counts) → OnOk result (Runs check (end_of n at) cx.old c tt cx.new c) }
-    ensures fails { (check : Checker) (c : Counts) → IfErr result (λ f. Fails check (end_of n at) cx.old c f) }
-{
-    none_left_from(cx, n, at)?;
-    cx.cut(n);
-    Ok(())
-}
-
 /// A variable ends here.
 pub(crate) fn end_var(cx: &mut Context, var: Var)
     ensures { (check : Checker) (c : Counts) → Runs check (var_ended var) cx.old c tt cx.new c }

@@ -78,7 +78,10 @@ fn entry_rules(library: &Library, fun: &Fun, statics: &[i64]) -> Result<(), Chec
     ensures fine { OnOk result (rules_of_entry (fun_grown (expr_at library.now.nodes) (stmt_at library.now.nodes) fun.now) statics.now ≡ Ok tt) }
     ensures fault { IfErr result (λ f. IsFirst f (rules_of_entry (fun_grown (expr_at library.now.nodes) (stmt_at library.now.nodes) fun.now) statics.now)) }
 {
-    if fun.statics.len() != statics.len() || has_negative(statics) || has_classical(fun.params.as_slice()) {
+    if fun.statics.len() != statics.len()
+        || has_negative(statics)
+        || has_classical(fun.params.as_slice())
+    {
         return Err(CheckFault::Broken {
             rule: NOT_STATIC,
             at: fun.at,
@@ -102,7 +105,12 @@ fn instance_key(alloc: Global, fun: u32, statics: &[i64]) -> Result<InstanceKey,
 }
 
 /// Walks the instance of the function with a number with these values, whose rules hold.
-fn walk_entry(library: &Library, number: u32, at: Spot, statics: &[i64]) -> Result<(InstanceKey, Known), CheckFault>
+fn walk_entry(
+    library: &Library,
+    number: u32,
+    at: Spot,
+    statics: &[i64],
+) -> Result<(InstanceKey, Known), CheckFault>
     requires fun { number < length library.now.funs }
     requires at { at ≡ (function_at library.now number).at }
     requires rules { rules_of_entry (function_at library.now number) statics.now ≡ Ok tt }
@@ -123,7 +131,11 @@ fn walk_entry(library: &Library, number: u32, at: Spot, statics: &[i64]) -> Resu
 }
 
 /// The rules of the function with a number as an entry with these values, and its instance.
-fn check_found(library: &Library, number: u32, statics: &[i64]) -> Result<(InstanceKey, Known), CheckFault>
+fn check_found(
+    library: &Library,
+    number: u32,
+    statics: &[i64],
+) -> Result<(InstanceKey, Known), CheckFault>
     requires { number < length library.now.funs }
     ensures accepted { IfOk result (λ r. (s : Signed) × (entry_of (program_of library.now) statics.now (Some (found_at library.now number)) ≡ Ok (record { entry = s; met = r.1 })) × (signature_of r.1 r.0 ≡ Some s)) }
     ensures refused { IfErr result (λ f. IsFirst f (entry_of (program_of library.now) statics.now (Some (found_at library.now number)))) }
@@ -136,7 +148,11 @@ fn check_found(library: &Library, number: u32, statics: &[i64]) -> Result<(Insta
 }
 
 /// Checks a program from the function with a name: the entry with its static values, and the instances that the walk meets.
-pub(crate) fn check_entry(library: &Library, name: NameId, statics: &[i64]) -> Result<(InstanceKey, Known), CheckFault>
+pub(crate) fn check_entry(
+    library: &Library,
+    name: NameId,
+    statics: &[i64],
+) -> Result<(InstanceKey, Known), CheckFault>
     ensures accepted { IfOk result (λ r. (s : Signed) × (entry_of (program_of library.now) statics.now (find_fun (reverse (functions_of library.now)) name) ≡ Ok (record { entry = s; met = r.1 })) × (signature_of r.1 r.0 ≡ Some s)) }
     ensures refused { IfErr result (λ f. IsFirst f (entry_of (program_of library.now) statics.now (find_fun (reverse (functions_of library.now)) name))) }
 {

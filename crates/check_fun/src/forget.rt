@@ -20,7 +20,8 @@ use check_expr::fault::CheckFault;
 use check_expr::library::Library;
 use crate::named::is_named;
 use check_expr::need::Need;
-use crate::plain::{known_now, obeyed, single_now};
+use crate::plain::{known_now, obeyed};
+use crate::steps_of_block::single_now;
 use check_expr::rule;
 use crate::tally::Tally;
 use crate::target::{Target, target_at};
@@ -162,6 +163,7 @@ fn may_forget(
 }
 
 /// Ends the variable with a name by the value that it has, behind the statement's count.
+#[cycle(statement)]
 pub(crate) fn forget_as(
     library: &Library,
     cx: &mut Context,

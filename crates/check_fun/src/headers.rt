@@ -1,6 +1,6 @@
 //! The names in the headers of a program.
 
-ghost use Rattle.std.specs.Prelude.{◌≡◌, ◌<◌, ◌||◌, length, false, true, Ok, map, [], Err, IfOk, IfErr, OnOk, IfSome, IsNone};
+ghost use Rattle.std.specs.Prelude.{◌≡◌, ◌<◌, ◌||◌, not, length, false, true, Ok, map, [], Err, IfOk, IfErr, OnOk, IfSome, IsNone};
 ghost use Rattle.silq_tree.specs.declared.node.NameId.{NameId as Named};
 ghost use Rattle.silq_tree.specs.Arena.{expr_at};
 ghost use Rattle.silq_tree.specs.Standing.{param_of};
@@ -62,6 +62,13 @@ fn second_param(library: &Library, params: &[ParamNode]) -> Result<Option<Spot>,
     Ok(None)
 }
 
+/// Whether a function's name is built in or not new, or one of its static names is shared.
+fn is_taken(built_in: bool, new: bool, shared: bool) -> bool
+    ensures { result ≡ (built_in || (not new || shared)) }
+{
+    built_in || !new || shared
+}
+
 /// The names of one header: that of the function is no earlier function's and no built-in one's, and those of its static parameters
 /// and its parameters differ. The function's name is then among the earlier ones.
 fn header_names(library: &Library, fun: u32, earlier: &mut NameSet) -> Result<(), CheckFault>
@@ -84,7 +91,9 @@ fn header_names(library: &Library, fun: u32, earlier: &mut NameSet) -> Result<()
     let Some(statics) = statics else {
         return Err(taken);
     };
-    if library.built_in(node.name).is_some() || !new || has_param(&statics, node.params.as_slice(), library) {
+    let is_built_in = library.built_in(node.name).is_some();
+    let is_shared = has_param(&statics, node.params.as_slice(), library);
+    if is_taken(is_built_in, new, is_shared) {
         return Err(taken);
     }
     match second_param(library, node.params.as_slice()) {
@@ -102,11 +111,12 @@ pub(crate) fn headers(library: &Library) -> Result<(), CheckFault>
     ensures fine { OnOk result (all_headers library.now.words [] (functions_of library.now) ≡ Ok tt) }
     ensures fault { IfErr result (λ f. IsFirst f (all_headers library.now.words [] (functions_of library.now))) }
 {
-    let Ok(count) = u32::try_from(library.len()) else {
+    let count = library.len();
+    if count > u32::MAX as usize {
         return Err(CheckFault::Memory);
-    };
+    }
     let mut earlier = NameSet::new(library.alloc());
-    for fun in 0..count {
+    for fun in 0..count as u32 {
         match header_names(library, fun, &mut earlier) {
             Ok(()) => {}
             Err(fault) => return Err(fault),

@@ -7,7 +7,6 @@ ghost use Rattle.check_expr.specs.Expression.{paired};
 ghost use Rattle.check_fun.specs.Program.{param_vars, param_origin as origin_of_param};
 
 use check_expr::context::Context;
-use check_expr::fault::{CheckFault, ExprFault};
 use check_expr::library::Library;
 use silq_tree::NameId;
 use silq_tree::node::ParamNode;
@@ -16,7 +15,11 @@ use static_num::Statics;
 use std::alloc::AllocError;
 
 /// Static names with their values, as far as there are both.
-pub(crate) fn static_values(library: &Library, names: &[NameId], values: &[i64]) -> Result<Statics, AllocError>
+pub(crate) fn static_values(
+    library: &Library,
+    names: &[NameId],
+    values: &[i64],
+) -> Result<Statics, AllocError>
     ensures { IfOk result (λ statics. statics ≡ paired names.now values.now) }
 {
     let mut statics = Statics::new(library.alloc());
@@ -40,7 +43,12 @@ fn param_origin(param: &Param) -> Origin
 }
 
 /// Gives each parameter a variable in a new context; parameter i has the place i.
-pub(crate) fn add_params(library: &Library, cx: &mut Context, names: &[ParamNode], params: &ParamList) -> Result<(), AllocError>
+pub(crate) fn add_params(
+    library: &Library,
+    cx: &mut Context,
+    names: &[ParamNode],
+    params: &ParamList,
+) -> Result<(), AllocError>
     requires vars { cx.old.vars ≡ [] }
     requires places { cx.old.next ≡ 0 }
     requires both { length names.now ≡ length params.now }

@@ -8,7 +8,7 @@ ghost use Rattle.silq_types.specs.Types.{place_indices};
 ghost use Rattle.check_expr.specs.Asks.{types_of};
 ghost use Rattle.check_expr.specs.Context.{rules, known_names as names_known, new_place, all_needed, indices, part_at};
 ghost use Rattle.check_fun.specs.Counting.{Runs, Fails};
-ghost use Rattle.check_expr.specs.Expression.{single as single_value, suits as value_suits};
+ghost use Rattle.check_expr.specs.Expression.{suits as value_suits};
 ghost use Rattle.check_expr.specs.State.{State, scope_in};
 ghost use Rattle.check_fun.specs.Stepping.{fault_in};
 ghost use Rattle.check_expr.specs.declared.fault.CheckFault.TheVariants as checks;
@@ -18,7 +18,7 @@ use check_expr::context::Context;
 use check_expr::fault::{CheckFault, ExprFault};
 use check_expr::library::Library;
 use check_expr::obey::obey;
-use crate::{places, values};
+use check_expr::{places, values};
 use silq_tree::node::PlaceNode;
 use silq_tree::{ExprId, Spot};
 use silq_types::{Part, Ty, Value};
@@ -40,18 +40,6 @@ pub(crate) fn obeyed(at: Spot, tests: &[(bool, u8)]) -> Result<(), CheckFault>
 {
     match obey(at, tests) {
         Ok(()) => Ok(()),
-        Err(fault) => Err(fault_of(fault)),
-    }
-}
-
-/// One value, where just one may stand.
-pub(crate) fn single_now(library: &Library, e: ExprId, found: &[Value]) -> Result<Value, CheckFault>
-    requires { e.number < length library.now.nodes.exprs }
-    ensures runs { (check : Checker) (s : State) (c : Counts) → IfOk result (λ v. Runs check (single_value (expr_at library.now.nodes e) found.now) s c v s c) }
-    ensures fails { (check : Checker) (s : State) (c : Counts) → IfErr result (λ f. Fails check (single_value (expr_at library.now.nodes e) found.now) s c f) }
-{
-    match values::single(library, e, found) {
-        Ok(value) => Ok(value),
         Err(fault) => Err(fault_of(fault)),
     }
 }

@@ -32,7 +32,12 @@ fn given(params: &ParamList, place: u128) -> Result<Option<u32>, AllocError>
 }
 
 /// The results by the types and the values that are returned.
-fn returned(alloc: Global, params: &ParamList, types: &[Ty], values: &[Value]) -> Result<ResultList, AllocError>
+fn returned(
+    alloc: Global,
+    params: &ParamList,
+    types: &[Ty],
+    values: &[Value],
+) -> Result<ResultList, AllocError>
     ensures { IfOk result (λ results. results ≡ returned_as params.now types.now values.now) }
 {
     let mut results = ResultList::new(alloc);
@@ -46,7 +51,13 @@ fn returned(alloc: Global, params: &ParamList, types: &[Ty], values: &[Value]) -
 }
 
 /// The signature of the function of a context, whose body returned these values.
-pub(crate) fn signature_of_body(alloc: Global, cx: &Context, params: ParamList, mark: Mark, values: &ValueList) -> Result<Signature, AllocError>
+pub(crate) fn signature_of_body(
+    alloc: Global,
+    cx: &Context,
+    params: ParamList,
+    mark: Mark,
+    values: &ValueList,
+) -> Result<Signature, AllocError>
     requires { cx.now.height < 2 ^ 32 - 1 }
     ensures params { IfOk result (λ s. s.params ≡ params) }
     ensures results { IfOk result (λ s. s.results ≡ returned_as params cx.now.results values.now) }

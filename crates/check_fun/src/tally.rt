@@ -9,6 +9,7 @@ ghost use Rattle.check_expr.specs.State.{State};
 ghost use Rattle.check_expr.specs.Walk.{Checker};
 
 use check_expr::fault::CheckFault;
+use silq_io::LimitKind;
 use silq_types::{InstanceKey, Known, Signature};
 use std::alloc::{AllocError, Global};
 use std::marker::Model;
@@ -40,12 +41,17 @@ impl Tally {
     }
 
     /// Counts one statement; at most 1,000,000 are walked.
+    #[tactic(auto, using(crate::proofs::BlockSteps::runs_counted, crate::proofs::BlockSteps::fails_counted))]
     pub fn count(&mut self) -> Result<(), CheckFault>
         ensures runs { (check : Checker) (s : State) → OnOk result (Runs check count_statement s self.old tt s self.new) }
         ensures fails { (check : Checker) (s : State) → IfErr result (λ f. Fails check count_statement s self.old f) }
     {
-        // TO DO
-        Err(CheckFault::Memory)
+        if self.walked < 1_000_000 {
+            self.walked += 1;
+            Ok(())
+        } else {
+            Err(CheckFault::Limit(LimitKind::Walked))
+        }
     }
 
     /// Adds the signature of an instance that is not known.

@@ -21,7 +21,8 @@ use check_expr::fault::CheckFault;
 use check_expr::library::Library;
 use crate::named::is_named;
 use check_expr::need::Need;
-use crate::plain::{obeyed, single_now};
+use crate::plain::{obeyed};
+use crate::steps_of_block::single_now;
 use check_expr::rule;
 use crate::tally::Tally;
 use crate::target::{Target, target_at};
@@ -118,6 +119,7 @@ pub(crate) fn may_update(
 }
 
 /// Updates a part, behind the statement's count. The right side may consume the target.
+#[cycle(statement)]
 pub(crate) fn update_part(
     library: &Library,
     cx: &mut Context,

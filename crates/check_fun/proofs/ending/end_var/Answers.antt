@@ -1,4 +1,4 @@
-use Rattle.check_fun.proofs.Ends.{runs_end_var}
+use Rattle.check_fun.proofs.LastVars.{runs_end_var}
 use Rattle.check_fun.proofs.ending.end_var.Goals as goal
 
 pub returns : goal.returns

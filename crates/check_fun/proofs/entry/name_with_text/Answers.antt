@@ -1,4 +1,4 @@
-use Rattle.std.proofs.Common.{◌≡◌, ◌∙◌, sym}
+use Rattle.std.proofs.Common.{◌∙◌, sym}
 use Rattle.check_fun.proofs.EntryFound.{number_here, number_later}
 use Rattle.check_fun.proofs.entry.name_with_text.Goals as goal
 

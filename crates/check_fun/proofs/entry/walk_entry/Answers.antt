@@ -1,4 +1,3 @@
-use Rattle.std.proofs.Common.{◌≡◌}
 use Rattle.check_fun.proofs.EntryRules.{walk_refused, walk_accepted}
 use Rattle.check_fun.proofs.entry.walk_entry.Goals as goal
 

@@ -1,8 +1,6 @@
-use Rattle.std.proofs.Common.{◌≡◌, length, drop, ◌++◌, sym, ap, ◌∙◌}
-use Rattle.std.proofs.lemmas.List.{length_push}
-use Rattle.std.proofs.lemmas.Slice.Zip.{zip_turn, zip_end}
-use Rattle.check_expr.specs.Expression.{paired}
-use Rattle.check_fun.proofs.Zipped.{drop_one, done_one, done_all, paired_one, paired_end}
+use Rattle.std.proofs.Common.{length}
+use Rattle.std.proofs.lemmas.Slice.Zip.{zip_end}
+use Rattle.check_fun.proofs.Zipped.{done_all, paired_end}
 use Rattle.check_fun.proofs.params.static_values.Goals as goal
 
 pub returns : goal.returns

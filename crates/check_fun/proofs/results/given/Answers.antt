@@ -1,4 +1,4 @@
-use Rattle.std.proofs.Common.{arith, ◌≡◌, cond, None, Some, length}
+use Rattle.std.proofs.Common.{arith, cond, None, Some}
 use mathlib.Core.Path.{sym, ap, ◌∙◌}
 use Rattle.check_fun.proofs.Zipped.{given_past, given_found}
 use Rattle.check_fun.proofs.results.given.Goals as goal

@@ -1,8 +1,6 @@
-use Rattle.std.proofs.Common.{◌≡◌, ◌∷◌, ◌+◌, length, drop, ◌++◌, sym, ap, ◌∙◌}
-use Rattle.std.proofs.lemmas.List.{length_push}
-use Rattle.std.proofs.lemmas.Slice.Zip.{zip_turn, zip_end}
-use Rattle.check_fun.specs.Program.{given_on, returned_as}
-use Rattle.check_fun.proofs.Zipped.{drop_one, done_one, done_all, returned_one, returned_end}
+use Rattle.std.proofs.Common.{length}
+use Rattle.std.proofs.lemmas.Slice.Zip.{zip_end}
+use Rattle.check_fun.proofs.Zipped.{done_all, returned_end}
 use Rattle.check_fun.proofs.results.returned.Goals as goal
 
 pub returns : goal.returns
