@@ -36,11 +36,12 @@ module _ (l : Shelf) (n : ℕ) (set earlier : List NameId) where
       → ((x : NameId) → any_name (λ y. same_name y x) now ≡ (same_name (function_at l n).name x || any_name (λ y. same_name y x) set))
       → (names : List NameId) × Agree now names × (all_headers l.words [] (functions_of l) ≡ all_headers l.words names (drop (n + 1) (functions_of l)))
   headers_on now lt agree inv ok grown =
-      let next : suc n ≡ n + 1 = omega arith in
-      ((function_at l n).name ∷ earlier,
-      (λ x. grown x ∙ ap (λ b. same_name (function_at l n).name x || b) (agree x)),
-      inv ∙ step lt ∙ ap (λ r. and_then r (λ u. all_headers l.words ((function_at l n).name ∷ earlier) (drop (suc n) (functions_of l)))) (sym (header_agrees l.words set earlier (function_at l n) agree) ∙ ok)
-      ∙ ap (λ k. all_headers l.words ((function_at l n).name ∷ earlier) (drop k (functions_of l))) next)
+      let next : suc n ≡ n + 1 = omega arith in (
+        (function_at l n).name ∷ earlier,
+        (λ x. grown x ∙ ap (λ b. same_name (function_at l n).name x || b) (agree x)),
+        inv ∙ step lt ∙ ap (λ r. and_then r (λ u. all_headers l.words ((function_at l n).name ∷ earlier) (drop (suc n) (functions_of l)))) (sym (header_agrees l.words set earlier (function_at l n) agree) ∙ ok)
+            ∙ ap (λ k. all_headers l.words ((function_at l n).name ∷ earlier) (drop k (functions_of l))) next,
+      )
 
   pub headers_stop : (o : Option Fault) → n < length l.funs → Agree set earlier → all_headers l.words [] (functions_of l) ≡ all_headers l.words earlier (drop n (functions_of l))
       → IfSome o (λ first. header_names l.words set (function_at l n) ≡ Err first) → IfSome o (λ first. all_headers l.words [] (functions_of l) ≡ Err first)

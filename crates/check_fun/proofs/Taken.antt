@@ -45,12 +45,13 @@ module _ (at : ExprId → Expression) (ps : List ParamNode) (i : ℕ) (d : Param
       → ((x : NameId) → any_name (λ y. same_name y x) now ≡ (same_name (get_or ps i d).name x || any_name (λ y. same_name y x) taken))
       → (then_names : List NameId) × Agree now then_names × (param_names [] (map (param_of at) ps) ≡ param_names then_names (map (param_of at) (drop (i + 1) ps)))
   second_on now lt agree inv e f grown =
-      let next : suc i ≡ i + 1 = omega arith in
-      ((get_or ps i d).name ∷ earlier,
-      (λ x. grown x ∙ ap (λ b. same_name (get_or ps i d).name x || b) (agree x)),
-      inv ∙ step lt ∙ ap (λ b. cond b (Err (rule 2 (get_or ps i d).at)) (param_names ((get_or ps i d).name ∷ earlier) (map (param_of at) (drop (suc i) ps))))
-      (sym (agree (get_or ps i d).name) ∙ kept new (any_name (λ y. same_name y (get_or ps i d).name) taken) e f)
-      ∙ ap (λ n. param_names ((get_or ps i d).name ∷ earlier) (map (param_of at) (drop n ps))) next)
+      let next : suc i ≡ i + 1 = omega arith in (
+        (get_or ps i d).name ∷ earlier,
+        (λ x. grown x ∙ ap (λ b. same_name (get_or ps i d).name x || b) (agree x)),
+        inv ∙ step lt ∙ ap (λ b. cond b (Err (rule 2 (get_or ps i d).at)) (param_names ((get_or ps i d).name ∷ earlier) (map (param_of at) (drop (suc i) ps))))
+            (sym (agree (get_or ps i d).name) ∙ kept new (any_name (λ y. same_name y (get_or ps i d).name) taken) e f)
+            ∙ ap (λ n. param_names ((get_or ps i d).name ∷ earlier) (map (param_of at) (drop n ps))) next,
+      )
 
 or_true : (a : Bool) → (a || true) ≡ true
 or_true true = refl

@@ -6,13 +6,13 @@ ghost use Rattle.check_fun.specs.Counting.{Runs, Fails, checker_at};
 ghost use Rattle.check_expr.specs.Expression.{expr as expr_of};
 ghost use Rattle.check_expr.specs.State.{scope_in};
 
+use crate::instance::instance;
+use crate::tally::Tally;
 use check_expr::context::Context;
 use check_expr::expr::{ValueList, expr};
 use check_expr::fault::{CheckFault, ExprFault};
-use crate::instance::instance;
 use check_expr::library::Library;
 use check_expr::need::Need;
-use crate::tally::Tally;
 use silq_tree::ExprId;
 use silq_types::Ty;
 

@@ -14,11 +14,11 @@ ghost use Rattle.check_fun.specs.Stepping.{next_bound};
 ghost use Rattle.check_expr.specs.Walk.{Checker, Counts};
 ghost use Rattle.check_expr.specs.declared.fault.CheckFault.TheVariants as checks;
 
+use crate::plain::obeyed;
+use crate::target::variable_part;
 use check_expr::context::Context;
 use check_expr::fault::CheckFault;
-use crate::plain::obeyed;
 use check_expr::rule;
-use crate::target::variable_part;
 use silq_tree::{NameId, Spot};
 use silq_types::{Origin, Value, Var};
 

@@ -11,23 +11,28 @@ ghost use Rattle.check_expr.specs.Context.{Scope};
 ghost use Rattle.check_fun.specs.Stepping.{last_step, last_of, ended_step, has_count};
 ghost use Rattle.check_expr.specs.Walk.{Checker, Counts};
 
-use check_expr::context::Context;
-use check_expr::expr::ValueList;
-use check_expr::fault::CheckFault;
-use check_expr::library::Library;
-use crate::tally::Tally;
 use crate::block::statements;
 use crate::ends::end_from;
 use crate::plain::obeyed;
 use crate::returns::returned;
-use check_expr::rule;
 use crate::statement::statement;
+use crate::tally::Tally;
+use check_expr::context::Context;
+use check_expr::expr::ValueList;
+use check_expr::fault::CheckFault;
+use check_expr::library::Library;
+use check_expr::rule;
 use silq_tree::{Block, ExprId, Spot, Stmt, StmtId};
 use silq_types::Value;
 
 /// Checks the statements of a function, of which the last may return, and gives the values that are returned.
 #[cycle(statement)]
-pub(crate) fn whole_body(library: &Library, cx: &mut Context, tally: &mut Tally, body: &Block) -> Result<ValueList, CheckFault>
+pub(crate) fn whole_body(
+    library: &Library,
+    cx: &mut Context,
+    tally: &mut Tally,
+    body: &Block,
+) -> Result<ValueList, CheckFault>
     requires body { AreStmtsBelow (length library.now.nodes.stmts) body.now.items }
     requires this { cx.old.this < length library.now.funs }
     requires depth { cx.old.depth ≤ 64 }
@@ -54,7 +59,13 @@ fn counted(cx: &Context, found: &[Value], at: Spot) -> Result<(), CheckFault>
 
 /// The values of a `return` without a count of them.
 #[cycle(statement)]
-fn given(library: &Library, cx: &mut Context, tally: &mut Tally, e: ExprId, at: Spot) -> Result<ValueList, CheckFault>
+fn given(
+    library: &Library,
+    cx: &mut Context,
+    tally: &mut Tally,
+    e: ExprId,
+    at: Spot,
+) -> Result<ValueList, CheckFault>
     requires id { e.number < length library.now.nodes.exprs }
     requires this { cx.old.this < length library.now.funs }
     requires depth { cx.old.depth ≤ 64 }
@@ -83,7 +94,13 @@ fn nothing(library: &Library, cx: &Context, at: Spot) -> Result<ValueList, Check
 
 /// The values of a `return` at the end, behind its count: as many as the results.
 #[cycle(statement)]
-fn ended(library: &Library, cx: &mut Context, tally: &mut Tally, value: Option<ExprId>, at: Spot) -> Result<ValueList, CheckFault>
+fn ended(
+    library: &Library,
+    cx: &mut Context,
+    tally: &mut Tally,
+    value: Option<ExprId>,
+    at: Spot,
+) -> Result<ValueList, CheckFault>
     requires id { IfSome value (λ e. e.number < length library.now.nodes.exprs) }
     requires this { cx.old.this < length library.now.funs }
     requires depth { cx.old.depth ≤ 64 }
@@ -110,7 +127,12 @@ fn return_of(library: &Library, id: StmtId) -> Option<(Option<ExprId>, Spot)>
 
 /// The values that the last statement returns, if it is a `return`.
 #[cycle(statement)]
-fn last_values(library: &Library, cx: &mut Context, tally: &mut Tally, id: StmtId) -> Result<Option<ValueList>, CheckFault>
+fn last_values(
+    library: &Library,
+    cx: &mut Context,
+    tally: &mut Tally,
+    id: StmtId,
+) -> Result<Option<ValueList>, CheckFault>
     requires id { id.number < length library.now.nodes.stmts }
     requires this { cx.old.this < length library.now.funs }
     requires depth { cx.old.depth ≤ 64 }
@@ -134,7 +156,12 @@ fn last_values(library: &Library, cx: &mut Context, tally: &mut Tally, id: StmtI
 
 /// Checks statements in turn, of which the last may return.
 #[cycle(statement)]
-fn body_values(library: &Library, cx: &mut Context, tally: &mut Tally, ids: &[StmtId]) -> Result<Option<ValueList>, CheckFault>
+fn body_values(
+    library: &Library,
+    cx: &mut Context,
+    tally: &mut Tally,
+    ids: &[StmtId],
+) -> Result<Option<ValueList>, CheckFault>
     requires ids { AreStmtsBelow (length library.now.nodes.stmts) ids.now }
     requires this { cx.old.this < length library.now.funs }
     requires depth { cx.old.depth ≤ 64 }
@@ -151,7 +178,12 @@ fn body_values(library: &Library, cx: &mut Context, tally: &mut Tally, ids: &[St
 }
 
 /// Without a `return` there is no result to give.
-fn results_or_fault(library: &Library, cx: &Context, end: Spot, found: Option<ValueList>) -> Result<ValueList, CheckFault>
+fn results_or_fault(
+    library: &Library,
+    cx: &Context,
+    end: Spot,
+    found: Option<ValueList>,
+) -> Result<ValueList, CheckFault>
     ensures runs { (check : Checker) (s : State) (c : Counts) → IfOk result (λ vs. Runs check (results_of end cx.now.results found) s c vs s c) }
     ensures fails { (check : Checker) (s : State) (c : Counts) → IfErr result (λ f. Fails check (results_of end cx.now.results found) s c f) }
 {

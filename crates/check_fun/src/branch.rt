@@ -11,12 +11,12 @@ ghost use Rattle.check_fun.specs.Statement.{is_changed as is_changed_var, none_c
 ghost use Rattle.check_expr.specs.Walk.{Checker, Counts};
 ghost use Rattle.check_expr.specs.declared.fault.CheckFault.TheVariants as checks;
 
-use check_expr::context::Context;
 use crate::ends::end_from;
+use crate::steps_of_block::obey_now;
+use check_expr::context::Context;
 use check_expr::fault::CheckFault;
 use check_expr::library::Library;
 use check_expr::rule;
-use crate::steps_of_block::obey_now;
 use silq_tree::{Else, Spot, Stmt, StmtId};
 use silq_types::{Origin, Var};
 use std::alloc::Global;

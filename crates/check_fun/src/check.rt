@@ -10,8 +10,8 @@ ghost use Rattle.check_expr.specs.Steps.{IsFirst};
 ghost use Rattle.check_expr.specs.Words.{words_of};
 
 use crate::entry::{check_entry, name_with_text, unknown_entry};
-use check_expr::fault::CheckFault;
 use crate::headers::headers;
+use check_expr::fault::CheckFault;
 use check_expr::library::Library;
 use silq_tree::Program;
 use silq_types::{InstanceKey, Known};

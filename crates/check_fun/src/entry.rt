@@ -14,11 +14,11 @@ ghost use Rattle.check_expr.specs.declared.fault.CheckFault.TheVariants.{Broken}
 ghost use Rattle.check_expr.specs.Steps.{IsFirst};
 ghost use Rattle.check_expr.specs.Uses.{find_fun};
 
-use check_expr::fault::CheckFault;
 use crate::instance::check_one;
+use crate::tally::Tally;
+use check_expr::fault::CheckFault;
 use check_expr::library::Library;
 use check_expr::rule::{NOT_STATIC, UNKNOWN_NAME};
-use crate::tally::Tally;
 use silq_tree::node::ParamNode;
 use silq_tree::{Fun, FunId, NameId, Names, Spot};
 use silq_types::{InstanceKey, Known, StaticList};

@@ -11,9 +11,9 @@ ghost use Rattle.check_fun.specs.Program.{repeats, shares_name, param_names as n
 ghost use Rattle.check_fun.specs.Statement.{any_name};
 ghost use Rattle.check_expr.specs.Steps.{IsFirst};
 
+use crate::name_set::NameSet;
 use check_expr::fault::CheckFault;
 use check_expr::library::Library;
-use crate::name_set::NameSet;
 use check_expr::rule::NAME_TAKEN;
 use silq_tree::node::ParamNode;
 use silq_tree::{NameId, Spot};

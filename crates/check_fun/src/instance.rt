@@ -9,13 +9,13 @@ ghost use Rattle.check_fun.specs.Program.{instances, check_one as one_of};
 ghost use Rattle.check_expr.specs.Steps.{IsFirst};
 
 use crate::body::whole_body;
+use crate::params::{add_params, static_values};
+use crate::results::signature_of_body;
+use crate::tally::Tally;
 use check_expr::context::Context;
 use check_expr::fault::CheckFault;
 use check_expr::header::header_types;
 use check_expr::library::Library;
-use crate::params::{add_params, static_values};
-use crate::results::signature_of_body;
-use crate::tally::Tally;
 use silq_tree::Spot;
 use silq_types::InstanceKey;
 

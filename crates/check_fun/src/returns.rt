@@ -13,14 +13,14 @@ ghost use Rattle.check_expr.specs.declared.fault.CheckFault.TheVariants as check
 ghost use Rattle.check_expr.specs.declared.need.Need.TheVariants as needs;
 
 use crate::asking::values;
+use crate::plain::suits_now;
+use crate::steps_of_block::single_now;
+use crate::tally::Tally;
 use check_expr::context::Context;
 use check_expr::expr::ValueList;
 use check_expr::fault::CheckFault;
 use check_expr::library::Library;
 use check_expr::need::Need;
-use crate::plain::{suits_now};
-use crate::steps_of_block::single_now;
-use crate::tally::Tally;
 use check_expr::values::is_tuple;
 use silq_tree::ExprId;
 use silq_types::{List, Ty, TyList, Value};
@@ -52,7 +52,13 @@ fn first_wanted(cx: &Context) -> Option<Ty>
 
 /// The values of an expression, of which the first has this type.
 #[cycle(statement)]
-fn first_values(library: &Library, cx: &mut Context, tally: &mut Tally, e: ExprId, want: Option<Ty>) -> Result<ValueList, CheckFault>
+fn first_values(
+    library: &Library,
+    cx: &mut Context,
+    tally: &mut Tally,
+    e: ExprId,
+    want: Option<Ty>,
+) -> Result<ValueList, CheckFault>
     requires id { e.number < length library.now.nodes.exprs }
     requires this { cx.old.this < length library.now.funs }
     requires depth { cx.old.depth ≤ 64 }
@@ -66,7 +72,12 @@ fn first_values(library: &Library, cx: &mut Context, tally: &mut Tally, e: ExprI
 }
 
 /// One value, of this type.
-fn is_lone(library: &Library, e: ExprId, found: &[Value], want: Option<Ty>) -> Result<(), CheckFault>
+fn is_lone(
+    library: &Library,
+    e: ExprId,
+    found: &[Value],
+    want: Option<Ty>,
+) -> Result<(), CheckFault>
     requires { e.number < length library.now.nodes.exprs }
     ensures runs { (check : Checker) (s : State) (c : Counts) → OnOk result (Runs check (lone_value (expr_at library.now.nodes e) (types_of want) found.now) s c found.now s c) }
     ensures fails { (check : Checker) (s : State) (c : Counts) → IfErr result (λ f. Fails check (lone_value (expr_at library.now.nodes e) (types_of want) found.now) s c f) }
@@ -79,7 +90,12 @@ fn is_lone(library: &Library, e: ExprId, found: &[Value], want: Option<Ty>) -> R
 
 /// The one value that is returned.
 #[cycle(statement)]
-fn returned_one(library: &Library, cx: &mut Context, tally: &mut Tally, e: ExprId) -> Result<ValueList, CheckFault>
+fn returned_one(
+    library: &Library,
+    cx: &mut Context,
+    tally: &mut Tally,
+    e: ExprId,
+) -> Result<ValueList, CheckFault>
     requires id { e.number < length library.now.nodes.exprs }
     requires this { cx.old.this < length library.now.funs }
     requires depth { cx.old.depth ≤ 64 }
@@ -98,7 +114,12 @@ fn returned_one(library: &Library, cx: &mut Context, tally: &mut Tally, e: ExprI
 
 /// The values of a tuple that is returned: the items take the types of the results in turn.
 #[cycle(statement)]
-fn returned_tuple(library: &Library, cx: &mut Context, tally: &mut Tally, e: ExprId) -> Result<ValueList, CheckFault>
+fn returned_tuple(
+    library: &Library,
+    cx: &mut Context,
+    tally: &mut Tally,
+    e: ExprId,
+) -> Result<ValueList, CheckFault>
     requires id { e.number < length library.now.nodes.exprs }
     requires this { cx.old.this < length library.now.funs }
     requires depth { cx.old.depth ≤ 64 }
@@ -113,7 +134,12 @@ fn returned_tuple(library: &Library, cx: &mut Context, tally: &mut Tally, e: Exp
 
 /// The values that are returned: the items of a tuple take the types of the results in turn, one value that of the first.
 #[cycle(statement)]
-pub(crate) fn returned(library: &Library, cx: &mut Context, tally: &mut Tally, e: ExprId) -> Result<ValueList, CheckFault>
+pub(crate) fn returned(
+    library: &Library,
+    cx: &mut Context,
+    tally: &mut Tally,
+    e: ExprId,
+) -> Result<ValueList, CheckFault>
     requires id { e.number < length library.now.nodes.exprs }
     requires this { cx.old.this < length library.now.funs }
     requires depth { cx.old.depth ≤ 64 }

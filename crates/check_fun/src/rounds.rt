@@ -10,10 +10,10 @@ ghost use Rattle.check_expr.specs.State.{scope_in};
 ghost use Rattle.check_fun.specs.Statement.{rounds as rounds_of, distance};
 
 use crate::block::plain;
+use crate::tally::Tally;
 use check_expr::context::Context;
 use check_expr::fault::CheckFault;
 use check_expr::library::Library;
-use crate::tally::Tally;
 use silq_tree::{Block, NameId};
 
 /// Checks a loop's body with this value of its variable.

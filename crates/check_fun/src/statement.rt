@@ -12,22 +12,27 @@ ghost use Rattle.check_fun.specs.Stepping.{forget_step, stmt_step, misplaced_ste
 use crate::asking::values;
 use crate::assign::{assign_name, assign_part, spread};
 use crate::block::{choose, unroll};
-use check_expr::context::Context;
-use check_expr::fault::CheckFault;
 use crate::forget::{forget_as, forget_name, phase};
-use check_expr::library::Library;
-use check_expr::need::Need;
 use crate::plain::obeyed;
 use crate::returns::returned;
-use check_expr::rule;
 use crate::tally::Tally;
 use crate::update::update_part;
+use check_expr::context::Context;
+use check_expr::fault::CheckFault;
+use check_expr::library::Library;
+use check_expr::need::Need;
+use check_expr::rule;
 use silq_tree::node::PlaceNode;
 use silq_tree::{ExprId, NameId, Spot, Stmt, StmtId};
 
 /// Counts and checks a statement.
 #[cycle(statement)]
-pub(crate) fn statement(library: &Library, cx: &mut Context, tally: &mut Tally, id: StmtId) -> Result<(), CheckFault>
+pub(crate) fn statement(
+    library: &Library,
+    cx: &mut Context,
+    tally: &mut Tally,
+    id: StmtId,
+) -> Result<(), CheckFault>
     requires id { id.number < length library.now.nodes.stmts }
     requires this { cx.old.this < length library.now.funs }
     requires depth { cx.old.depth ≤ 64 }
@@ -42,7 +47,12 @@ pub(crate) fn statement(library: &Library, cx: &mut Context, tally: &mut Tally, 
 /// Checks a statement behind its count.
 #[cycle(statement)]
 #[tactic(auto, using(silq_tree::proofs::Lists::ids))]
-fn step(library: &Library, cx: &mut Context, tally: &mut Tally, id: StmtId) -> Result<(), CheckFault>
+fn step(
+    library: &Library,
+    cx: &mut Context,
+    tally: &mut Tally,
+    id: StmtId,
+) -> Result<(), CheckFault>
     requires id { id.number < length library.now.nodes.stmts }
     requires this { cx.old.this < length library.now.funs }
     requires depth { cx.old.depth ≤ 64 }
@@ -51,7 +61,14 @@ fn step(library: &Library, cx: &mut Context, tally: &mut Tally, id: StmtId) -> R
 {
     match library.tree().stmt(id) {
         Stmt::Assign { target, value, at } => assign(library, cx, tally, *target, *value, *at),
-        Stmt::Spread { names, value, at } => spread(library, cx, tally, names.as_slice(), *value, *at),
+        Stmt::Spread { names, value, at } => spread(
+            library,
+            cx,
+            tally,
+            names.as_slice(),
+            *value,
+            *at,
+        ),
         Stmt::Update {
             target,
             op,
@@ -80,7 +97,14 @@ fn step(library: &Library, cx: &mut Context, tally: &mut Tally, id: StmtId) -> R
 
 /// Drops a variable, or ends it by the value that it has.
 #[cycle(statement)]
-fn forget(library: &Library, cx: &mut Context, tally: &mut Tally, name: NameId, value: Option<ExprId>, at: Spot) -> Result<(), CheckFault>
+fn forget(
+    library: &Library,
+    cx: &mut Context,
+    tally: &mut Tally,
+    name: NameId,
+    value: Option<ExprId>,
+    at: Spot,
+) -> Result<(), CheckFault>
     requires id { IfSome value (λ e. e.number < length library.now.nodes.exprs) }
     requires this { cx.old.this < length library.now.funs }
     requires depth { cx.old.depth ≤ 64 }
@@ -95,7 +119,14 @@ fn forget(library: &Library, cx: &mut Context, tally: &mut Tally, name: NameId, 
 
 /// Assigns to a name or to a part.
 #[cycle(statement)]
-fn assign(library: &Library, cx: &mut Context, tally: &mut Tally, target: PlaceNode, value: ExprId, at: Spot) -> Result<(), CheckFault>
+fn assign(
+    library: &Library,
+    cx: &mut Context,
+    tally: &mut Tally,
+    target: PlaceNode,
+    value: ExprId,
+    at: Spot,
+) -> Result<(), CheckFault>
     requires parts { AreExprsBelow (length library.now.nodes.exprs) (place_exprs target) }
     requires first { HasFirst target }
     requires id { value.number < length library.now.nodes.exprs }
@@ -112,7 +143,13 @@ fn assign(library: &Library, cx: &mut Context, tally: &mut Tally, target: PlaceN
 
 /// A `return` that is not the last statement of its function.
 #[cycle(statement)]
-fn misplaced(library: &Library, cx: &mut Context, tally: &mut Tally, value: Option<ExprId>, at: Spot) -> Result<(), CheckFault>
+fn misplaced(
+    library: &Library,
+    cx: &mut Context,
+    tally: &mut Tally,
+    value: Option<ExprId>,
+    at: Spot,
+) -> Result<(), CheckFault>
     requires id { IfSome value (λ e. e.number < length library.now.nodes.exprs) }
     requires this { cx.old.this < length library.now.funs }
     requires depth { cx.old.depth ≤ 64 }
@@ -130,7 +167,13 @@ fn misplaced(library: &Library, cx: &mut Context, tally: &mut Tally, value: Opti
 
 /// A `return` of values that is not the last statement of its function.
 #[cycle(statement)]
-fn misplaced_value(library: &Library, cx: &mut Context, tally: &mut Tally, e: ExprId, at: Spot) -> Result<(), CheckFault>
+fn misplaced_value(
+    library: &Library,
+    cx: &mut Context,
+    tally: &mut Tally,
+    e: ExprId,
+    at: Spot,
+) -> Result<(), CheckFault>
     requires id { e.number < length library.now.nodes.exprs }
     requires this { cx.old.this < length library.now.funs }
     requires depth { cx.old.depth ≤ 64 }
@@ -146,7 +189,13 @@ fn misplaced_value(library: &Library, cx: &mut Context, tally: &mut Tally, e: Ex
 
 /// A call as a statement gives no values.
 #[cycle(statement)]
-fn unused(library: &Library, cx: &mut Context, tally: &mut Tally, call: ExprId, at: Spot) -> Result<(), CheckFault>
+fn unused(
+    library: &Library,
+    cx: &mut Context,
+    tally: &mut Tally,
+    call: ExprId,
+    at: Spot,
+) -> Result<(), CheckFault>
     requires id { call.number < length library.now.nodes.exprs }
     requires this { cx.old.this < length library.now.funs }
     requires depth { cx.old.depth ≤ 64 }

@@ -10,13 +10,13 @@ ghost use Rattle.check_expr.specs.State.{State, scope_in};
 ghost use Rattle.check_fun.specs.Statement.{target as target_told, target_of, target_type};
 ghost use Rattle.check_expr.specs.Walk.{Checker, Counts};
 
+use crate::plain::{obeyed, part_now};
 use check_expr::context::Context;
 use check_expr::fault::CheckFault;
 use check_expr::library::Library;
 use check_expr::part_types::part_type;
-use check_expr::unknown::is_known_name;
-use crate::plain::{obeyed, part_now};
 use check_expr::rule;
+use check_expr::unknown::is_known_name;
 use silq_tree::node::PlaceNode;
 use silq_tree::{NameId, Spot};
 use silq_types::{Part, Ty, Var};

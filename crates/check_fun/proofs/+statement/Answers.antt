@@ -497,7 +497,7 @@ pub statement::unused-values-requires : goal.statement::unused-values-requires
 statement::unused-values-requires t c = ((let below = level_less c.args.cx.now.depth c.args.cx.now.depth (length c.args.library.now.nodes.stmts) 0 1 refl (omega arith) in omega (arith, c.decreases, below)), (c.requires.id, (c.requires.this, c.requires.depth)))
 
 pub assign::assign_part-values-requires : goal.assign::assign_part-values-requires
-assign::assign_part-values-requires t c = 
+assign::assign_part-values-requires t c =
     let kept = (stays_both (c.in_ok-fresh.ensures.runs (checker_at c.args.library.now c.args.cx.now) c.args.tally.now).stays (c.in_ok-add_part.ensures.runs (checker_at c.args.library.now c.args.cx.now) c.args.tally.now).stays) in
     (let below = level_less c.add_part.new.cx.depth c.args.cx.now.depth (length c.args.library.now.nodes.stmts) 0 1 kept.depth (omega arith) in omega (arith, c.decreases, below), (c.requires.id, (subst (λ (n : ℕ). n < length c.args.library.now.funs) (sym kept.this) c.requires.this, subst (λ (n : ℕ). n ≤ 64) (sym kept.depth) c.requires.depth)))
 
