@@ -22,7 +22,7 @@ use Rattle.silq_types.specs.declared.signature.Signature.{Signature}
 
 -- ---- lists of known instances
 
-abbrev AllBelow : ℕ → Signatures → Type 0
+abbrev pub AllBelow : ℕ → Signatures → Type 0
 AllBelow n [] = ⊤
 AllBelow n (e ∷ es) = (e.0.fun.number < n) × AllBelow n es
 
@@ -45,7 +45,7 @@ some_kept (x ∷ met) extra k s e = go (same_key x.0 k) e (some_kept met extra k
     go true e h = e
     go false e h = h e
 
-none_passed : (met extra : Signatures) (k : InstanceKey) → signature_of met k ≡ None → signature_of (met ++ extra) k ≡ signature_of extra k
+pub none_passed : (met extra : Signatures) (k : InstanceKey) → signature_of met k ≡ None → signature_of (met ++ extra) k ≡ signature_of extra k
 none_passed [] extra k e = refl
 none_passed (x ∷ met) extra k e = go (same_key x.0 k) e (none_passed met extra k)
   where
@@ -53,7 +53,7 @@ none_passed (x ∷ met) extra k e = go (same_key x.0 k) e (none_passed met extra
     go true e h = absurd (grind (arith, e))
     go false e h = h e
 
-none_below : (extra : Signatures) (k : InstanceKey) → AllBelow k.fun.number extra → signature_of extra k ≡ None
+pub none_below : (extra : Signatures) (k : InstanceKey) → AllBelow k.fun.number extra → signature_of extra k ≡ None
 none_below [] k p = refl
 none_below (x ∷ extra) k p = go (none_below extra k p.1) (same_key x.0 k) refl
   where
@@ -81,7 +81,7 @@ known_met : (d n : ℕ) (s : Signature) → d + s.height ≤ 64 → met_as d n (
 known_met d n s le = ap (λ b. cond b (limited Depth) (known s)) (le-ltb 64 (d + s.height) le)
 
 -- new: nothing is kept, and one more instance may be open
-met_new : (d n : ℕ) (o : Option Signature) → met_as d n o ≡ new → (o ≡ None) × (d + 1 ≤ 64)
+pub met_new : (d n : ℕ) (o : Option Signature) → met_as d n o ≡ new → (o ≡ None) × (d + 1 ≤ 64)
 met_new d n None e = (refl, go (too_deep d 1) (nat_lt most_instances (n + d + 1)) refl e)
   where
     go : (a b : Bool) → too_deep d 1 ≡ a → cond a (limited Depth) (cond b (limited Instances) new) ≡ new → d + 1 ≤ 64
@@ -109,7 +109,7 @@ ok_inside (Ok a) f b e = (a, refl, e)
 ok_inside (Err x) f b e = absurd (grind (arith, e))
 
 -- instances of functions below n were added
-abbrev Grew : ℕ → Counts → Counts → Type 0
+abbrev pub Grew : ℕ → Counts → Counts → Type 0
 Grew n c c' = (extra : Signatures) × (c'.met ≡ c.met ++ extra) × AllBelow n extra
 
 grew_same : (n : ℕ) (c c' : Counts) → c ≡ c' → Grew n c c'
@@ -119,17 +119,17 @@ grew_twice : (n : ℕ) (a b c : Counts) → Grew n a b → Grew n b c → Grew n
 grew_twice n a b c p q = (p.0 ++ q.0, q.1 ∙ ap (λ l. l ++ q.0) p.1 ∙ append_assoc a.met p.0 q.0, below_append n p.0 q.0 p.2 q.2)
 
 -- a checker adds the instance last, and before it those of earlier functions
-record Grows (n : ℕ) (check : Checker) : Type 0 where
-  adds : (d : ℕ) (k : InstanceKey) (c : Counts) (r : Signature × Counts) → check d k c ≡ Ok r → (extra : Signatures) × (r.1.met ≡ c.met ++ extra ++ (k, r.0) ∷ []) × AllBelow k.fun.number extra × (k.fun.number < n)
-  bounds : (d : ℕ) (k : InstanceKey) (c : Counts) (r : Signature × Counts) → d ≤ 64 → check d k c ≡ Ok r → d + r.0.height ≤ 65
+pub record Grows (n : ℕ) (check : Checker) : Type 0 where
+  pub adds : (d : ℕ) (k : InstanceKey) (c : Counts) (r : Signature × Counts) → check d k c ≡ Ok r → (extra : Signatures) × (r.1.met ≡ c.met ++ extra ++ (k, r.0) ∷ []) × AllBelow k.fun.number extra × (k.fun.number < n)
+  pub bounds : (d : ℕ) (k : InstanceKey) (c : Counts) (r : Signature × Counts) → d ≤ 64 → check d k c ≡ Ok r → d + r.0.height ≤ 65
 
-grew_by : (n : ℕ) (check : Checker) → Grows n check → (d : ℕ) (k : InstanceKey) (c : Counts) (r : Signature × Counts) → check d k c ≡ Ok r → Grew n c r.1
+pub grew_by : (n : ℕ) (check : Checker) → Grows n check → (d : ℕ) (k : InstanceKey) (c : Counts) (r : Signature × Counts) → check d k c ≡ Ok r → Grew n c r.1
 grew_by n check g d k c r e =
     let a = g.adds d k c r e in
     (a.0 ++ (k, r.0) ∷ [], a.1 ∙ append_assoc c.met a.0 ((k, r.0) ∷ []), below_append n a.0 ((k, r.0) ∷ []) (below_more k.fun.number n a.0 (omega (arith, a.3)) a.2) (a.3, tt))
 
 -- what a reading with counts leaves
-abbrev Ran : {A : Type 0} → ℕ → ℕ → Counts → ℕ → A × Counts × ℕ → Type 0
+abbrev pub Ran : {A : Type 0} → ℕ → ℕ → Counts → ℕ → A × Counts × ℕ → Type 0
 Ran n d c h r = Grew n c r.1 × (h + d ≤ 64 → r.2 + d ≤ 64)
 
 found : (n : ℕ) (check : Checker) → Grows n check → (d : ℕ) (k : InstanceKey) (c : Counts) (q : Signature × Counts) (m : Met) → meet d c.met k ≡ m → known_or_checked check d m k c ≡ Ok q → Grew n c q.1 × (d + q.0.height ≤ 64)
@@ -142,7 +142,7 @@ found n check g d k c q new e f =
     let le = (met_new d (length c.met) (signature_of c.met k) e).1 in
     (grew_by n check g (d + 1) k c q f, omega (arith, g.bounds (d + 1) k c q le f))
 
-ran : {A : Type 0} (n : ℕ) (check : Checker) → Grows n check → (d : ℕ) (w : Walk A) (c : Counts) (h : ℕ) (r : A × Counts × ℕ) → with_counts check d w c h ≡ Ok r → Ran n d c h r
+pub ran : {A : Type 0} (n : ℕ) (check : Checker) → Grows n check → (d : ℕ) (w : Walk A) (c : Counts) (h : ℕ) (r : A × Counts × ℕ) → with_counts check d w c h ≡ Ok r → Ran n d c h r
 ran n check g d (answer a) c h r e =
     let same : (a, c, h) ≡ r = ok_same (a, c, h) r e in
     (grew_same n c r.1 (ap (λ (x : _ × Counts × ℕ). x.1) same), λ le. subst (λ (x : _ × Counts × ℕ). x.2 + d ≤ 64) same le)
@@ -162,7 +162,7 @@ ran {A = A} n check g d (asked k next) c h r e = go (λ q. ran n check g d (next
 
 -- ---- the checker of a program's instances
 
-one_grows : (earlier : Checker) (words : List (NameId × BuiltIn)) (before : List Function) (f : Function) (place_of : Spot → Spot) → Grows (length before) earlier → (d : ℕ) (k : InstanceKey) (c : Counts) (r : Signature × Counts) → k.fun.number ≡ length before → check_one earlier words before f place_of d k c ≡ Ok r → ((extra : Signatures) × (r.1.met ≡ c.met ++ extra ++ (k, r.0) ∷ []) × AllBelow k.fun.number extra) × (d ≤ 64 → d + r.0.height ≤ 65)
+pub one_grows : (earlier : Checker) (words : List (NameId × BuiltIn)) (before : List Function) (f : Function) (place_of : Spot → Spot) → Grows (length before) earlier → (d : ℕ) (k : InstanceKey) (c : Counts) (r : Signature × Counts) → k.fun.number ≡ length before → check_one earlier words before f place_of d k c ≡ Ok r → ((extra : Signatures) × (r.1.met ≡ c.met ++ extra ++ (k, r.0) ∷ []) × AllBelow k.fun.number extra) × (d ≤ 64 → d + r.0.height ≤ 65)
 one_grows earlier words before f place_of g d k c r at e =
     let p = ok_inside (header_of (paired f.statics k.statics) place_of f) (λ h. and_then (with_counts earlier d (instance_walk words before f k.statics h) c 0) (λ r. Ok (kept f h k r))) r e in
     let q = ok_inside (with_counts earlier d (instance_walk words before f k.statics p.0) c 0) (λ r. Ok (kept f p.0 k r)) r p.2 in
@@ -171,7 +171,7 @@ one_grows earlier words before f place_of g d k c r at e =
     subst (λ (x : Signature × Counts). ((extra : Signatures) × (x.1.met ≡ c.met ++ extra ++ (k, x.0) ∷ []) × AllBelow k.fun.number extra) × (d ≤ 64 → d + x.0.height ≤ 65)) same
     ((w.0.0, ap (λ l. l ++ (k, (kept f p.0 k q.0).0) ∷ []) w.0.1, subst (λ n. AllBelow n w.0.0) (sym at) w.0.2), λ le. let h = w.1 (omega (arith, le)) in omega (arith, h))
 
-instances_grow : (words : List (NameId × BuiltIn)) (funs : List Function) → Grows (length funs) (instances words funs)
+pub instances_grow : (words : List (NameId × BuiltIn)) (funs : List Function) → Grows (length funs) (instances words funs)
 instances_grow words [] = record { adds = λ d k c r e. absurd (grind (arith, e)); bounds = λ d k c r le e. absurd (grind (arith, e)) }
 instances_grow words (f ∷ before) = go (instances_grow words before)
   where
