@@ -40,7 +40,14 @@ fn print_answer(rt: &impl Print, alloc: Global, words: &str, text: &str) -> io::
     let mut notes = MemSink::new(alloc, 200, Vec::new(alloc))?;
     let status = silqc(alloc, &words, &mut files, &mut out, &mut notes);
     match str::from_utf8(notes.bytes()) {
-        Ok("") => println!(rt; "{}", if status.code() == 0 { "fine" } else { "no note" }),
+        Ok("") => println!(rt;
+            "{}",
+            if status.code() == 0 {
+                "fine"
+            } else {
+                "no note"
+            }
+        ),
         Ok(note) => print!(rt; "{note}"),
         Err(_) => println!(rt; "no text"),
     }
