@@ -6,7 +6,7 @@ use Rattle.silq_tree.proofs.Lists.{expressions_of-drop, expressions_of-end}
 use Rattle.silq_types.specs.declared.signature.Returned.{Returned}
 use Rattle.silq_types.specs.declared.signature.Param.{Param}
 use Rattle.silq_tree.specs.declared.node.NameId.{NameId}
-use Rattle.check_expr.specs.Library.{Shelf}
+use Rattle.check_scope.specs.Library.{Shelf}
 use Rattle.check_expr.specs.Calls.{items}
 use Rattle.silq_tree.specs.declared.node.Spot.{Spot}
 use Rattle.silq_tree.specs.declared.node.ExprId.{ExprId}
@@ -14,18 +14,18 @@ use Rattle.silq_tree.specs.Syntax.{Expression, Expressions, more}
 use Rattle.silq_tree.specs.Standing.{expressions_of}
 use Rattle.silq_types.specs.Types.{count, at}
 use Rattle.silq_types.specs.Known.{Signatures}
-use Rattle.check_expr.specs.Context.{Scope, Check, ◌>>=◌, ◌>>◌, give_back, needed}
+use Rattle.check_scope.specs.Context.{Scope, Check, ◌>>=◌, ◌>>◌, give_back, needed}
 use Rattle.check_expr.specs.Expression.{Arguments, all_lifted, paired, static_arguments, natural, result_values, placed, argument_at, result_origin, gate_value, flip_value, call_gate, call_built_in}
-use Rattle.check_expr.specs.declared.words.BuiltIn.{BuiltIn}
-use Rattle.check_expr.specs.declared.words.BuiltIn.TheVariants.{HGate, XGate, YGate, ZGate, Dup, Measure, Vector, RotateX, RotateY, RotateZ}
-use Rattle.check_expr.specs.declared.need.Need.{Need}
+use Rattle.check_scope.specs.declared.words.BuiltIn.{BuiltIn}
+use Rattle.check_scope.specs.declared.words.BuiltIn.TheVariants.{HGate, XGate, YGate, ZGate, Dup, Measure, Vector, RotateX, RotateY, RotateZ}
+use Rattle.check_scope.specs.declared.need.Need.{Need}
 use Rattle.silq_types.specs.declared.values.Value.{Value}
-use Rattle.check_expr.specs.State.{State, Keeps, scope_in}
-use Rattle.check_expr.specs.Steps.{Reads, Stops}
-use Rattle.check_expr.specs.declared.fault.CheckFault.TheVariants as checks
-use Rattle.check_expr.specs.declared.fault.ExprFault.{ExprFault}
-use Rattle.check_expr.specs.declared.fault.ExprFault.TheVariants as stops
-use Rattle.check_expr.proofs.Sequence.{keeps_refl, keeps_both, reads_back, reads_bind, reads_then, stops_bind, stops_then, stops_later, stops_after}
+use Rattle.check_scope.specs.State.{State, Keeps, scope_in}
+use Rattle.check_scope.specs.Steps.{Reads, Stops}
+use Rattle.check_scope.specs.declared.fault.CheckFault.TheVariants as checks
+use Rattle.check_scope.specs.declared.fault.ExprFault.{ExprFault}
+use Rattle.check_scope.specs.declared.fault.ExprFault.TheVariants as stops
+use Rattle.check_scope.proofs.Sequence.{keeps_refl, keeps_both, reads_back, reads_bind, reads_then, stops_bind, stops_then, stops_later, stops_after}
 
 pub stops_memory : {A : Type 0} (met : Signatures) (m : Check A) (old now : State) → Keeps old now → Stops met m old (stops.Fault checks.Memory) now
 stops_memory met m old now k = record { runs = tt; keeps = k }

@@ -6,16 +6,16 @@ use mathlib.Core.Path.{sym, ap, ◌∙◌, subst}
 use Rattle.silq_tree.specs.declared.node.Spot.{Spot}
 use Rattle.silq_types.specs.Rules.{Fault, rule}
 use Rattle.silq_types.specs.Known.{Signatures}
-use Rattle.check_expr.specs.Context.{Check, fail, give_back, of_result}
-use Rattle.check_expr.specs.Library.{Shelf}
-use Rattle.check_expr.specs.State.{State, Keeps, scope_in}
-use Rattle.check_expr.specs.Faults.{fault_as}
-use Rattle.check_expr.specs.Steps.{Reads, Stops, IsFirst}
-use Rattle.check_expr.specs.declared.fault.CheckFault.{CheckFault}
-use Rattle.check_expr.specs.declared.fault.CheckFault.TheVariants as checks
-use Rattle.check_expr.specs.declared.fault.ExprFault.{ExprFault}
-use Rattle.check_expr.specs.declared.fault.ExprFault.TheVariants as stops
-use Rattle.check_expr.proofs.Sequence.{keeps_refl, reads_bind, reads_then, reads_back, reads_variables, stops_bind, stops_then, stops_later, stops_after}
+use Rattle.check_scope.specs.Context.{Check, fail, give_back, of_result}
+use Rattle.check_scope.specs.Library.{Shelf}
+use Rattle.check_scope.specs.State.{State, Keeps, scope_in}
+use Rattle.check_scope.specs.Faults.{fault_as}
+use Rattle.check_scope.specs.Steps.{Reads, Stops, IsFirst}
+use Rattle.check_scope.specs.declared.fault.CheckFault.{CheckFault}
+use Rattle.check_scope.specs.declared.fault.CheckFault.TheVariants as checks
+use Rattle.check_scope.specs.declared.fault.ExprFault.{ExprFault}
+use Rattle.check_scope.specs.declared.fault.ExprFault.TheVariants as stops
+use Rattle.check_scope.proofs.Sequence.{keeps_refl, reads_bind, reads_then, reads_back, reads_variables, stops_bind, stops_then, stops_later, stops_after}
 
 pub same_scope : (l : Shelf) (old now : State) → Keeps old now → scope_in l now ≡ scope_in l old
 same_scope l old now k = rw (k.this, k.results, k.statics, k.held) refl

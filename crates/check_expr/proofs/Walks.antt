@@ -17,20 +17,20 @@ use Rattle.silq_types.specs.declared.values.Value.{Value}
 use Rattle.silq_types.specs.Known.{Signatures}
 use Rattle.silq_types.specs.Types.{needed_at, at}
 use Rattle.check_expr.specs.declared.asked.Ask.{Ask}
-use Rattle.check_expr.specs.declared.need.Need.{Need}
-use Rattle.check_expr.specs.declared.fault.CheckFault.TheVariants as checks
-use Rattle.check_expr.specs.declared.fault.ExprFault.{ExprFault}
-use Rattle.check_expr.specs.declared.fault.ExprFault.TheVariants as stops
+use Rattle.check_scope.specs.declared.need.Need.{Need}
+use Rattle.check_scope.specs.declared.fault.CheckFault.TheVariants as checks
+use Rattle.check_scope.specs.declared.fault.ExprFault.{ExprFault}
+use Rattle.check_scope.specs.declared.fault.ExprFault.TheVariants as stops
 use Rattle.check_expr.specs.Asks.{asked_as, all_asked, types_of}
-use Rattle.check_expr.specs.Context.{Scope, Check, of_result}
+use Rattle.check_scope.specs.Context.{Scope, Check, of_result}
 use Rattle.check_expr.specs.Expression.{expr, arguments, static_value, first_asked, later_asked, lone_need, lone_wants, single, suits, asked_of_items, call_found, later_arguments}
-use Rattle.check_expr.specs.Uses.{built_in, find_fun}
-use Rattle.check_expr.specs.declared.need.Need.TheVariants as needs
+use Rattle.check_scope.specs.Uses.{built_in, find_fun}
+use Rattle.check_scope.specs.declared.need.Need.TheVariants as needs
 use Rattle.check_expr.specs.Forms.{number_values, part_values, unary_values, binary_values, operand, both_operands}
-use Rattle.check_expr.specs.Library.{Shelf}
-use Rattle.check_expr.specs.State.{State, Keeps, scope_in}
-use Rattle.check_expr.specs.Steps.{Reads, Stops}
-use Rattle.check_expr.proofs.Sequence.{keeps_refl, keeps_both, reads_bind, reads_then, reads_back, stops_bind, stops_then, stops_later, stops_after}
+use Rattle.check_scope.specs.Library.{Shelf}
+use Rattle.check_scope.specs.State.{State, Keeps, scope_in}
+use Rattle.check_scope.specs.Steps.{Reads, Stops}
+use Rattle.check_scope.proofs.Sequence.{keeps_refl, keeps_both, reads_bind, reads_then, reads_back, stops_bind, stops_then, stops_later, stops_after}
 use Rattle.check_expr.proofs.Scopes.{same_scope, reads_as, stops_as}
 
 -- ---- forms

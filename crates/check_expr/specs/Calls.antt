@@ -8,13 +8,13 @@ use Rattle.silq_tree.specs.Standing.{expressions_of}
 use Rattle.silq_tree.specs.Arena.{expr_at}
 use Rattle.silq_types.specs.declared.values.Value.{Value}
 use Rattle.silq_types.specs.declared.signature.Returned.{Returned}
-use Rattle.check_expr.specs.declared.need.Need.{Need}
-use Rattle.check_expr.specs.declared.need.Need.TheVariants as needs
-use Rattle.check_expr.specs.Walk.{Met, limited, new}
-use Rattle.check_expr.specs.Context.{Check, ◌>>=◌, ◌>>◌, give_back}
+use Rattle.check_scope.specs.declared.need.Need.{Need}
+use Rattle.check_scope.specs.declared.need.Need.TheVariants as needs
+use Rattle.check_scope.specs.Walk.{Met, limited, new}
+use Rattle.check_scope.specs.Context.{Check, ◌>>=◌, ◌>>◌, give_back}
 use Rattle.check_expr.specs.Expression.{Arguments, arguments, later_arguments, result_values, unnamed_rule, lone_linear}
-use Rattle.check_expr.specs.Library.{Shelf}
-use Rattle.check_expr.specs.State.{State, scope_in}
+use Rattle.check_scope.specs.Library.{Shelf}
+use Rattle.check_scope.specs.State.{State, scope_in}
 
 -- what a call of a new instance finds, by the limit that it passes
 abbrev pub met_new : Option LimitKind → Met

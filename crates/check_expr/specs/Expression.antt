@@ -8,7 +8,7 @@ use Rattle.silq_tree.specs.declared.node.UnaryOp.{UnaryOp}
 use Rattle.silq_tree.specs.declared.node.UnaryOp.TheVariants.{Not, Neg}
 use Rattle.silq_tree.specs.declared.node.BinaryOp.{BinaryOp}
 use Rattle.silq_tree.specs.declared.node.BinaryOp.TheVariants.{Or, And, Eq, Ne, Add, Sub, Mul, Div}
-use Rattle.silq_tree.specs.Syntax.{Expression, Expressions, ScalarType, number, typed_number, truth, pi, place, called, tuple, unary, binary, none, more, Place}
+use Rattle.silq_tree.specs.Syntax.{Expression, Expressions, ScalarType, number, typed_number, truth, pi, place, called, tuple, unary, binary, none, more}
 use Rattle.static_num.specs.Static.{is_static}
 use Rattle.silq_io.specs.declared.fault.What.TheVariants.{RotX, RotY, RotZ}
 use Rattle.silq_types.specs.declared.types.Scalar.TheVariants as scalars
@@ -18,20 +18,19 @@ use Rattle.silq_types.specs.declared.types.Ty.{Ty}
 use Rattle.silq_types.specs.declared.values.Origin.{Origin}
 use Rattle.silq_types.specs.declared.values.Origin.TheVariants.{Lifted, Linear, Classical}
 use Rattle.silq_types.specs.declared.values.Value.{Value}
-use Rattle.silq_types.specs.declared.values.Part.{Part}
-use Rattle.silq_types.specs.declared.values.Var.{Var}
 use Rattle.silq_types.specs.declared.signature.Param.{Param}
 use Rattle.silq_types.specs.declared.signature.Returned.{Returned}
-use Rattle.silq_types.specs.Rules.{rule, unsupported, unknown_name, name_taken, wrong_type, used_after_move, held_changed, not_classical, against_mark, measured_in_branch, condition_changed, linear_left, result_count, bad_part, bad_size, outside_type, not_static, consumed_twice, consumed_and_held}
-use Rattle.silq_types.specs.Types.{Statics, place_name, place_indices, single_shape, shape_eq, quantum, is_bit, is_number, is_scalar, is_linear, is_held, fits, is_count, most_items, needed_at, scalar_type, header_of, is_empty, at, count}
-use Rattle.check_expr.specs.declared.need.Need.{Need}
-use Rattle.check_expr.specs.declared.need.Need.TheVariants as needs
-use Rattle.check_expr.specs.Walk.{answer}
-use Rattle.check_expr.specs.Context.{Scope, Check, ◌>>=◌, ◌>>◌, give_back, pass, fail, of_result, rules, variables, new_place, signature, part_at, variable, indices, overlaps, same_part, is_in_condition, find_var, replace, is_known_name, part_type, known_names, needed, all_needed}
-use Rattle.check_expr.specs.declared.words.BuiltIn.{BuiltIn}
-use Rattle.check_expr.specs.declared.words.BuiltIn.TheVariants.{HGate, XGate, YGate, ZGate, Dup, Measure, Vector, RotateX, RotateY, RotateZ}
-use Rattle.check_expr.specs.Uses.{Found, is_consumed, built_in, find_fun, param_need, uses, argument_uses, both_consume, consume_and_hold, some_pair}
-use Rattle.check_expr.specs.declared.uses.Use.{Use}
+use Rattle.silq_types.specs.Rules.{rule, unsupported, name_taken, wrong_type, not_classical, against_mark, measured_in_branch, linear_left, result_count, bad_size, outside_type, not_static, consumed_twice, consumed_and_held}
+use Rattle.silq_types.specs.Types.{Statics, single_shape, shape_eq, quantum, is_bit, is_number, is_scalar, is_linear, fits, is_count, most_items, needed_at, scalar_type, header_of, is_empty, at, count}
+use Rattle.check_scope.specs.declared.need.Need.{Need}
+use Rattle.check_scope.specs.declared.need.Need.TheVariants as needs
+use Rattle.check_scope.specs.Context.{Scope, Check, ◌>>=◌, ◌>>◌, give_back, pass, fail, of_result, rules, variables, new_place, signature, is_known_name, known_names, needed}
+use Rattle.check_scope.specs.declared.words.BuiltIn.{BuiltIn}
+use Rattle.check_scope.specs.declared.words.BuiltIn.TheVariants.{HGate, XGate, YGate, ZGate, Dup, Measure, Vector, RotateX, RotateY, RotateZ}
+use Rattle.check_scope.specs.Uses.{Found, is_consumed, built_in, find_fun, param_need, argument_uses, both_consume, consume_and_hold, some_pair}
+use Rattle.check_scope.specs.declared.uses.Use.{Use}
+use Rattle.check_scope.specs.Places.{use_place}
+use Rattle.check_scope.specs.Uses.{operand_clash}
 
 -- ---- values
 
@@ -71,54 +70,6 @@ typed_value sc n k s = do
   fits_rule s (quantum (single_shape scalar)) n
   new_value (quantum (single_shape scalar)) Lifted
 
--- ---- places
-
--- a consumed use of a quantum value moves it; a classical one is copied
-abbrev pub is_moved : Need → Ty → Bool
-is_moved need t = is_consumed need && not t.classical
-
--- another variable than p itself that was taken out for an element assignment overlaps p
-abbrev pub disturbs : List Var → Part → Bool
-disturbs [] p = false
-disturbs (v ∷ vs) p = (not (is_empty (indices v.part)) && not (same_part v.part p) && overlaps v.part p) || disturbs vs p
-
-abbrev pub value_in : Ty → Var → Check Value
-value_in t v = give_back (record { ty = t; origin = v.origin; place = v.place })
-
--- the variable is consumed, and its value goes on with its place
-abbrev pub move : Ty → Var → Check Value
-move t v = λ c. answer (record { ty = t; origin = v.origin; place = v.place }, record c { vars = replace c.vars (record v { consumed = true }) })
-
--- a held use leaves the variable; a classical value is copied, and the copy has a new place
-abbrev pub unmoved : Need → Ty → Var → Check Value
-unmoved needs.Held t v = value_in t v
-unmoved needs.Consumed t v = new_value t Classical
-
-abbrev pub use_rules : Scope → Spot → Need → Part → Var → Bool → Check (Unit {0})
-use_rules sc s need p v bad =
-    rules s ((v.consumed, used_after_move)
-    ∷ (is_moved need v.ty && is_held v.origin, held_changed)
-    ∷ (is_moved need v.ty && is_in_condition sc.held p, condition_changed)
-    ∷ (bad, bad_part) ∷ [])
-
--- a part of a variable that is not taken out
-abbrev pub use_part : Scope → Spot → Need → Part → Var → List Var → Option Ty → Check Value
-use_part sc s need p v vars None = use_rules sc s need p v true >> fail (rule bad_part s)
-use_part sc s need p v vars (Some t) = use_rules sc s need p v (disturbs vars p || is_moved need v.ty) >> unmoved need t v
-
-abbrev pub use_found : Scope → Spot → Need → Part → List Var → Option Var → Option Var → Check Value
-use_found sc s need p vars (Some v) w = use_rules sc s need p v (disturbs vars p) >> (if is_moved need v.ty then move v.ty v else unmoved need v.ty v)
-use_found sc s need p vars None (Some w) = use_part sc s need p w vars (part_type w.ty.classical w.ty.shape (indices p))
-use_found sc s need p vars None None = fail (rule bad_part s)
-
-abbrev pub use_place : Scope → Place → Spot → Need → Check Value
-use_place sc written s need = do
-  values ← all_needed (place_indices written) sc
-  vars ← variables
-  rules s ((not (is_known_name sc vars (place_name written)), unknown_name) ∷ [])
-  let p : Part = part_at (place_name written) values
-  use_found sc s need p vars (find_var vars p) (find_var vars (variable (place_name written)))
-
 -- ---- operators
 
 abbrev pub unary_fits : UnaryOp → Shape → Bool
@@ -144,9 +95,6 @@ typed_by classical s = one_value (record { classical = classical; shape = s }) (
 
 abbrev pub unary_value : UnaryOp → Spot → Value → Check (List Value)
 unary_value op s v = rules s ((not (unary_fits op v.ty.shape), wrong_type) ∷ []) >> typed_by v.ty.classical v.ty.shape
-
-abbrev pub operand_clash : Scope → Expression → Expression → List Var → Bool
-operand_clash sc a b vars = consume_and_hold (uses a sc vars needs.Held) (uses b sc vars needs.Held)
 
 abbrev pub binary_value : Scope → BinaryOp → Expression → Expression → Spot → Value → Value → Check (List Value)
 binary_value sc op a b s x y = do

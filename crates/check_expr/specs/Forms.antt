@@ -6,10 +6,11 @@ use Rattle.silq_tree.specs.declared.node.BinaryOp.{BinaryOp}
 use Rattle.silq_tree.specs.Syntax.{Expression, Place, ScalarType}
 use Rattle.silq_types.specs.declared.types.Ty.{Ty}
 use Rattle.silq_types.specs.declared.values.Value.{Value}
-use Rattle.check_expr.specs.declared.need.Need.{Need}
-use Rattle.check_expr.specs.declared.need.Need.TheVariants as needs
-use Rattle.check_expr.specs.Context.{Scope, Check, ◌>>=◌, give_back}
-use Rattle.check_expr.specs.Expression.{expr, lone_wants, single, typed_value, use_place, unary_value, binary_value, operands}
+use Rattle.check_scope.specs.declared.need.Need.{Need}
+use Rattle.check_scope.specs.declared.need.Need.TheVariants as needs
+use Rattle.check_scope.specs.Context.{Scope, Check, ◌>>=◌, give_back}
+use Rattle.check_expr.specs.Expression.{expr, lone_wants, single, typed_value, unary_value, binary_value, operands}
+use Rattle.check_scope.specs.Places.{use_place}
 
 abbrev pub number_values : Scope → ℤ → ScalarType → Spot → Check (List Value)
 number_values sc n k s = typed_value sc n k s >>= (λ v. give_back (v ∷ []))

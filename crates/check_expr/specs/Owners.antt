@@ -1,10 +1,10 @@
 -- Who owns a place: each place has at most one owner, among the variables that are not consumed and the values that are under way.
 use Rattle.std.specs.Prelude.{length, suc, ◌≡◌, ℕ, ◌+◌, ◌≤◌, ◌==◌, if◌then◌else◌, List, [], ◌∷◌, Option, Some, None, Ok, ⊤}
-use Rattle.check_expr.specs.Context.{Context, Check}
+use Rattle.check_scope.specs.Context.{Context, Check}
 use Rattle.check_expr.specs.Expression.{Asked, first_asked, later_asked, paired, exact_place}
-use Rattle.check_expr.specs.Uses.{Found, find_fun}
-use Rattle.check_expr.specs.Walk.{Walk, answer, broken, counted, asked}
-use Rattle.check_expr.specs.declared.need.Need.{Need}
+use Rattle.check_scope.specs.Uses.{Found, find_fun}
+use Rattle.check_scope.specs.Walk.{Walk, answer, broken, counted, asked}
+use Rattle.check_scope.specs.declared.need.Need.{Need}
 use Rattle.silq_tree.specs.Syntax.{Function}
 use Rattle.silq_tree.specs.declared.node.NameId.{NameId}
 use Rattle.silq_types.specs.Known.{Signatures}
@@ -15,7 +15,7 @@ use Rattle.silq_types.specs.declared.signature.Returned.{Returned}
 use Rattle.silq_types.specs.declared.signature.Signature.{Signature}
 use Rattle.silq_types.specs.declared.values.Value.{Value}
 use Rattle.silq_types.specs.declared.values.Var.{Var}
-use Rattle.check_expr.specs.declared.need.Need.TheVariants as needs
+use Rattle.check_scope.specs.declared.need.Need.TheVariants as needs
 
 abbrev pub at_place : ℕ → ℕ → ℕ
 at_place p q = if q == p then 1 else 0

@@ -8,8 +8,9 @@ use Rattle.silq_types.specs.declared.values.Value.{Value}
 use Rattle.silq_types.specs.declared.values.Var.{Var}
 use Rattle.silq_types.specs.Rules.{wrong_type, consumed_and_held}
 use Rattle.silq_types.specs.Types.{shape_eq}
-use Rattle.check_expr.specs.Context.{Scope}
-use Rattle.check_expr.specs.Expression.{unary_fits, binary_fits, operand_clash}
+use Rattle.check_scope.specs.Context.{Scope}
+use Rattle.check_expr.specs.Expression.{unary_fits, binary_fits}
+use Rattle.check_scope.specs.Uses.{operand_clash}
 
 abbrev pub unary_tests : UnaryOp → Shape → List (Bool × ℕ)
 unary_tests op s = (not (unary_fits op s), wrong_type) ∷ []

@@ -8,27 +8,27 @@ ghost use Rattle.silq_types.specs.Known.{Signatures};
 ghost use Rattle.silq_types.specs.Rules.{wrong_type, bad_size};
 ghost use Rattle.silq_types.specs.Types.{is_bit as is_bit_shape, is_linear as is_linear_origin, is_count as is_count_up_to, most_items, count};
 ghost use Rattle.static_num.specs.Static.{is_static as is_static_expression};
-ghost use Rattle.check_expr.specs.declared.need.Need.TheVariants as needs;
-ghost use Rattle.check_expr.specs.declared.fault.CheckFault.TheVariants as checks;
-ghost use Rattle.check_expr.specs.declared.fault.ExprFault.TheVariants as stops;
+ghost use Rattle.check_scope.specs.declared.need.Need.TheVariants as needs;
+ghost use Rattle.check_scope.specs.declared.fault.CheckFault.TheVariants as checks;
+ghost use Rattle.check_scope.specs.declared.fault.ExprFault.TheVariants as stops;
 ghost use Rattle.check_expr.specs.Asks.{asked_as};
 ghost use Rattle.check_expr.specs.Expression.{call_built_in as call_of_built_in, call_gate as call_of_gate, built_in_rules as rules_of_built_in, gate_values as values_of_gate, gate_value as value_of_gate, flip_value as value_flipped, gate_origin as origin_of_gate, many as many_values, repeated as shape_repeated, vector_value as value_of_vector, length_value as value_of_length, is_typed as is_typed_number, all_typed as are_typed_numbers, may_hold as mark_may_hold, unnamed_rule as rule_of_unnamed, asked_by_built_in};
-ghost use Rattle.check_expr.specs.State.{State, scope_in};
+ghost use Rattle.check_scope.specs.State.{State, scope_in};
 ghost use Rattle.check_expr.specs.Calls.{items, walk_of, later_of};
-ghost use Rattle.check_expr.specs.Context.{rules};
-ghost use Rattle.check_expr.specs.Steps.{Reads, Stops};
+ghost use Rattle.check_scope.specs.Context.{rules};
+ghost use Rattle.check_scope.specs.Steps.{Reads, Stops};
 
 use crate::asked::Ask;
-use crate::context::Context;
+use check_scope::context::Context;
 use crate::expr::{ValueList, arguments};
-use crate::fault::{CheckFault, ExprFault};
-use crate::library::Library;
-use crate::need::Need;
-use crate::obey::obey;
-use crate::places::known_names;
-use crate::rule;
+use check_scope::fault::{CheckFault, ExprFault};
+use check_scope::library::Library;
+use check_scope::need::Need;
+use check_scope::obey::obey;
+use check_scope::places::known_names;
+use check_scope::rule;
 use crate::values::{alone, broken, is_static, one_value, static_number};
-use crate::words::BuiltIn;
+use check_scope::words::BuiltIn;
 use silq_io::What;
 use silq_tree::{Expr, ExprId, Mark, Spot, Tree};
 use silq_types::{Known, Origin, Scalar, Shape, Ty, Value};
@@ -306,7 +306,7 @@ fn is_plain(library: &Library, cx: &Context, len: ExprId, rest: &[ExprId]) -> bo
 }
 
 /// The rules of a call of `vector` after its arguments; they give the length.
-#[tactic(auto, unfolding(crate::specs::Context::rules))]
+#[tactic(auto, unfolding(check_scope::specs::Context::rules))]
 fn vector_rules(at: Spot, plain: bool, len: i64) -> Result<u32, ExprFault>
     ensures reads { (met : Signatures) (s : State) → IfOk result (λ n. Reads met (rules at ((not plain, wrong_type) ∷ (not (is_count_up_to most_items len), bad_size) ∷ [])) s tt s) }
     ensures stops { (met : Signatures) (s : State) → IfErr result (λ f. Stops met (rules at ((not plain, wrong_type) ∷ (not (is_count_up_to most_items len), bad_size) ∷ [])) s f s) }

@@ -7,27 +7,28 @@ ghost use Rattle.silq_types.specs.Rules.{against_mark, measured_in_branch, not_s
 ghost use Rattle.silq_types.specs.Types.{count, header_of};
 ghost use Rattle.check_expr.specs.Asks.{asked_as, all_asked};
 ghost use Rattle.check_expr.specs.Calls.{items, walk_of, instance_values as values_of_instance};
-ghost use Rattle.check_expr.specs.Context.{rules, of_result};
+ghost use Rattle.check_scope.specs.Context.{rules, of_result};
 ghost use Rattle.check_expr.specs.Expression.{is_run_time as is_in_run_time, may_call as mark_may_call, is_qfree as mark_is_qfree, is_unmarked as mark_is_unmarked, natural as rule_of_natural, static_arguments as arguments_static, paired as names_paired, asked_by, all_lifted as all_are_lifted, result_origin as origin_of_result, placed as value_placed, argument_at as value_at, result_values as values_of_results, lone_linear as is_lone_linear, call_own as call_of_own, exact_place};
-ghost use Rattle.check_expr.specs.Library.{function_at, found_at};
-ghost use Rattle.check_expr.specs.State.{State, scope_in};
-ghost use Rattle.check_expr.specs.Steps.{Reads, Stops};
-ghost use Rattle.check_expr.specs.Uses.{argument_uses, param_need, some_pair, both_consume, consume_and_hold};
+ghost use Rattle.check_scope.specs.Library.{function_at, found_at};
+ghost use Rattle.check_scope.specs.State.{State, scope_in};
+ghost use Rattle.check_scope.specs.Steps.{Reads, Stops};
+ghost use Rattle.check_scope.specs.Uses.{argument_uses, param_need, some_pair, both_consume, consume_and_hold};
 
 use crate::asked::Ask;
 use crate::built_in::{is_linear, mark_of, unnamed_rule};
-use crate::context::Context;
+use check_scope::context::Context;
 use crate::expr::{ValueList, arguments};
-use crate::fault::ExprFault;
-use crate::header::{Header, header_types};
-use crate::library::Library;
-use crate::need::Need;
-use crate::obey::obey;
-use crate::places::needed;
-use crate::rule;
+use check_scope::fault::ExprFault;
+use check_scope::header::{Header, header_types};
+use check_scope::library::Library;
+use check_scope::need::Need;
+use check_scope::obey::obey;
+use check_scope::places::needed;
+use check_scope::rule;
+use check_scope::spots::spot_of;
 use crate::signatures::signature;
-use crate::uses::{UseList, argument_parts, consume_held, consume_twice, needs_of_own};
-use crate::values::{new_value, spot_of};
+use check_scope::uses::{UseList, argument_parts, consume_held, consume_twice, needs_of_own};
+use crate::values::new_value;
 use silq_tree::{ExprId, FunId, Mark, NameId, Spot};
 use silq_types::{InstanceKey, Known, List, Origin, Param, Returned, StaticList, Ty, Value};
 use static_num::Statics;
@@ -115,7 +116,7 @@ fn static_arguments(
     let mut values = StaticList::new(library.alloc());
     for e in args {
         let value = needed(library, cx, *e)?;
-        natural(spot_of(library, *e), value)?;
+        natural(spot_of(library.tree(), *e), value)?;
         values.push(value)?;
     }
     Ok(values)

@@ -2,13 +2,13 @@
 
 ghost use Rattle.std.specs.Prelude.{◌≡◌, IfOk, IfErr, Option, Some, None};
 ghost use Rattle.silq_io.specs.declared.limit.LimitKind.TheVariants.{Instances, Depth};
-ghost use Rattle.check_expr.specs.Context.{signature as signature_of_instance};
-ghost use Rattle.check_expr.specs.Steps.{Reads, Stops};
-ghost use Rattle.check_expr.specs.Walk.{too_deep as is_too_deep, met_as};
+ghost use Rattle.check_scope.specs.Context.{signature as signature_of_instance};
+ghost use Rattle.check_scope.specs.Steps.{Reads, Stops};
+ghost use Rattle.check_scope.specs.Walk.{too_deep as is_too_deep, met_as};
 ghost use Rattle.check_expr.specs.Calls.{met_new};
 
-use crate::context::Context;
-use crate::fault::{CheckFault, ExprFault};
+use check_scope::context::Context;
+use check_scope::fault::{CheckFault, ExprFault};
 use silq_io::LimitKind;
 use silq_types::{InstanceKey, Known, Signature};
 

@@ -8,22 +8,23 @@ ghost use Rattle.silq_types.specs.Known.{Signatures};
 ghost use Rattle.silq_types.specs.Types.{at as spot_at, fits as fits_in, needed_at, shape_eq, single_shape, quantum as quantum_of, scalar_type as type_of_scalar};
 ghost use Rattle.silq_types.specs.declared.values.Origin.TheVariants.{Lifted};
 ghost use Rattle.static_num.specs.Static.{is_static as static_is};
-ghost use Rattle.check_expr.specs.Context.{give_back, of_result, is_known_name as name_is_known};
+ghost use Rattle.check_scope.specs.Context.{give_back, of_result, is_known_name as name_is_known};
 ghost use Rattle.check_expr.specs.Expression.{origin_of as origin_told, new_value as value_new, one_value as value_one, typed_by as by_type, fits_rule as rule_of_fit, static_value as value_static, typed_value as value_typed, is_tuple as tuple_is, single as single_value, suits as value_suits};
 ghost use Rattle.check_expr.specs.Numbers.{magnitude_of};
 ghost use Rattle.check_expr.specs.Asks.{types_of};
-ghost use Rattle.check_expr.specs.State.{State, scope_in};
-ghost use Rattle.check_expr.specs.Steps.{Reads, Stops};
-ghost use Rattle.check_expr.specs.declared.fault.CheckFault.TheVariants as checks;
-ghost use Rattle.check_expr.specs.declared.fault.ExprFault.TheVariants as stops;
+ghost use Rattle.check_scope.specs.State.{State, scope_in};
+ghost use Rattle.check_scope.specs.Steps.{Reads, Stops};
+ghost use Rattle.check_scope.specs.declared.fault.CheckFault.TheVariants as checks;
+ghost use Rattle.check_scope.specs.declared.fault.ExprFault.TheVariants as stops;
 
-use crate::context::Context;
+use check_scope::context::Context;
 use crate::expr::ValueList;
-use crate::fault::{CheckFault, ExprFault};
-use crate::header::scalar_type;
-use crate::library::Library;
-use crate::obey::obey;
-use crate::rule;
+use check_scope::fault::{CheckFault, ExprFault};
+use check_scope::header::scalar_type;
+use check_scope::library::Library;
+use check_scope::obey::obey;
+use check_scope::rule;
+use check_scope::spots::spot_of;
 use silq_tree::node::ScalarNode;
 use silq_tree::{Expr, ExprId, Spot};
 use silq_types::{Origin, Scalar, Shape, Ty, Value};
@@ -35,23 +36,6 @@ pub(crate) fn broken(rule: u8, at: Spot) -> ExprFault
     ensures { result ≡ stops.Fault (checks.Broken rule at) }
 {
     ExprFault::Fault(CheckFault::Broken { rule, at })
-}
-
-/// The place of an expression's first token.
-pub fn spot_of(library: &Library, e: ExprId) -> Spot
-    requires { e.number < length library.now.nodes.exprs }
-    ensures { result ≡ spot_at (expr_at library.now.nodes e) }
-{
-    match library.tree().expr(e) {
-        Expr::Number { at, .. } => *at,
-        Expr::Truth { at, .. } => *at,
-        Expr::Pi { at } => *at,
-        Expr::Place { at, .. } => *at,
-        Expr::Call { at, .. } => *at,
-        Expr::Tuple { at, .. } => *at,
-        Expr::Unary { at, .. } => *at,
-        Expr::Binary { at, .. } => *at,
-    }
 }
 
 // ---- values with new places
@@ -81,7 +65,7 @@ pub(crate) fn alone(alloc: Global, value: Value) -> Result<ValueList, ExprFault>
 }
 
 /// A value with a new place.
-#[tactic(auto, using(crate::proofs::Sequence::reads_bind, crate::proofs::Sequence::reads_back, crate::proofs::Sequence::stops_bind, crate::proofs::Scopes::stops_full))]
+#[tactic(auto, using(check_scope::proofs::Sequence::reads_bind, check_scope::proofs::Sequence::reads_back, check_scope::proofs::Sequence::stops_bind, crate::proofs::Scopes::stops_full))]
 pub(crate) fn new_value(cx: &mut Context, ty: Ty, origin: Origin) -> Result<Value, ExprFault>
     ensures reads { (met : Signatures) → IfOk result (λ v. Reads met (value_new ty origin) cx.old v cx.new) }
     ensures stops { (met : Signatures) → IfErr result (λ f. Stops met (value_new ty origin) cx.old f cx.new) }
@@ -91,7 +75,7 @@ pub(crate) fn new_value(cx: &mut Context, ty: Ty, origin: Origin) -> Result<Valu
 }
 
 /// The one value of a type, with a new place.
-#[tactic(auto, using(crate::proofs::Sequence::reads_bind, crate::proofs::Sequence::stops_bind, crate::proofs::Sequence::stops_later))]
+#[tactic(auto, using(check_scope::proofs::Sequence::reads_bind, check_scope::proofs::Sequence::stops_bind, check_scope::proofs::Sequence::stops_later))]
 pub(crate) fn one_value(
     alloc: Global,
     cx: &mut Context,
@@ -200,7 +184,7 @@ pub(crate) fn static_number(library: &Library, cx: &Context, e: ExprId) -> Resul
 {
     match eval(library.tree(), e, cx.statics()) {
         Ok(z) => Ok(z),
-        Err(_) => Err(broken(rule::NOT_STATIC, spot_of(library, e))),
+        Err(_) => Err(broken(rule::NOT_STATIC, spot_of(library.tree(), e))),
     }
 }
 
@@ -218,7 +202,7 @@ fn static_fits(library: &Library, e: ExprId, ty: Ty, z: i64) -> Result<(), ExprF
     ensures reads { (met : Signatures) (s : State) → IfOk result (λ u. Reads met (rule_of_fit (spot_at (expr_at library.now.nodes e)) ty z) s u s) }
     ensures stops { (met : Signatures) (s : State) → IfErr result (λ f. Stops met (rule_of_fit (spot_at (expr_at library.now.nodes e)) ty z) s f s) }
 {
-    fits_rule(spot_of(library, e), ty, z)
+    fits_rule(spot_of(library.tree(), e), ty, z)
 }
 
 /// A static expression takes this type.
@@ -251,7 +235,7 @@ pub(crate) fn static_value(
 {
     match wants {
         [ty] => static_typed(library, cx, e, *ty),
-        _ => Err(broken(rule::OUTSIDE_TYPE, spot_of(library, e))),
+        _ => Err(broken(rule::OUTSIDE_TYPE, spot_of(library.tree(), e))),
     }
 }
 
@@ -326,11 +310,11 @@ pub fn single(library: &Library, e: ExprId, values: &ValueList) -> Result<Value,
     ensures stops { (met : Signatures) (s : State) → IfErr result (λ f. Stops met (single_value (expr_at library.now.nodes e) values.now) s f s) }
 {
     if is_tuple(library, e) {
-        return Err(broken(rule::WRONG_TYPE, spot_of(library, e)));
+        return Err(broken(rule::WRONG_TYPE, spot_of(library.tree(), e)));
     }
     match values.as_slice() {
         [value] => Ok(*value),
-        _ => Err(broken(rule::RESULT_COUNT, spot_of(library, e))),
+        _ => Err(broken(rule::RESULT_COUNT, spot_of(library.tree(), e))),
     }
 }
 
@@ -342,7 +326,7 @@ pub fn suits(library: &Library, e: ExprId, want: Option<Ty>, value: Value) -> Re
 {
     match want {
         Some(ty) => obey(
-            spot_of(library, e),
+            spot_of(library.tree(), e),
             &[
                 (!is_same_shape(ty.shape, value.ty.shape), rule::WRONG_TYPE),
                 (ty.classical && !value.ty.classical, rule::NOT_CLASSICAL),

@@ -10,17 +10,17 @@ use Rattle.silq_types.specs.declared.values.Origin.TheVariants.{Linear}
 use Rattle.silq_types.specs.declared.values.Part.{Part}
 use Rattle.silq_types.specs.declared.values.Value.{Value}
 use Rattle.silq_types.specs.declared.values.Var.{Var}
-use Rattle.check_expr.specs.Walk.{Counts, Checker, answer, with_counts}
-use Rattle.check_expr.specs.Context.{Scope, Context, Check, rules, put_variables, find_var, replace, same_part}
+use Rattle.check_scope.specs.Walk.{Counts, Checker, answer, with_counts}
+use Rattle.check_scope.specs.Context.{Scope, Context, Check, rules, put_variables, find_var, replace, same_part}
 use Rattle.check_fun.specs.Counting.{Stays, Runs, Fails}
 use Rattle.check_expr.specs.Expression.{expr, is_tuple, lone_need}
-use Rattle.check_expr.specs.Library.{Shelf}
-use Rattle.check_expr.specs.State.{State, scope_in, context_of}
+use Rattle.check_scope.specs.Library.{Shelf}
+use Rattle.check_scope.specs.State.{State, scope_in, context_of}
 use Rattle.check_fun.specs.Statement.{assign_name, assigned, made_linear, with_origin}
 use Rattle.check_fun.specs.Stepping.{spread_to}
-use Rattle.check_expr.specs.declared.fault.CheckFault.{CheckFault}
-use Rattle.check_expr.specs.declared.need.Need.{Need}
-use Rattle.check_expr.specs.declared.need.Need.TheVariants as needs
+use Rattle.check_scope.specs.declared.fault.CheckFault.{CheckFault}
+use Rattle.check_scope.specs.declared.need.Need.{Need}
+use Rattle.check_scope.specs.declared.need.Need.TheVariants as needs
 use Rattle.check_expr.proofs.Alike.{same_part_refl, some_same}
 use Rattle.check_expr.proofs.Owners.{found_part}
 use Rattle.check_fun.proofs.Counted.{runs_bind, runs_then, fails_bind, fails_then, fails_later, fails_after}

@@ -8,16 +8,16 @@ use Rattle.silq_types.specs.Rules.{rule, Fault, name_taken, held_changed, condit
 use Rattle.silq_types.specs.Types.{value_of}
 use Rattle.silq_types.specs.declared.values.Value.{Value}
 use Rattle.silq_types.specs.declared.values.Var.{Var}
-use Rattle.check_expr.specs.Walk.{Counts, Checker, with_counts}
-use Rattle.check_expr.specs.Context.{Scope, Context, rules, variables, put_variables, find_var, variable, is_in_condition}
+use Rattle.check_scope.specs.Walk.{Counts, Checker, with_counts}
+use Rattle.check_scope.specs.Context.{Scope, Context, rules, variables, put_variables, find_var, variable, is_in_condition}
 use Rattle.check_fun.specs.Counting.{Runs, Fails}
-use Rattle.check_expr.specs.Faults.{fault_as}
-use Rattle.check_expr.specs.Library.{Shelf}
-use Rattle.check_expr.specs.State.{State, scope_in, context_of}
+use Rattle.check_scope.specs.Faults.{fault_as}
+use Rattle.check_scope.specs.Library.{Shelf}
+use Rattle.check_scope.specs.State.{State, scope_in, context_of}
 use Rattle.check_fun.specs.Statement.{any_name, passes, is_held_var, is_live_linear, overwrites_linear, bind_name, bind_names, assigned}
 use Rattle.check_fun.specs.Stepping.{next_bound}
-use Rattle.check_expr.specs.declared.fault.CheckFault.{CheckFault}
-use Rattle.check_expr.specs.declared.fault.CheckFault.TheVariants as checks
+use Rattle.check_scope.specs.declared.fault.CheckFault.{CheckFault}
+use Rattle.check_scope.specs.declared.fault.CheckFault.TheVariants as checks
 use Rattle.check_fun.proofs.Counted.{runs_bind, runs_then, runs_variables, fails_bind, fails_then, fails_later, fails_after}
 use Rattle.check_fun.proofs.Stepped.{runs_rules, fails_rules, fails_rules_later, runs_kept, runs_put}
 

@@ -10,14 +10,14 @@ use Rattle.silq_tree.specs.Syntax.{Expression, Statement}
 use Rattle.silq_tree.specs.Children.{else_stmts}
 use Rattle.silq_tree.specs.Standing.{statements_of, otherwise_of}
 use Rattle.silq_types.specs.declared.values.Var.{Var}
-use Rattle.check_expr.specs.Walk.{Walk, answer, broken, counted, asked, bind, Counts, Checker, with_counts}
-use Rattle.check_expr.specs.Context.{Scope, Context, Check, ◌>>=◌, ◌>>◌, pass, variables, put_variables}
-use Rattle.check_expr.specs.State.{State, context_of, scope_in}
-use Rattle.check_expr.specs.Library.{Shelf}
+use Rattle.check_scope.specs.Walk.{Walk, answer, broken, counted, asked, bind, Counts, Checker, with_counts}
+use Rattle.check_scope.specs.Context.{Scope, Context, Check, ◌>>=◌, ◌>>◌, pass, variables, put_variables}
+use Rattle.check_scope.specs.State.{State, context_of, scope_in}
+use Rattle.check_scope.specs.Library.{Shelf}
 use Rattle.check_fun.specs.Branches.{ended_branch}
 use Rattle.check_fun.specs.Counting.{Stays, Runs, Fails, checker_at}
 use Rattle.check_fun.specs.Statement.{stmt, stmts, otherwise, otherwise_end, none_changed, end_from, plain_block, branch, both, joined}
-use Rattle.check_expr.specs.declared.fault.CheckFault.{CheckFault}
+use Rattle.check_scope.specs.declared.fault.CheckFault.{CheckFault}
 use Rattle.check_fun.proofs.BlockSteps.{same_scope_after, same_checker_after}
 use Rattle.check_fun.proofs.Counted.{stays_refl, stays_both, runs_bind, runs_then, runs_variables, fails_bind, fails_then, fails_later, fails_after}
 

@@ -8,16 +8,16 @@ use Rattle.silq_types.specs.declared.values.Value.{Value}
 use Rattle.silq_types.specs.declared.values.Var.{Var}
 use Rattle.silq_types.specs.Rules.{wrong_type}
 use Rattle.silq_types.specs.Types.{at, is_bit}
-use Rattle.check_expr.specs.Walk.{Counts, Checker}
-use Rattle.check_expr.specs.Context.{Scope, Check, ◌>>=◌, ◌>>◌, give_back, rules, variables}
+use Rattle.check_scope.specs.Walk.{Counts, Checker}
+use Rattle.check_scope.specs.Context.{Scope, Check, ◌>>=◌, ◌>>◌, give_back, rules, variables}
 use Rattle.check_expr.specs.Expression.{expr, single}
-use Rattle.check_expr.specs.Library.{Shelf}
-use Rattle.check_expr.specs.State.{State, scope_in}
+use Rattle.check_scope.specs.Library.{Shelf}
+use Rattle.check_scope.specs.State.{State, scope_in}
 use Rattle.check_fun.specs.Statement.{condition}
-use Rattle.check_expr.specs.Uses.{uses, parts_of}
+use Rattle.check_scope.specs.Uses.{uses, parts_of}
 use Rattle.check_fun.specs.Counting.{Stays, Runs, Fails, checker_at}
-use Rattle.check_expr.specs.declared.fault.CheckFault.{CheckFault}
-use Rattle.check_expr.specs.declared.need.Need.TheVariants as needs
+use Rattle.check_scope.specs.declared.fault.CheckFault.{CheckFault}
+use Rattle.check_scope.specs.declared.need.Need.TheVariants as needs
 use Rattle.check_fun.proofs.BlockSteps.{same_scope_after}
 use Rattle.check_fun.proofs.Counted.{runs_bind, runs_then, runs_back, runs_variables, fails_bind, fails_then, fails_later}
 

@@ -8,13 +8,13 @@ use Rattle.silq_tree.specs.Children.{AreStmtsBelow}
 use Rattle.silq_tree.proofs.Lists.{stmts_top, stmts_top_le, stmts_below_back, stmts_below_more}
 use Rattle.silq_types.specs.Rules.{linear_left, outer_changed}
 use Rattle.silq_types.specs.declared.values.Var.{Var}
-use Rattle.check_expr.specs.Context.{Check, ◌>>◌, pass, rules, put_variables}
+use Rattle.check_scope.specs.Context.{Check, ◌>>◌, pass, rules, put_variables}
 use Rattle.check_fun.specs.Counting.{Stays, Runs, Fails}
-use Rattle.check_expr.specs.State.{State}
+use Rattle.check_scope.specs.State.{State}
 use Rattle.check_fun.specs.Statement.{is_live_linear, none_left, end_from, is_changed, none_changed, joined}
 use Rattle.check_fun.specs.Branches.{joined_one}
-use Rattle.check_expr.specs.Walk.{Checker, Counts}
-use Rattle.check_expr.specs.declared.fault.CheckFault.{CheckFault}
+use Rattle.check_scope.specs.Walk.{Checker, Counts}
+use Rattle.check_scope.specs.declared.fault.CheckFault.{CheckFault}
 use Rattle.check_fun.proofs.BlockSteps.{Ahead, ahead_then, ahead_stops}
 use Rattle.check_fun.proofs.Counted.{stays_refl, runs_pass, runs_then, fails_then}
 

@@ -18,17 +18,17 @@ use Rattle.silq_types.specs.Rules.{Fault, rule, not_static}
 use Rattle.silq_types.specs.Types.{needed_at, at, or_not_static}
 use Rattle.silq_types.specs.declared.values.Part.{Part}
 use Rattle.silq_types.specs.declared.values.Var.{Var}
-use Rattle.check_expr.specs.declared.uses.Use.{Use}
-use Rattle.check_expr.specs.Uses.{parts_of}
-use Rattle.check_expr.specs.Walk.{Counts, Checker}
-use Rattle.check_expr.specs.Context.{Scope, Context, Check, ◌>>=◌, ◌>>◌, give_back, pass, fail, of_result, variables, put_variables}
-use Rattle.check_expr.specs.State.{State, context_of, scope_in}
-use Rattle.check_expr.specs.Library.{Shelf}
+use Rattle.check_scope.specs.declared.uses.Use.{Use}
+use Rattle.check_scope.specs.Uses.{parts_of}
+use Rattle.check_scope.specs.Walk.{Counts, Checker}
+use Rattle.check_scope.specs.Context.{Scope, Context, Check, ◌>>=◌, ◌>>◌, give_back, pass, fail, of_result, variables, put_variables}
+use Rattle.check_scope.specs.State.{State, context_of, scope_in}
+use Rattle.check_scope.specs.Library.{Shelf}
 use Rattle.check_fun.specs.Branches.{run_time_choice, taken_branch, round_of}
 use Rattle.check_fun.specs.Counting.{Stays, Runs, Fails, checker_at, choice_step}
 use Rattle.check_fun.specs.Statement.{stmts, otherwise, otherwise_end, plain_block, none_left, end_from, branch, both, condition, under, with_static, rounds, distance, chosen}
-use Rattle.check_expr.specs.declared.fault.CheckFault.{CheckFault}
-use Rattle.check_expr.specs.declared.fault.CheckFault.TheVariants as checks
+use Rattle.check_scope.specs.declared.fault.CheckFault.{CheckFault}
+use Rattle.check_scope.specs.declared.fault.CheckFault.TheVariants as checks
 use Rattle.check_fun.proofs.BlockSteps.{Ahead, ahead_then, ahead_stops, same_scope_after, same_checker_after}
 use Rattle.check_fun.proofs.Counted.{stays_refl, stays_both, runs_bind, runs_then, runs_pass, runs_variables, fails_bind, fails_then, fails_later, fails_after}
 

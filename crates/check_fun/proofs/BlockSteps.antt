@@ -16,18 +16,18 @@ use Rattle.silq_io.specs.declared.limit.LimitKind.TheVariants.{Walked}
 use Rattle.silq_types.specs.Known.{Signatures}
 use Rattle.silq_types.specs.Types.{at, needed_at, first_unknown, names}
 use Rattle.silq_types.specs.declared.signature.InstanceKey.{InstanceKey}
-use Rattle.check_expr.specs.Walk.{Walk, answer, broken, counted, asked, bind, Stop, fault, wanted, with_known, Counts, Checker, with_counts}
-use Rattle.check_expr.specs.Context.{Scope, Context, Check, ◌>>=◌, ◌>>◌, give_back, pass, fail, of_result, rules, variables, count_statement, unknown_at, known_names, needed, is_known_name}
-use Rattle.check_expr.specs.State.{State, Keeps, context_of, scope_in}
-use Rattle.check_expr.specs.Steps.{Reads, Stops}
-use Rattle.check_expr.specs.Faults.{fault_as, stop_as}
-use Rattle.check_expr.specs.Library.{Shelf}
+use Rattle.check_scope.specs.Walk.{Walk, answer, broken, counted, asked, bind, Stop, fault, wanted, with_known, Counts, Checker, with_counts}
+use Rattle.check_scope.specs.Context.{Scope, Context, Check, ◌>>=◌, ◌>>◌, give_back, pass, fail, of_result, rules, variables, count_statement, unknown_at, known_names, needed, is_known_name}
+use Rattle.check_scope.specs.State.{State, Keeps, context_of, scope_in}
+use Rattle.check_scope.specs.Steps.{Reads, Stops}
+use Rattle.check_scope.specs.Faults.{fault_as, stop_as}
+use Rattle.check_scope.specs.Library.{Shelf}
 use Rattle.check_fun.specs.Counting.{Stays, Runs, Fails, checker_at}
 use Rattle.check_fun.specs.Statement.{stmt, stmts}
-use Rattle.check_expr.specs.declared.fault.CheckFault.{CheckFault}
-use Rattle.check_expr.specs.declared.fault.CheckFault.TheVariants as checks
-use Rattle.check_expr.specs.declared.fault.ExprFault.{ExprFault}
-use Rattle.check_expr.specs.declared.fault.ExprFault.TheVariants as stops
+use Rattle.check_scope.specs.declared.fault.CheckFault.{CheckFault}
+use Rattle.check_scope.specs.declared.fault.CheckFault.TheVariants as checks
+use Rattle.check_scope.specs.declared.fault.ExprFault.{ExprFault}
+use Rattle.check_scope.specs.declared.fault.ExprFault.TheVariants as stops
 use Rattle.check_fun.proofs.Counted.{stays_refl, stays_both, runs_bind, runs_then, fails_bind, fails_then, fails_later, fails_after}
 
 -- ---- what stays

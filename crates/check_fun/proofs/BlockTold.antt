@@ -3,14 +3,14 @@ use Rattle.std.specs.Prelude.{◌≡◌, refl, Result, Ok, Err, IfOk, IfErr}
 use mathlib.Core.Path.{subst}
 use Rattle.silq_types.specs.Known.{Signatures}
 use Rattle.silq_types.specs.declared.signature.InstanceKey.{InstanceKey}
-use Rattle.check_expr.specs.Context.{Check}
+use Rattle.check_scope.specs.Context.{Check}
 use Rattle.check_fun.specs.Counting.{Runs, Fails}
-use Rattle.check_expr.specs.State.{State}
-use Rattle.check_expr.specs.Steps.{Reads, Stops}
-use Rattle.check_expr.specs.Walk.{Checker, Counts}
-use Rattle.check_expr.specs.declared.fault.CheckFault.{CheckFault}
-use Rattle.check_expr.specs.declared.fault.ExprFault.{ExprFault}
-use Rattle.check_expr.specs.declared.fault.ExprFault.TheVariants as stops
+use Rattle.check_scope.specs.State.{State}
+use Rattle.check_scope.specs.Steps.{Reads, Stops}
+use Rattle.check_scope.specs.Walk.{Checker, Counts}
+use Rattle.check_scope.specs.declared.fault.CheckFault.{CheckFault}
+use Rattle.check_scope.specs.declared.fault.ExprFault.{ExprFault}
+use Rattle.check_scope.specs.declared.fault.ExprFault.TheVariants as stops
 use Rattle.check_fun.proofs.BlockSteps.{Silent, runs_read, fails_read, none_wanted}
 
 pub none_told : {A : Type 0} (m : Check A) (old now : State) (r : Result A ExprFault) (key : InstanceKey) → Silent m → ((met : Signatures) → IfErr r (λ f. Stops met m old f now)) → r ≡ Err (stops.Wanted key) → ⊥

@@ -7,15 +7,15 @@ use Rattle.silq_tree.specs.Syntax.{Expression, Statement, Statements, Block, blo
 use Rattle.silq_tree.specs.Standing.{statements_of}
 use Rattle.silq_types.specs.Rules.{and_then}
 use Rattle.silq_types.specs.declared.values.Value.{Value}
-use Rattle.check_expr.specs.Walk.{Counts, Checker, with_counts}
-use Rattle.check_expr.specs.Context.{Context, Scope, Check, ◌>>◌}
+use Rattle.check_scope.specs.Walk.{Counts, Checker, with_counts}
+use Rattle.check_scope.specs.Context.{Context, Scope, Check, ◌>>◌}
 use Rattle.check_fun.specs.Counting.{Runs, Fails}
-use Rattle.check_expr.specs.Faults.{fault_as}
-use Rattle.check_expr.specs.State.{State, context_of}
+use Rattle.check_scope.specs.Faults.{fault_as}
+use Rattle.check_scope.specs.State.{State, context_of}
 use Rattle.check_fun.specs.Statement.{stmt, stmts, body}
-use Rattle.check_expr.specs.declared.fault.CheckFault.{CheckFault}
+use Rattle.check_scope.specs.declared.fault.CheckFault.{CheckFault}
 use Rattle.check_fun.proofs.Counted.{runs_then, fails_then, fails_after}
-use Rattle.check_expr.proofs.Readings.{with_counts-bind}
+use Rattle.check_scope.proofs.Readings.{with_counts-bind}
 
 -- a statement that is not the last is walked as each other
 body_more : (st other : Statement) (rest : Statements) (sc : Scope) → body (next st (next other rest)) sc ≡ (stmt st sc >> body (next other rest) sc)

@@ -2,13 +2,13 @@
 use Rattle.std.specs.Prelude.{◌≡◌, refl, ℕ, Option, Some, None, Ok, Err, IfSome}
 use mathlib.Core.Path.{sym, ap, ◌∙◌, subst}
 use Rattle.silq_types.specs.Rules.{and_then}
-use Rattle.check_expr.specs.Walk.{Counts, Checker, with_counts}
-use Rattle.check_expr.specs.Context.{Context, Check, ◌>>=◌, ◌>>◌, give_back, pass, variables}
-use Rattle.check_expr.specs.State.{State, context_of}
-use Rattle.check_expr.specs.Faults.{fault_as}
+use Rattle.check_scope.specs.Walk.{Counts, Checker, with_counts}
+use Rattle.check_scope.specs.Context.{Context, Check, ◌>>=◌, ◌>>◌, give_back, pass, variables}
+use Rattle.check_scope.specs.State.{State, context_of}
+use Rattle.check_scope.specs.Faults.{fault_as}
 use Rattle.check_fun.specs.Counting.{Stays, Runs, Fails}
-use Rattle.check_expr.specs.declared.fault.CheckFault.{CheckFault}
-use Rattle.check_expr.proofs.Readings.{with_counts-bind}
+use Rattle.check_scope.specs.declared.fault.CheckFault.{CheckFault}
+use Rattle.check_scope.proofs.Readings.{with_counts-bind}
 
 pub stays_refl : (s : State) → Stays s s
 stays_refl s = record { this = refl; results = refl; depth = refl; statics = refl; held = refl }

@@ -10,7 +10,7 @@ use Rattle.silq_tree.specs.declared.node.NameId.{NameId}
 use Rattle.silq_tree.specs.Syntax.{Function}
 use Rattle.silq_tree.specs.Arena.{nothing, fun_at}
 use Rattle.check_fun.specs.Entry.{number_from}
-use Rattle.check_expr.specs.Library.{Shelf, functions_of, function_at, before_at}
+use Rattle.check_scope.specs.Library.{Shelf, functions_of, function_at, before_at}
 use Rattle.check_fun.specs.Program.{earlier_than}
 
 -- ---- names

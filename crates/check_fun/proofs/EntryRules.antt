@@ -8,14 +8,14 @@ use Rattle.silq_types.specs.Rules.{Fault, rule, and_then}
 use Rattle.silq_types.specs.declared.signature.InstanceKey.{InstanceKey}
 use Rattle.silq_types.specs.declared.signature.Signature.{Signature}
 use Rattle.check_fun.specs.Entry.{program_of, check_named}
-use Rattle.check_expr.specs.Faults.{fault_as}
-use Rattle.check_expr.specs.Headers.{spot_or}
-use Rattle.check_expr.specs.Library.{Shelf, functions_of, function_at, before_at, found_at}
+use Rattle.check_scope.specs.Faults.{fault_as}
+use Rattle.check_scope.specs.Headers.{spot_or}
+use Rattle.check_scope.specs.Library.{Shelf, functions_of, function_at, before_at, found_at}
 use Rattle.check_fun.specs.Program.{Program, Accepted, all_headers, check_one, instances, entry_rules, check_entry, earlier_than}
-use Rattle.check_expr.specs.Steps.{IsFirst}
-use Rattle.check_expr.specs.Uses.{find_fun}
-use Rattle.check_expr.specs.Walk.{Counts}
-use Rattle.check_expr.specs.declared.fault.CheckFault.{CheckFault}
+use Rattle.check_scope.specs.Steps.{IsFirst}
+use Rattle.check_scope.specs.Uses.{find_fun}
+use Rattle.check_scope.specs.Walk.{Counts}
+use Rattle.check_scope.specs.declared.fault.CheckFault.{CheckFault}
 use Rattle.check_expr.proofs.Alike.{same_key_refl}
 use Rattle.check_fun.proofs.EntryFound.{earlier_before, length_before}
 use Rattle.check_fun.proofs.Growth.{one_grows, instances_grow, none_below, none_passed}

@@ -20,19 +20,19 @@ use Rattle.silq_types.specs.declared.signature.Signature.{Signature}
 use Rattle.silq_types.specs.declared.types.Ty.{Ty}
 use Rattle.silq_types.specs.declared.values.Value.{Value}
 use Rattle.silq_types.specs.declared.values.Var.{Var}
-use Rattle.check_expr.specs.declared.fault.CheckFault.{CheckFault}
-use Rattle.check_expr.specs.Context.{Context, new_place}
+use Rattle.check_scope.specs.declared.fault.CheckFault.{CheckFault}
+use Rattle.check_scope.specs.Context.{Context, new_place}
 use Rattle.check_fun.specs.Counting.{Runs, Fails, checker_at}
 use Rattle.check_expr.specs.Expression.{paired}
-use Rattle.check_expr.specs.Faults.{fault_as}
-use Rattle.check_expr.specs.Library.{Shelf, functions_of, function_at, before_at}
+use Rattle.check_scope.specs.Faults.{fault_as}
+use Rattle.check_scope.specs.Library.{Shelf, functions_of, function_at, before_at}
 use Rattle.check_fun.specs.Program.{instances, check_one, instance_walk, kept, signature_by, with_instance, param_vars, returned_as}
-use Rattle.check_expr.specs.State.{State, context_of, scope_in}
+use Rattle.check_scope.specs.State.{State, context_of, scope_in}
 use Rattle.check_fun.specs.Statement.{whole_body}
-use Rattle.check_expr.specs.Steps.{Reads, IsFirst}
-use Rattle.check_expr.specs.Walk.{Walk, answer, Counts, with_counts}
+use Rattle.check_scope.specs.Steps.{Reads, IsFirst}
+use Rattle.check_scope.specs.Walk.{Walk, answer, Counts, with_counts}
 use Rattle.check_fun.proofs.Growth.{ok_inside, ok_same, ran, none_passed, none_below, AllBelow, instances_grow}
-use Rattle.check_expr.proofs.Readings.{with_counts-bind}
+use Rattle.check_scope.proofs.Readings.{with_counts-bind}
 
 -- ---- the functions before one
 

@@ -7,13 +7,13 @@ use Rattle.std.specs.Prelude.{None}
 use Rattle.silq_types.specs.declared.types.Shape.TheVariants.{Bit}
 use Rattle.silq_types.specs.declared.values.Origin.TheVariants.{Held}
 use Rattle.silq_types.specs.declared.values.Var.{Var}
-use Rattle.check_expr.specs.Walk.{Counts, Checker}
-use Rattle.check_expr.specs.Context.{Check, ◌>>◌, rules, put_variables, replace}
+use Rattle.check_scope.specs.Walk.{Counts, Checker}
+use Rattle.check_scope.specs.Context.{Check, ◌>>◌, rules, put_variables, replace}
 use Rattle.check_fun.specs.Counting.{Runs, Fails}
-use Rattle.check_expr.specs.State.{State}
+use Rattle.check_scope.specs.State.{State}
 use Rattle.check_fun.specs.Statement.{none_left, end_from, end_var, is_live_linear}
-use Rattle.check_expr.specs.declared.fault.CheckFault.{CheckFault}
-use Rattle.check_expr.specs.declared.fault.CheckFault.TheVariants as checks
+use Rattle.check_scope.specs.declared.fault.CheckFault.{CheckFault}
+use Rattle.check_scope.specs.declared.fault.CheckFault.TheVariants as checks
 use Rattle.check_fun.proofs.Counted.{stays_refl, runs_pass, runs_then, fails_then, fails_after}
 use Rattle.check_fun.proofs.Stepped.{runs_put, fails_one}
 

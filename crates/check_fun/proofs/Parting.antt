@@ -7,17 +7,17 @@ use Rattle.silq_types.specs.Rules.{bad_part}
 use Rattle.silq_types.specs.declared.values.Part.{Part}
 use Rattle.silq_types.specs.declared.values.Value.{Value}
 use Rattle.silq_types.specs.declared.values.Var.{Var}
-use Rattle.check_expr.specs.Walk.{Counts, Checker}
-use Rattle.check_expr.specs.Context.{Scope, Check, variables, put_variables, new_place}
+use Rattle.check_scope.specs.Walk.{Counts, Checker}
+use Rattle.check_scope.specs.Context.{Scope, Check, variables, put_variables, new_place}
 use Rattle.check_fun.specs.Counting.{Stays, Runs, Fails, checker_at}
 use Rattle.check_expr.specs.Expression.{expr, is_tuple, lone_need}
-use Rattle.check_expr.specs.Library.{Shelf}
-use Rattle.check_expr.specs.State.{State, scope_in}
+use Rattle.check_scope.specs.Library.{Shelf}
+use Rattle.check_scope.specs.State.{State, scope_in}
 use Rattle.check_fun.specs.Statement.{Target, target, taken_out, assign_part}
 use Rattle.check_fun.specs.Stepping.{put_back}
-use Rattle.check_expr.specs.declared.fault.CheckFault.{CheckFault}
-use Rattle.check_expr.specs.declared.need.Need.{Need}
-use Rattle.check_expr.specs.declared.need.Need.TheVariants as needs
+use Rattle.check_scope.specs.declared.fault.CheckFault.{CheckFault}
+use Rattle.check_scope.specs.declared.need.Need.{Need}
+use Rattle.check_scope.specs.declared.need.Need.TheVariants as needs
 use Rattle.check_fun.proofs.Counted.{stays_both, runs_bind, runs_then, runs_variables, fails_bind, fails_later, fails_after}
 use Rattle.check_fun.proofs.Stepped.{same_scope_after, same_checker_after}
 

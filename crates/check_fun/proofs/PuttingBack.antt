@@ -7,14 +7,14 @@ use Rattle.silq_types.specs.Rules.{wrong_type, held_changed, condition_changed, 
 use Rattle.silq_types.specs.Types.{at, is_held}
 use Rattle.silq_types.specs.declared.types.Ty.{Ty}
 use Rattle.silq_types.specs.declared.values.Value.{Value}
-use Rattle.check_expr.specs.Walk.{Counts, Checker}
-use Rattle.check_expr.specs.Context.{Check, rules, variables, put_variables, is_in_condition}
+use Rattle.check_scope.specs.Walk.{Counts, Checker}
+use Rattle.check_scope.specs.Context.{Check, rules, variables, put_variables, is_in_condition}
 use Rattle.check_fun.specs.Counting.{Runs, Fails}
 use Rattle.check_expr.specs.Expression.{is_tuple, some_linear, suits}
-use Rattle.check_expr.specs.State.{State}
+use Rattle.check_scope.specs.State.{State}
 use Rattle.check_fun.specs.Statement.{Target, one_suits, consumed_there, all_at, with_origin}
 use Rattle.check_fun.specs.Stepping.{put_back}
-use Rattle.check_expr.specs.declared.fault.CheckFault.{CheckFault}
+use Rattle.check_scope.specs.declared.fault.CheckFault.{CheckFault}
 use Rattle.check_fun.proofs.Counted.{runs_bind, runs_then, runs_variables, fails_then, fails_later, fails_after}
 
 module _ (check : Checker) (t : Target) (n p : ℕ) (e : Expression) (vs : List Value) (s : Spot) (old : State) (c : Counts) (b : Bool) (is_b : b ≡ is_tuple e) (spot : Spot) (is_spot : spot ≡ at e) where

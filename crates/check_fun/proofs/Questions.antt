@@ -9,21 +9,21 @@ use Rattle.silq_types.specs.declared.types.Ty.{Ty}
 use Rattle.silq_types.specs.declared.values.Value.{Value}
 use Rattle.silq_types.specs.Known.{signature_of}
 use Rattle.silq_types.specs.Rules.{Fault, and_then}
-use Rattle.check_expr.specs.declared.fault.CheckFault.{CheckFault}
-use Rattle.check_expr.specs.declared.need.Need.{Need}
-use Rattle.check_expr.specs.Context.{Context}
+use Rattle.check_scope.specs.declared.fault.CheckFault.{CheckFault}
+use Rattle.check_scope.specs.declared.need.Need.{Need}
+use Rattle.check_scope.specs.Context.{Context}
 use Rattle.check_fun.specs.Counting.{Runs, Fails, Stays, checker_at}
 use Rattle.check_expr.specs.Expression.{expr}
-use Rattle.check_expr.specs.Faults.{fault_as}
-use Rattle.check_expr.specs.Library.{Shelf, before_at}
+use Rattle.check_scope.specs.Faults.{fault_as}
+use Rattle.check_scope.specs.Library.{Shelf, before_at}
 use Rattle.check_fun.specs.Program.{instances}
-use Rattle.check_expr.specs.Reading.{Continues, asked_again}
-use Rattle.check_expr.specs.State.{State, Keeps, context_of, scope_in}
-use Rattle.check_expr.specs.Steps.{Reads, IsFirst}
-use Rattle.check_expr.specs.Walk.{Walk, Stop, fault, wanted, with_known, Counts, with_counts}
+use Rattle.check_scope.specs.Reading.{Continues, asked_again}
+use Rattle.check_scope.specs.State.{State, Keeps, context_of, scope_in}
+use Rattle.check_scope.specs.Steps.{Reads, IsFirst}
+use Rattle.check_scope.specs.Walk.{Walk, Stop, fault, wanted, with_known, Counts, with_counts}
 use Rattle.check_fun.proofs.Growth.{instances_steady}
 use Rattle.check_expr.proofs.Quiet.{expr_quiet}
-use Rattle.check_expr.proofs.Readings.{continues}
+use Rattle.check_scope.proofs.Readings.{continues}
 use Rattle.check_fun.proofs.WantedRoom.{wants_room, instances_more}
 
 module _ (l : Shelf) (old : State) (e : Expression) (need : Need) (wants : List Ty) where

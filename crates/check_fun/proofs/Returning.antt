@@ -7,17 +7,17 @@ use Rattle.silq_types.specs.Rules.{Fault, rule, wrong_type, result_count, bad_re
 use Rattle.silq_types.specs.Types.{at, is_empty}
 use Rattle.silq_types.specs.declared.types.Ty.{Ty}
 use Rattle.silq_types.specs.declared.values.Value.{Value}
-use Rattle.check_expr.specs.Walk.{Counts, Checker, with_counts}
-use Rattle.check_expr.specs.Context.{Context, Scope, Check, fail, rules}
+use Rattle.check_scope.specs.Walk.{Counts, Checker, with_counts}
+use Rattle.check_scope.specs.Context.{Context, Scope, Check, fail, rules}
 use Rattle.check_fun.specs.Counting.{Runs, Fails}
 use Rattle.check_expr.specs.Expression.{expr, is_tuple, single, single_of, suits}
-use Rattle.check_expr.specs.Library.{Shelf}
-use Rattle.check_expr.specs.State.{State, scope_in, context_of}
+use Rattle.check_scope.specs.Library.{Shelf}
+use Rattle.check_scope.specs.State.{State, scope_in, context_of}
 use Rattle.check_fun.specs.Statement.{first_type, returned, returned_one}
 use Rattle.check_fun.specs.Stepping.{lone_value, misplaced_step, unused_step}
-use Rattle.check_expr.specs.declared.fault.CheckFault.{CheckFault}
-use Rattle.check_expr.specs.declared.fault.CheckFault.TheVariants as checks
-use Rattle.check_expr.specs.declared.need.Need.TheVariants as needs
+use Rattle.check_scope.specs.declared.fault.CheckFault.{CheckFault}
+use Rattle.check_scope.specs.declared.fault.CheckFault.TheVariants as checks
+use Rattle.check_scope.specs.declared.need.Need.TheVariants as needs
 use Rattle.check_fun.proofs.Counted.{runs_back, runs_bind, runs_then, fails_bind, fails_then, fails_later, fails_after}
 use Rattle.check_fun.proofs.Stepped.{fails_broken, runs_tested, fails_tested}
 

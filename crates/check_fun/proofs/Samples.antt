@@ -14,11 +14,11 @@ use Rattle.silq_io.specs.declared.fault.What.TheVariants.{Angle}
 use Rattle.silq_io.specs.declared.limit.LimitKind.TheVariants.{Walked, Instances, Depth}
 use Rattle.silq_types.specs.declared.types.Ty.{Ty}
 use Rattle.silq_types.specs.declared.types.Shape.TheVariants.{Bit, UInt}
-use Rattle.check_expr.specs.Walk.{Met, limited, new, met_as, Counts, with_counts, counted}
-use Rattle.check_expr.specs.Walk as walk
-use Rattle.check_expr.specs.Context.{◌>>=◌, ◌>>◌, rules}
-use Rattle.check_expr.specs.declared.words.BuiltIn.{BuiltIn}
-use Rattle.check_expr.specs.declared.words.BuiltIn.TheVariants.{HGate, XGate, Dup, Measure}
+use Rattle.check_scope.specs.Walk.{Met, limited, new, met_as, Counts, with_counts, counted}
+use Rattle.check_scope.specs.Walk as walk
+use Rattle.check_scope.specs.Context.{◌>>=◌, ◌>>◌, rules}
+use Rattle.check_scope.specs.declared.words.BuiltIn.{BuiltIn}
+use Rattle.check_scope.specs.declared.words.BuiltIn.TheVariants.{HGate, XGate, Dup, Measure}
 
 -- ---- short spellings
 

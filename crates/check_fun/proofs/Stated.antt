@@ -1,13 +1,13 @@
 -- A statement is its count and then its step.
 use Rattle.std.proofs.Common.{◌≡◌, refl, sym, subst}
 use Rattle.silq_tree.specs.Syntax.{Statement, Block, block, assign, spread, update, forget, forget_value, phase, choice, loop, return_nothing, return_value, call}
-use Rattle.check_expr.specs.Walk.{Counts, Checker}
-use Rattle.check_expr.specs.Context.{Scope, Check, ◌>>◌, count_statement}
+use Rattle.check_scope.specs.Walk.{Counts, Checker}
+use Rattle.check_scope.specs.Context.{Scope, Check, ◌>>◌, count_statement}
 use Rattle.check_fun.specs.Counting.{Runs, Fails}
-use Rattle.check_expr.specs.State.{State}
+use Rattle.check_scope.specs.State.{State}
 use Rattle.check_fun.specs.Statement.{stmt}
 use Rattle.check_fun.specs.Stepping.{stmt_step}
-use Rattle.check_expr.specs.declared.fault.CheckFault.{CheckFault}
+use Rattle.check_scope.specs.declared.fault.CheckFault.{CheckFault}
 use Rattle.check_fun.proofs.Counted.{runs_then, fails_then, fails_after}
 
 stmt_counted : (st : Statement) (sc : Scope) → stmt st sc ≡ (count_statement >> stmt_step st sc)

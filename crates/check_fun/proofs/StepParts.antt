@@ -12,11 +12,11 @@ use Rattle.silq_tree.specs.Standing.{statements_of, stmt_grown}
 use Rattle.silq_tree.specs.Syntax.{Expression, Statement, Statements}
 use Rattle.silq_tree.proofs.Lists.{stmts_below_front, stmts_below_back}
 use Rattle.silq_types.specs.declared.values.Value.{Value}
-use Rattle.check_expr.specs.Walk.{Counts, Checker}
-use Rattle.check_expr.specs.Context.{Scope}
-use Rattle.check_expr.specs.Library.{Shelf}
-use Rattle.check_expr.specs.State.{State, scope_in}
-use Rattle.check_expr.specs.declared.fault.CheckFault.{CheckFault}
+use Rattle.check_scope.specs.Walk.{Counts, Checker}
+use Rattle.check_scope.specs.Context.{Scope}
+use Rattle.check_scope.specs.Library.{Shelf}
+use Rattle.check_scope.specs.State.{State, scope_in}
+use Rattle.check_scope.specs.declared.fault.CheckFault.{CheckFault}
 use Rattle.check_fun.specs.Counting.{Runs, Fails, checker_at}
 use Rattle.check_fun.specs.Statement.{stmts, body}
 use Rattle.check_fun.specs.Stepping.{stmt_step, forget_step, last_of}

@@ -8,19 +8,19 @@ use Rattle.silq_types.specs.Known.{Signatures}
 use Rattle.silq_types.specs.declared.signature.InstanceKey.{InstanceKey}
 use Rattle.silq_types.specs.declared.signature.Signature.{Signature}
 use Rattle.silq_types.specs.declared.values.Var.{Var}
-use Rattle.check_expr.specs.Walk.{Walk, answer, broken, counted, asked, Met, known, limited, new, meet, Stop, fault, wanted, known_or_stop, with_known, Counts, Checker, known_or_checked, with_counts}
-use Rattle.check_expr.specs.Context.{Context, Check, ◌>>=◌, ◌>>◌, give_back, pass, fail, rules, put_variables, new_place}
+use Rattle.check_scope.specs.Walk.{Walk, answer, broken, counted, asked, Met, known, limited, new, meet, Stop, fault, wanted, known_or_stop, with_known, Counts, Checker, known_or_checked, with_counts}
+use Rattle.check_scope.specs.Context.{Context, Check, ◌>>=◌, ◌>>◌, give_back, pass, fail, rules, put_variables, new_place}
 use Rattle.check_fun.specs.Counting.{Stays, Runs, Fails, checker_at}
-use Rattle.check_expr.specs.Faults.{fault_as, stop_as}
-use Rattle.check_expr.specs.Library.{Shelf}
-use Rattle.check_expr.specs.Reading.{Uncounted}
-use Rattle.check_expr.specs.State.{State, Keeps, scope_in, context_of}
-use Rattle.check_expr.specs.Steps.{Reads, Stops}
+use Rattle.check_scope.specs.Faults.{fault_as, stop_as}
+use Rattle.check_scope.specs.Library.{Shelf}
+use Rattle.check_scope.specs.Reading.{Uncounted}
+use Rattle.check_scope.specs.State.{State, Keeps, scope_in, context_of}
+use Rattle.check_scope.specs.Steps.{Reads, Stops}
 use Rattle.check_fun.specs.Stepping.{fault_in}
-use Rattle.check_expr.specs.declared.fault.CheckFault.{CheckFault}
-use Rattle.check_expr.specs.declared.fault.CheckFault.TheVariants as checks
-use Rattle.check_expr.specs.declared.fault.ExprFault.{ExprFault}
-use Rattle.check_expr.specs.declared.fault.ExprFault.TheVariants as stops
+use Rattle.check_scope.specs.declared.fault.CheckFault.{CheckFault}
+use Rattle.check_scope.specs.declared.fault.CheckFault.TheVariants as checks
+use Rattle.check_scope.specs.declared.fault.ExprFault.{ExprFault}
+use Rattle.check_scope.specs.declared.fault.ExprFault.TheVariants as stops
 use Rattle.check_fun.proofs.Counted.{stays_refl, runs_then, fails_then, fails_after}
 use Rattle.check_expr.proofs.Quiet.{Quiet}
 

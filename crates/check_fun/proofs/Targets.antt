@@ -12,12 +12,12 @@ use Rattle.silq_types.specs.Rules.{rule, unknown_name, used_after_move}
 use Rattle.silq_types.specs.declared.types.Ty.{Ty}
 use Rattle.silq_types.specs.declared.values.Part.{Part}
 use Rattle.silq_types.specs.declared.values.Var.{Var}
-use Rattle.check_expr.specs.Walk.{Counts, Checker}
-use Rattle.check_expr.specs.Context.{Scope, Check, ◌>>=◌, ◌>>◌, rules, fail, variables, all_needed, is_known_name, part_at, part_type, indices, find_var, variable}
+use Rattle.check_scope.specs.Walk.{Counts, Checker}
+use Rattle.check_scope.specs.Context.{Scope, Check, ◌>>=◌, ◌>>◌, rules, fail, variables, all_needed, is_known_name, part_at, part_type, indices, find_var, variable}
 use Rattle.check_fun.specs.Counting.{Stays, Runs, Fails}
-use Rattle.check_expr.specs.State.{State, context_of}
+use Rattle.check_scope.specs.State.{State, context_of}
 use Rattle.check_fun.specs.Statement.{Target, target, target_of, target_type}
-use Rattle.check_expr.specs.declared.fault.CheckFault.{CheckFault}
+use Rattle.check_scope.specs.declared.fault.CheckFault.{CheckFault}
 use Rattle.check_fun.proofs.Counted.{runs_bind, runs_then, runs_variables, fails_bind, fails_then, fails_later, fails_after}
 
 name_of_part : (at : ExprId → Expression) (x : NameId) (i j : Option ExprId) → place_name (part_of at x i j) ≡ x

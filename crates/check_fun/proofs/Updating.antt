@@ -10,15 +10,15 @@ use Rattle.silq_types.specs.Types.{at, names, is_held, is_number, shape_eq, plac
 use Rattle.silq_types.specs.declared.types.Ty.{Ty}
 use Rattle.silq_types.specs.declared.values.Part.{Part}
 use Rattle.silq_types.specs.declared.values.Value.{Value}
-use Rattle.check_expr.specs.Walk.{Counts, Checker}
-use Rattle.check_expr.specs.Context.{Scope, Check, rules, variables, is_in_condition}
+use Rattle.check_scope.specs.Walk.{Counts, Checker}
+use Rattle.check_scope.specs.Context.{Scope, Check, rules, variables, is_in_condition}
 use Rattle.check_fun.specs.Counting.{Stays, Runs, Fails}
 use Rattle.check_expr.specs.Expression.{expr, is_tuple, lone_wants, single}
-use Rattle.check_expr.specs.Library.{Shelf}
-use Rattle.check_expr.specs.State.{State, scope_in}
+use Rattle.check_scope.specs.Library.{Shelf}
+use Rattle.check_scope.specs.State.{State, scope_in}
 use Rattle.check_fun.specs.Statement.{Target, target, update_part, forget_as, static_updated, consumed_there, has_name, needs_number, end_var}
-use Rattle.check_expr.specs.declared.fault.CheckFault.{CheckFault}
-use Rattle.check_expr.specs.declared.need.Need.TheVariants as needs
+use Rattle.check_scope.specs.declared.fault.CheckFault.{CheckFault}
+use Rattle.check_scope.specs.declared.need.Need.TheVariants as needs
 use Rattle.check_fun.proofs.Counted.{runs_bind, runs_then, runs_variables, fails_bind, fails_then, fails_later, fails_after}
 use Rattle.check_fun.proofs.Stepped.{same_scope_after}
 

@@ -6,7 +6,7 @@ use Rattle.silq_tree.specs.Syntax.{Expression, Block, block, Otherwise}
 use Rattle.silq_types.specs.declared.values.Origin.TheVariants.{Linear}
 use Rattle.silq_types.specs.declared.values.Var.{Var}
 use Rattle.silq_types.specs.Types.{is_linear}
-use Rattle.check_expr.specs.Context.{Scope, Check, ◌>>=◌, ◌>>◌}
+use Rattle.check_scope.specs.Context.{Scope, Check, ◌>>=◌, ◌>>◌}
 use Rattle.check_fun.specs.Statement.{none_changed, end_from, condition, both, branch, under, with_static, plain_block, stmts, otherwise, otherwise_end}
 
 -- a branch that began with the variables `before` and comes to its end with `after`

@@ -3,7 +3,7 @@ use Rattle.std.specs.Prelude.{◌≡◌, ℕ, suc, List, [], ◌∷◌, Option, 
 use Rattle.std.specs.Str.{bytes_eq}
 use Rattle.silq_tree.specs.declared.node.NameId.{NameId}
 use Rattle.silq_types.specs.Rules.{Fault, rule, and_then, unknown_name}
-use Rattle.check_expr.specs.Library.{Shelf, functions_of}
+use Rattle.check_scope.specs.Library.{Shelf, functions_of}
 use Rattle.check_fun.specs.Program.{Program, Accepted, all_headers, check}
 
 abbrev pub program_of : Shelf → Program

@@ -4,15 +4,15 @@ ghost use Rattle.std.specs.Prelude.{◌≡◌, ◌<◌, ◌≤◌, length, IfOk,
 ghost use Rattle.silq_tree.specs.Arena.{expr_at};
 ghost use Rattle.check_fun.specs.Counting.{Runs, Fails, checker_at};
 ghost use Rattle.check_expr.specs.Expression.{expr as expr_of};
-ghost use Rattle.check_expr.specs.State.{scope_in};
+ghost use Rattle.check_scope.specs.State.{scope_in};
 
 use crate::instance::instance;
 use crate::tally::Tally;
-use check_expr::context::Context;
+use check_scope::context::Context;
 use check_expr::expr::{ValueList, expr};
-use check_expr::fault::{CheckFault, ExprFault};
-use check_expr::library::Library;
-use check_expr::need::Need;
+use check_scope::fault::{CheckFault, ExprFault};
+use check_scope::library::Library;
+use check_scope::need::Need;
 use silq_tree::ExprId;
 use silq_types::Ty;
 

@@ -6,15 +6,15 @@ ghost use Rattle.silq_tree.specs.Children.{place_exprs, AreExprsBelow, HasFirst}
 ghost use Rattle.silq_tree.specs.Standing.{place_of};
 ghost use Rattle.silq_types.specs.Rules.{held_changed, condition_changed, result_count, bad_part, wrong_type};
 ghost use Rattle.silq_types.specs.Types.{at as spot_at, is_held as held_origin};
-ghost use Rattle.check_expr.specs.Context.{rules, is_in_condition, put_variables};
+ghost use Rattle.check_scope.specs.Context.{rules, is_in_condition, put_variables};
 ghost use Rattle.check_fun.specs.Counting.{Runs, Fails, checker_at};
 ghost use Rattle.check_expr.specs.Expression.{is_tuple as tuple_is, some_linear as linear_some};
-ghost use Rattle.check_expr.specs.State.{State, scope_in};
+ghost use Rattle.check_scope.specs.State.{State, scope_in};
 ghost use Rattle.check_fun.specs.Statement.{consumed_there as consumed_at, all_at as all_there, one_suits as suits_one, with_origin, made_linear, assign_name as name_assigned, assign_part as part_assigned, taken_out};
 ghost use Rattle.check_fun.specs.Stepping.{put_back as back_put, spread_to};
-ghost use Rattle.check_expr.specs.Walk.{Checker, Counts};
-ghost use Rattle.check_expr.specs.declared.fault.CheckFault.TheVariants as checks;
-ghost use Rattle.check_expr.specs.declared.need.Need.TheVariants as needs;
+ghost use Rattle.check_scope.specs.Walk.{Checker, Counts};
+ghost use Rattle.check_scope.specs.declared.fault.CheckFault.TheVariants as checks;
+ghost use Rattle.check_scope.specs.declared.need.Need.TheVariants as needs;
 
 use crate::asking::values;
 use crate::bind::{assigned, is_held, is_linear};
@@ -22,12 +22,13 @@ use crate::plain::{fresh_now, obeyed, suits_now};
 use crate::tally::Tally;
 use crate::target::{Target, target_at};
 use crate::update::consumed_there;
-use check_expr::context::Context;
-use check_expr::fault::CheckFault;
-use check_expr::library::Library;
-use check_expr::need::Need;
-use check_expr::rule;
-use check_expr::values::{is_tuple, spot_of};
+use check_scope::context::Context;
+use check_scope::fault::CheckFault;
+use check_scope::library::Library;
+use check_scope::need::Need;
+use check_scope::rule;
+use check_scope::spots::spot_of;
+use check_expr::values::is_tuple;
 use silq_tree::node::PlaceNode;
 use silq_tree::{ExprId, NameId, Spot};
 use silq_types::{Origin, Part, Ty, Value, Var};
@@ -159,7 +160,7 @@ fn put_back(
     ensures fails { (check : Checker) (c : Counts) → IfErr result (λ f. Fails check (back_put cx.old.held (record { part = target.part; owner = target.owner; ty = target.ty }) count place (expr_at library.now.nodes e) values.now at) cx.old c f) }
 {
     let is_tuple = is_tuple(library, e);
-    obeyed(spot_of(library, e), &[(is_tuple, rule::WRONG_TYPE)])?;
+    obeyed(spot_of(library.tree(), e), &[(is_tuple, rule::WRONG_TYPE)])?;
     one_suits(library, e, target.ty, values)?;
     may_put_back(cx, target, place, values, at)?;
     let linear = some_linear(values);
@@ -185,7 +186,7 @@ pub(crate) fn assign_name(
 {
     let is_tuple = is_tuple(library, e);
     let found = values(library, cx, tally, e, lone_consumed(is_tuple), &[])?;
-    obeyed(spot_of(library, e), &[(is_tuple, rule::WRONG_TYPE)])?;
+    obeyed(spot_of(library.tree(), e), &[(is_tuple, rule::WRONG_TYPE)])?;
     assigned(cx, at, &[name], found.as_slice())?;
     Ok(())
 }

@@ -4,21 +4,21 @@ ghost use Rattle.std.specs.Prelude.{◌≡◌, ◌∷◌, [], None, true, false,
 ghost use Rattle.silq_types.specs.Rules.{rule as rule_at, name_taken, held_changed, condition_changed, linear_left};
 ghost use Rattle.silq_types.specs.Types.{value_of as static_value_of, is_held as held_origin, is_linear as linear_origin};
 ghost use Rattle.static_num.specs.Static.{value_of_name};
-ghost use Rattle.check_expr.specs.Context.{rules, find_var, variable, is_in_condition};
+ghost use Rattle.check_scope.specs.Context.{rules, find_var, variable, is_in_condition};
 ghost use Rattle.check_fun.specs.Counting.{Runs, Fails};
-ghost use Rattle.check_expr.specs.Faults.{fault_as};
-ghost use Rattle.check_expr.specs.Library.{Shelf};
-ghost use Rattle.check_expr.specs.State.{scope_in};
+ghost use Rattle.check_scope.specs.Faults.{fault_as};
+ghost use Rattle.check_scope.specs.Library.{Shelf};
+ghost use Rattle.check_scope.specs.State.{scope_in};
 ghost use Rattle.check_fun.specs.Statement.{any_name, passes, is_held_var, is_live_linear as live_linear, overwrites_linear, bind_name, bind_names, assigned as names_assigned};
 ghost use Rattle.check_fun.specs.Stepping.{next_bound};
-ghost use Rattle.check_expr.specs.Walk.{Checker, Counts};
-ghost use Rattle.check_expr.specs.declared.fault.CheckFault.TheVariants as checks;
+ghost use Rattle.check_scope.specs.Walk.{Checker, Counts};
+ghost use Rattle.check_scope.specs.declared.fault.CheckFault.TheVariants as checks;
 
 use crate::plain::obeyed;
 use crate::target::variable_part;
-use check_expr::context::Context;
-use check_expr::fault::CheckFault;
-use check_expr::rule;
+use check_scope::context::Context;
+use check_scope::fault::CheckFault;
+use check_scope::rule;
 use silq_tree::{NameId, Spot};
 use silq_types::{Origin, Value, Var};
 

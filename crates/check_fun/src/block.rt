@@ -5,14 +5,14 @@ ghost use Rattle.silq_tree.specs.Arena.{expr_at, stmt_at};
 ghost use Rattle.silq_tree.specs.Children.{AreStmtsBelow, else_stmts};
 ghost use Rattle.silq_tree.specs.Standing.{statements_of, block_of, otherwise_of};
 ghost use Rattle.check_fun.specs.Counting.{Runs, Fails, checker_at, choice_step, loop_step};
-ghost use Rattle.check_expr.specs.Library.{function_at};
-ghost use Rattle.check_expr.specs.State.{scope_in};
+ghost use Rattle.check_scope.specs.Library.{function_at};
+ghost use Rattle.check_scope.specs.State.{scope_in};
 ghost use Rattle.check_fun.specs.Statement.{stmts as stmts_of, plain_block, branch as branch_of, both as both_of, otherwise, otherwise_end, condition as condition_of, any_name, is_static_param};
 ghost use Rattle.check_fun.specs.Branches.{run_time_choice, taken_branch};
-ghost use Rattle.check_expr.specs.Context.{is_variable};
-ghost use Rattle.check_expr.specs.Uses.{uses, parts_of};
-ghost use Rattle.check_expr.specs.declared.fault.CheckFault.TheVariants as checks;
-ghost use Rattle.check_expr.specs.declared.need.Need.TheVariants as needs;
+ghost use Rattle.check_scope.specs.Context.{is_variable};
+ghost use Rattle.check_scope.specs.Uses.{uses, parts_of};
+ghost use Rattle.check_scope.specs.declared.fault.CheckFault.TheVariants as checks;
+ghost use Rattle.check_scope.specs.declared.need.Need.TheVariants as needs;
 ghost use Rattle.silq_types.specs.Rules.{not_static};
 ghost use Rattle.silq_types.specs.Types.{at as spot_at, is_bit as is_bit_shape, same_name};
 ghost use Rattle.static_num.specs.Static.{is_true};
@@ -22,14 +22,15 @@ use crate::branch::{copied, end_branch, end_of_else, items_of, joined};
 use crate::ends::end_from;
 use crate::rounds::rounds;
 use crate::statement::statement;
-use crate::steps_of_block::{needed_now, obey_now, single_now, spot_at_first};
+use crate::steps_of_block::{needed_now, obey_now, single_now};
 use crate::tally::Tally;
-use check_expr::context::{Context, PartList};
-use check_expr::fault::CheckFault;
-use check_expr::library::Library;
-use check_expr::need::Need;
-use check_expr::rule;
-use check_expr::uses::uses_of;
+use check_scope::context::{Context, PartList};
+use check_scope::fault::CheckFault;
+use check_scope::library::Library;
+use check_scope::need::Need;
+use check_scope::rule;
+use check_scope::spots::spot_of;
+use check_scope::uses::uses_of;
 use silq_tree::{Block, Else, ExprId, NameId, Spot, StmtId};
 use silq_types::{Part, Shape, Ty};
 use static_num::{StaticFault, eval};
@@ -175,7 +176,7 @@ fn condition(
     let found = values(library, cx, tally, cond, Need::Held, &[])?;
     let value = single_now(library, cond, found.as_slice())?;
     obey_now(
-        spot_at_first(library, cond),
+        spot_of(library.tree(), cond),
         !is_bit(&value.ty),
         rule::WRONG_TYPE,
     )?;
@@ -254,7 +255,7 @@ fn no_value(library: &Library, cond: ExprId) -> CheckFault
 {
     CheckFault::Broken {
         rule: rule::NOT_STATIC,
-        at: spot_at_first(library, cond),
+        at: spot_of(library.tree(), cond),
     }
 }
 

@@ -2,14 +2,14 @@
 
 ghost use Rattle.std.specs.Prelude.{◌≡◌, drop, IfErr, OnOk};
 ghost use Rattle.check_fun.specs.Counting.{Runs, Fails};
-ghost use Rattle.check_expr.specs.State.{State};
+ghost use Rattle.check_scope.specs.State.{State};
 ghost use Rattle.check_fun.specs.Statement.{is_live_linear as live_linear, none_left as none_left_of, end_from as end_of};
-ghost use Rattle.check_expr.specs.Walk.{Checker, Counts};
+ghost use Rattle.check_scope.specs.Walk.{Checker, Counts};
 
 use crate::steps_of_block::obey_now;
-use check_expr::context::Context;
-use check_expr::fault::CheckFault;
-use check_expr::rule;
+use check_scope::context::Context;
+use check_scope::fault::CheckFault;
+use check_scope::rule;
 use silq_tree::Spot;
 use silq_types::{Origin, Var};
 

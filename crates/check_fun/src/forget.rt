@@ -5,12 +5,12 @@ ghost use Rattle.silq_tree.specs.Arena.{expr_at};
 ghost use Rattle.silq_types.specs.Rules.{used_after_move, held_changed, condition_changed, not_droppable, bad_forget};
 ghost use Rattle.silq_types.specs.Types.{at as spot_at, is_held as held_origin, shape_eq, names as names_in};
 ghost use Rattle.static_num.specs.Angle.{angle_of};
-ghost use Rattle.check_expr.specs.Context.{rules, is_in_condition, find_var};
+ghost use Rattle.check_scope.specs.Context.{rules, is_in_condition, find_var};
 ghost use Rattle.check_fun.specs.Counting.{Runs, Fails, checker_at};
 ghost use Rattle.check_expr.specs.Expression.{is_qfree as qfree_mark};
-ghost use Rattle.check_expr.specs.State.{State, scope_in};
+ghost use Rattle.check_scope.specs.State.{State, scope_in};
 ghost use Rattle.check_fun.specs.Statement.{Target as Targets, angle_rule as rule_of_angle, phase_of, forget_name as name_forgotten, forget_as as forgotten_as, consumed_there as consumed_at, is_droppable as droppable_origin, has_name, end_var as var_ended};
-ghost use Rattle.check_expr.specs.Walk.{Checker, Counts};
+ghost use Rattle.check_scope.specs.Walk.{Checker, Counts};
 
 use crate::asking::values;
 use crate::bind::is_held;
@@ -21,12 +21,13 @@ use crate::steps_of_block::single_now;
 use crate::tally::Tally;
 use crate::target::{Target, target_at};
 use crate::update::{consumed_there, lone_wants};
-use check_expr::context::Context;
-use check_expr::fault::CheckFault;
-use check_expr::library::Library;
-use check_expr::need::Need;
-use check_expr::rule;
-use check_expr::values::{is_same_shape, is_tuple, spot_of};
+use check_scope::context::Context;
+use check_scope::fault::CheckFault;
+use check_scope::library::Library;
+use check_scope::need::Need;
+use check_scope::rule;
+use check_scope::spots::spot_of;
+use check_expr::values::{is_same_shape, is_tuple};
 use silq_io::What;
 use silq_tree::node::PlaceNode;
 use silq_tree::{ExprId, Mark, NameId, Spot};
@@ -94,11 +95,11 @@ fn angle_now(library: &Library, cx: &Context, e: ExprId) -> Result<(), CheckFaul
         Ok(_) => Ok(()),
         Err(AngleFault::NotEighth) => Err(CheckFault::Unsupported {
             what: What::Angle,
-            at: spot_of(library, e),
+            at: spot_of(library.tree(), e),
         }),
         Err(AngleFault::Static(_)) => Err(CheckFault::Broken {
             rule: rule::NOT_STATIC,
-            at: spot_of(library, e),
+            at: spot_of(library.tree(), e),
         }),
     }
 }

@@ -3,19 +3,19 @@
 ghost use Rattle.std.specs.Prelude.{◌≡◌, ◌<◌, ◌≤◌, length, Ok, None, IfErr, OnOk};
 ghost use Rattle.silq_types.specs.declared.signature.Signature.{Signature as Signed};
 ghost use Rattle.silq_types.specs.Known.{signature_of};
-ghost use Rattle.check_expr.specs.Headers.{spot_or};
-ghost use Rattle.check_expr.specs.Library.{before_at, function_at};
+ghost use Rattle.check_scope.specs.Headers.{spot_or};
+ghost use Rattle.check_scope.specs.Library.{before_at, function_at};
 ghost use Rattle.check_fun.specs.Program.{instances, check_one as one_of};
-ghost use Rattle.check_expr.specs.Steps.{IsFirst};
+ghost use Rattle.check_scope.specs.Steps.{IsFirst};
 
 use crate::body::whole_body;
 use crate::params::{add_params, static_values};
 use crate::results::signature_of_body;
 use crate::tally::Tally;
-use check_expr::context::Context;
-use check_expr::fault::CheckFault;
-use check_expr::header::header_types;
-use check_expr::library::Library;
+use check_scope::context::Context;
+use check_scope::fault::CheckFault;
+use check_scope::header::header_types;
+use check_scope::library::Library;
 use silq_tree::Spot;
 use silq_types::InstanceKey;
 

@@ -7,7 +7,7 @@ ghost use Rattle.silq_tree.specs.Standing.{expressions_of};
 ghost use Rattle.silq_types.specs.Types.{names as names_in, all_names};
 ghost use Rattle.check_fun.specs.Statement.{has_name};
 
-use check_expr::library::Library;
+use check_scope::library::Library;
 use silq_tree::node::ScalarNode;
 use silq_tree::{Expr, ExprId, NameId, Tree};
 

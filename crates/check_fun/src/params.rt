@@ -6,8 +6,8 @@ ghost use Rattle.silq_tree.specs.Standing.{param_of};
 ghost use Rattle.check_expr.specs.Expression.{paired};
 ghost use Rattle.check_fun.specs.Program.{param_vars, param_origin as origin_of_param};
 
-use check_expr::context::Context;
-use check_expr::library::Library;
+use check_scope::context::Context;
+use check_scope::library::Library;
 use silq_tree::NameId;
 use silq_tree::node::ParamNode;
 use silq_types::{Origin, Param, ParamList, Part, Var};

@@ -3,7 +3,7 @@
 ghost use Rattle.std.specs.Prelude.{◌≡◌, suc, ◌<◌, ◌^◌, ◌-◌, length, IfOk};
 ghost use Rattle.check_fun.specs.Program.{given_on, returned_as};
 
-use check_expr::context::Context;
+use check_scope::context::Context;
 use check_expr::expr::ValueList;
 use silq_tree::Mark;
 use silq_types::{ParamList, ResultList, Returned, Signature, Ty, Value};

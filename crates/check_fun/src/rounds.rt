@@ -6,14 +6,14 @@ ghost use Rattle.silq_tree.specs.Children.{AreStmtsBelow};
 ghost use Rattle.silq_tree.specs.Standing.{block_of};
 ghost use Rattle.check_fun.specs.Branches.{round_of};
 ghost use Rattle.check_fun.specs.Counting.{Runs, Fails, checker_at};
-ghost use Rattle.check_expr.specs.State.{scope_in};
+ghost use Rattle.check_scope.specs.State.{scope_in};
 ghost use Rattle.check_fun.specs.Statement.{rounds as rounds_of, distance};
 
 use crate::block::plain;
 use crate::tally::Tally;
-use check_expr::context::Context;
-use check_expr::fault::CheckFault;
-use check_expr::library::Library;
+use check_scope::context::Context;
+use check_scope::fault::CheckFault;
+use check_scope::library::Library;
 use silq_tree::{Block, NameId};
 
 /// Checks a loop's body with this value of its variable.

@@ -5,7 +5,7 @@ ghost use Rattle.silq_tree.specs.Arena.{expr_at, stmt_at};
 ghost use Rattle.silq_tree.specs.Children.{place_exprs, AreExprsBelow, HasFirst};
 ghost use Rattle.silq_tree.specs.Standing.{place_of};
 ghost use Rattle.check_fun.specs.Counting.{Runs, Fails, checker_at};
-ghost use Rattle.check_expr.specs.State.{scope_in};
+ghost use Rattle.check_scope.specs.State.{scope_in};
 ghost use Rattle.check_fun.specs.Statement.{stmt as stmt_of, assign_to};
 ghost use Rattle.check_fun.specs.Stepping.{forget_step, stmt_step, misplaced_step, unused_step};
 
@@ -17,11 +17,11 @@ use crate::plain::obeyed;
 use crate::returns::returned;
 use crate::tally::Tally;
 use crate::update::update_part;
-use check_expr::context::Context;
-use check_expr::fault::CheckFault;
-use check_expr::library::Library;
-use check_expr::need::Need;
-use check_expr::rule;
+use check_scope::context::Context;
+use check_scope::fault::CheckFault;
+use check_scope::library::Library;
+use check_scope::need::Need;
+use check_scope::rule;
 use silq_tree::node::PlaceNode;
 use silq_tree::{ExprId, NameId, Spot, Stmt, StmtId};
 

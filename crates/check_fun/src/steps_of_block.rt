@@ -3,38 +3,22 @@
 ghost use Rattle.std.specs.Prelude.{◌≡◌, ◌<◌, [], ◌∷◌, length, Ok, Err, IfOk, IfErr, OnOk};
 ghost use Rattle.silq_tree.specs.Arena.{expr_at};
 ghost use Rattle.silq_types.specs.declared.signature.InstanceKey.{InstanceKey};
-ghost use Rattle.silq_types.specs.Types.{at as spot_at};
-ghost use Rattle.check_expr.specs.Context.{needed, rules};
+ghost use Rattle.check_scope.specs.Context.{needed, rules};
 ghost use Rattle.check_fun.specs.Counting.{Runs, Fails};
-ghost use Rattle.check_expr.specs.Expression.{is_tuple as tuple_is, single};
-ghost use Rattle.check_expr.specs.State.{State, scope_in};
-ghost use Rattle.check_expr.specs.Walk.{Checker, Counts};
-ghost use Rattle.check_expr.specs.declared.fault.ExprFault.TheVariants as stops;
+ghost use Rattle.check_expr.specs.Expression.{single};
+ghost use Rattle.check_scope.specs.State.{State, scope_in};
+ghost use Rattle.check_scope.specs.Walk.{Checker, Counts};
+ghost use Rattle.check_scope.specs.declared.fault.ExprFault.TheVariants as stops;
 
-use check_expr::context::Context;
-use check_expr::fault::{CheckFault, ExprFault};
-use check_expr::library::Library;
-use check_expr::places::needed as needed_value;
-use check_expr::rule;
-use silq_tree::{Expr, ExprId, Spot};
+use check_scope::context::Context;
+use check_scope::fault::{CheckFault, ExprFault};
+use check_scope::library::Library;
+use check_scope::places::needed as needed_value;
+use check_scope::rule;
+use check_scope::spots::spot_of;
+use check_expr::values::is_tuple;
+use silq_tree::{ExprId, Spot};
 use silq_types::Value;
-
-/// The place of an expression's first token.
-pub(crate) fn spot_at_first(library: &Library, e: ExprId) -> Spot
-    requires { e.number < length library.now.nodes.exprs }
-    ensures { result ≡ spot_at (expr_at library.now.nodes e) }
-{
-    match library.tree().expr(e) {
-        Expr::Number { at, .. } => *at,
-        Expr::Truth { at, .. } => *at,
-        Expr::Pi { at } => *at,
-        Expr::Place { at, .. } => *at,
-        Expr::Call { at, .. } => *at,
-        Expr::Tuple { at, .. } => *at,
-        Expr::Unary { at, .. } => *at,
-        Expr::Binary { at, .. } => *at,
-    }
-}
 
 /// The result of a step that asks for no instance.
 fn told<T>(step: Result<T, ExprFault>) -> Result<T, CheckFault>
@@ -72,17 +56,6 @@ pub(crate) fn obey_now(at: Spot, broken: bool, rule: u8) -> Result<(), CheckFaul
     }
 }
 
-/// Whether an expression is a tuple.
-fn is_tuple(library: &Library, e: ExprId) -> bool
-    requires { e.number < length library.now.nodes.exprs }
-    ensures { result ≡ tuple_is (expr_at library.now.nodes e) }
-{
-    match library.tree().expr(e) {
-        Expr::Tuple { .. } => true,
-        _ => false,
-    }
-}
-
 /// One value, where just one may stand.
 pub(crate) fn single_now(
     library: &Library,
@@ -96,14 +69,14 @@ pub(crate) fn single_now(
     if is_tuple(library, e) {
         return Err(CheckFault::Broken {
             rule: rule::WRONG_TYPE,
-            at: spot_at_first(library, e),
+            at: spot_of(library.tree(), e),
         });
     }
     match values {
         [value] => Ok(*value),
         _ => Err(CheckFault::Broken {
             rule: rule::RESULT_COUNT,
-            at: spot_at_first(library, e),
+            at: spot_of(library.tree(), e),
         }),
     }
 }

@@ -2,13 +2,13 @@
 
 ghost use Rattle.std.specs.Prelude.{◌≡◌, [], None, IfErr, OnOk, OnErr};
 ghost use Rattle.silq_types.specs.Known.{signature_of};
-ghost use Rattle.check_expr.specs.Context.{count_statement};
+ghost use Rattle.check_scope.specs.Context.{count_statement};
 ghost use Rattle.check_fun.specs.Counting.{Runs, Fails};
 ghost use Rattle.check_fun.specs.Program.{with_instance};
-ghost use Rattle.check_expr.specs.State.{State};
-ghost use Rattle.check_expr.specs.Walk.{Checker};
+ghost use Rattle.check_scope.specs.State.{State};
+ghost use Rattle.check_scope.specs.Walk.{Checker};
 
-use check_expr::fault::CheckFault;
+use check_scope::fault::CheckFault;
 use silq_io::LimitKind;
 use silq_types::{InstanceKey, Known, Signature};
 use std::alloc::{AllocError, Global};
@@ -22,7 +22,7 @@ pub struct Tally {
 }
 
 impl Model for Tally {
-    ghost use Rattle.check_expr.specs.Walk.{Counts};
+    ghost use Rattle.check_scope.specs.Walk.{Counts};
 
     ghost Value = { Counts };
 

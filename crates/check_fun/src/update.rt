@@ -8,11 +8,11 @@ ghost use Rattle.silq_tree.specs.Children.{place_exprs, AreExprsBelow, HasFirst}
 ghost use Rattle.silq_tree.specs.Standing.{place_of};
 ghost use Rattle.silq_types.specs.Rules.{used_after_move, held_changed, condition_changed, bad_update};
 ghost use Rattle.silq_types.specs.Types.{is_held as held_origin, is_number as number_shape, shape_eq, names as names_in};
-ghost use Rattle.check_expr.specs.Context.{rules, is_in_condition, find_var};
+ghost use Rattle.check_scope.specs.Context.{rules, is_in_condition, find_var};
 ghost use Rattle.check_fun.specs.Counting.{Runs, Fails, checker_at};
-ghost use Rattle.check_expr.specs.State.{State, scope_in};
+ghost use Rattle.check_scope.specs.State.{State, scope_in};
 ghost use Rattle.check_fun.specs.Statement.{consumed_there as consumed_at, has_name, needs_number as number_needed, static_updated as updated_static, update_part as part_updated};
-ghost use Rattle.check_expr.specs.Walk.{Checker, Counts};
+ghost use Rattle.check_scope.specs.Walk.{Checker, Counts};
 
 use crate::asking::values;
 use crate::bind::is_held;
@@ -21,12 +21,13 @@ use crate::plain::obeyed;
 use crate::steps_of_block::single_now;
 use crate::tally::Tally;
 use crate::target::{Target, target_at};
-use check_expr::context::Context;
-use check_expr::fault::CheckFault;
-use check_expr::library::Library;
-use check_expr::need::Need;
-use check_expr::rule;
-use check_expr::values::{is_same_shape, is_tuple, spot_of};
+use check_scope::context::Context;
+use check_scope::fault::CheckFault;
+use check_scope::library::Library;
+use check_scope::need::Need;
+use check_scope::rule;
+use check_scope::spots::spot_of;
+use check_expr::values::{is_same_shape, is_tuple};
 use silq_tree::node::PlaceNode;
 use silq_tree::{ExprId, NameId, Spot, UpdateOp};
 use silq_types::{Part, Shape, Ty, Value};
@@ -149,7 +150,7 @@ pub(crate) fn update_part(
     )?;
     let value = single_now(library, e, found.as_slice())?;
     let is_same = is_same_shape(target.ty.shape, value.ty.shape);
-    obeyed(spot_of(library, e), &[(!is_same, rule::WRONG_TYPE)])?;
+    obeyed(spot_of(library.tree(), e), &[(!is_same, rule::WRONG_TYPE)])?;
     may_update(library, cx, target, place.name, op, e, at)?;
     Ok(())
 }

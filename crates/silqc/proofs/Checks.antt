@@ -8,11 +8,11 @@ use Rattle.silq_parse.specs.Faults.{first_fault}
 use Rattle.silq_parse.specs.Functions.{AreInOrder}
 use Rattle.silq_parse.specs.Stands.{StandsFor}
 use Rattle.silq_types.specs.Rules.{Fault}
-use Rattle.check_expr.specs.declared.fault.CheckFault.{CheckFault}
-use Rattle.check_expr.specs.Faults.{fault_as}
-use Rattle.check_expr.specs.Library.{AreFunsBelow}
-use Rattle.check_expr.specs.Steps.{IsFirst}
-use Rattle.check_expr.specs.Words.{words_of}
+use Rattle.check_scope.specs.declared.fault.CheckFault.{CheckFault}
+use Rattle.check_scope.specs.Faults.{fault_as}
+use Rattle.check_scope.specs.Library.{AreFunsBelow}
+use Rattle.check_scope.specs.Steps.{IsFirst}
+use Rattle.check_scope.specs.Words.{words_of}
 use Rattle.check_fun.specs.Entry.{check_named, number_of_name}
 use Rattle.check_fun.specs.Program.{Accepted}
 use Rattle.silqc.specs.declared.status.Status.{Status}

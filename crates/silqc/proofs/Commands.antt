@@ -8,9 +8,10 @@ use Rattle.silq_io.specs.Sinks.{Adds}
 use Rattle.silqc.specs.declared.status.Status.{Status}
 use Rattle.silqc.specs.declared.status.Status.TheVariants.{Done, Syntax, Names, Typing, Unsupported, Limit}
 use Rattle.silqc.specs.Job.{Job, IsJob, AreStatics, CheckJob, IsCheckJob}
-use Rattle.silqc.specs.Command.{Command, compile, check, IsCommand, ForCommand, file_of, EndsWell, HasFault, OfCheck}
+use Rattle.silqc.specs.Command.{Command, compile, check, IsCommand, ForCommand, file_of, EndsWell, HasFault, OfCheck, EndsByAnswer}
 use Rattle.silqc.specs.Ending.{EndsCheck, Tells}
 use Rattle.silqc.specs.Typed.{BreaksRule, HasUnsupported, PassesLimit}
+use Rattle.silqc.proofs.Answered.{told_exactly}
 
 one_job : (words : List (List ℕ)) (j k : Job) → IsJob words j → IsJob words k → j ≡ k
 one_job words j k h g =
@@ -92,6 +93,21 @@ module _ (words : List (List ℕ)) (held : List ℕ → Option (List ℕ)) (stat
 
   pub at_limit : (which : LimitKind) (count : ℕ) → status ≡ Limit which count → ForCommand words held (OfCheck (PassesLimit which count))
   at_limit which count e = of_check (Limit which count) (OfCheck (PassesLimit which count)) e (λ bytes h. h)
+
+  pub answered : ForCommand words held (EndsByAnswer status)
+  answered = only_check words job (λ c. IfSome (held (file_of c)) (EndsByAnswer status c)) is (by (held job.file) (tells job is))
+    where
+      by : (o : Option (List ℕ)) → IfSome o (λ bytes. Tells job bytes status) → IfSome o (EndsByAnswer status (check job))
+      by None t = tt
+      by (Some bytes) t = λ answer a. told_exactly job bytes answer a status ends t
+
+-- of a compilation this says nothing
+pub unanswered : (words : List (List ℕ)) (held : List ℕ → Option (List ℕ)) (status : Status) (job : Job) → IsJob words job → ForCommand words held (EndsByAnswer status)
+unanswered words held status job is = only_job words job (λ c. IfSome (held (file_of c)) (EndsByAnswer status c)) is (by (held job.file))
+  where
+    by : (o : Option (List ℕ)) → IfSome o (EndsByAnswer status (compile job))
+    by None = tt
+    by (Some bytes) = tt
 
 pub nothing_put : (put : Option (List ℕ)) → Adds put put []
 nothing_put None = tt

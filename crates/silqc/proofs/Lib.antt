@@ -10,6 +10,7 @@ pub mod Faults
 pub mod Programs
 pub mod Ends
 pub mod Checks
+pub mod Answered
 pub mod Commands
 pub mod FormTrees
 pub mod FormNames

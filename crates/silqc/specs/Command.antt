@@ -1,10 +1,14 @@
 -- The commands, and what is said of each.
-use Rattle.std.specs.Prelude.{◌≡◌, ℕ, List, [], Option, Some, IfSome}
+use Rattle.std.specs.Prelude.{◌≡◌, ℕ, List, [], Option, Some, IfSome, Result}
 use Rattle.silq_io.specs.Sinks.{Adds}
 use Rattle.silqc.specs.Job.{Job, IsJob, CheckJob, IsCheckJob}
 use Rattle.silqc.specs.Program.{FileFault, first_file_fault}
 use Rattle.silqc.specs.Headline.{PutsText}
-use Rattle.silqc.specs.Typed.{IsAccepted}
+use Rattle.silq_types.specs.Rules.{Fault}
+use Rattle.check_fun.specs.Program.{Accepted}
+use Rattle.silqc.specs.declared.status.Status.{Status}
+use Rattle.silqc.specs.Ending.{status_of, EndsBy}
+use Rattle.silqc.specs.Typed.{IsAccepted, Answers}
 
 pub data Command : Type 0 where
   compile : Job → Command
@@ -43,3 +47,8 @@ OfCheck P (check job) bytes = P job bytes
 abbrev pub OfCompile : (Job → List ℕ → Type 0) → Command → List ℕ → Type 0
 OfCompile P (compile job) bytes = P job bytes
 OfCompile P (check job) bytes = ⊥
+
+-- a check of a program ends as the answer of its check says, a fault of reading and want of memory aside
+abbrev pub EndsByAnswer : Status → Command → List ℕ → Type 0
+EndsByAnswer status (compile job) bytes = Unit {0}
+EndsByAnswer status (check job) bytes = (answer : Result Accepted Fault) → Answers job bytes answer → EndsBy (status_of answer) status

@@ -1,10 +1,12 @@
 -- How a command ends, and what the end of a check tells of the file's bytes.
-use Rattle.std.specs.Prelude.{◌≡◌, ℕ, ◌<◌, ◌≤◌, List, Some}
+use Rattle.std.specs.Prelude.{◌≡◌, ℕ, suc, ◌<◌, ◌≤◌, nat_lt, if◌then◌else◌, ◌⊎◌, List, Some, Result, Ok, Err}
+use Rattle.silq_types.specs.Rules.{Fault, rule, unsupported, over}
+use Rattle.check_fun.specs.Program.{Accepted}
 use Rattle.silqc.specs.declared.status.Status.{Status}
 use Rattle.silqc.specs.declared.status.Status.TheVariants.{Done, Words, ReadFault, Syntax, Names, Typing, Unsupported, Limit, OverBudget, WriteFault, Memory, Unbuilt}
 use Rattle.silqc.specs.Job.{CheckJob}
 use Rattle.silqc.specs.Program.{first_file_fault}
-use Rattle.silqc.specs.Typed.{IsAccepted, BreaksRule, HasUnsupported, PassesLimit}
+use Rattle.silqc.specs.Typed.{IsAccepted, BreaksRule, HasUnsupported, PassesLimit, most}
 
 -- a check ends so; rules 1 and 2 are those of names
 abbrev pub EndsCheck : Status → Type 0
@@ -35,6 +37,17 @@ Tells job bytes (OverBudget least budget) = ⊥
 Tells job bytes WriteFault = ⊥
 Tells job bytes Memory = Unit {0}
 Tells job bytes Unbuilt = ⊥
+
+-- the status of a check with this answer; rules 1 and 2 are those of names
+abbrev pub status_of : Result Accepted Fault → Status
+status_of (Ok a) = Done
+status_of (Err (rule n at)) = if nat_lt 2 n then Typing n at.line at.col else Names n at.line at.col
+status_of (Err (unsupported what at)) = Unsupported what at.line at.col
+status_of (Err (over which)) = Limit which (suc (most which))
+
+-- the status is the wanted one; a fault of reading and want of memory may come before it
+abbrev pub EndsBy : Status → Status → Type 0
+EndsBy wanted status = (status ≡ wanted) ⊎ ((status ≡ ReadFault) ⊎ (status ≡ Memory))
 
 -- a compilation ends so
 abbrev pub EndsCompile : Status → Type 0

@@ -10,8 +10,8 @@ use Rattle.silq_grammar.specs.Spelled.{program_text}
 use Rattle.silq_grammar.specs.Trees.{program_tree}
 use Rattle.silq_parse.specs.Lexed.{all_tokens, names_of}
 use Rattle.silq_types.specs.Rules.{Fault, rule, unsupported, over}
-use Rattle.check_expr.specs.Walk.{most_walked, most_instances, deepest}
-use Rattle.check_expr.specs.Words.{words_of}
+use Rattle.check_scope.specs.Walk.{most_walked, most_instances, deepest}
+use Rattle.check_scope.specs.Words.{words_of}
 use Rattle.check_fun.specs.Entry.{check_named, number_of_name}
 use Rattle.check_fun.specs.Program.{Accepted}
 use Rattle.silqc.specs.Job.{CheckJob}

@@ -1,7 +1,7 @@
 //! The check of a file.
 
 ghost use Rattle.std.specs.Prelude.{◌≡◌, ◌≢◌, ℕ, ◌≤◌, List, [], Some, Err, IfSome, length};
-ghost use Rattle.check_expr.specs.Faults.{fault_as};
+ghost use Rattle.check_scope.specs.Faults.{fault_as};
 ghost use Rattle.silq_io.specs.Counts.{Rose};
 ghost use Rattle.silqc.specs.Ending.{EndsCheck, Tells};
 ghost use Rattle.silqc.specs.Job.{CheckJob as CheckWords};

@@ -8,7 +8,7 @@ ghost use Rattle.silq_io.specs.declared.fault.What.{What};
 ghost use Rattle.silq_io.specs.declared.limit.LimitKind.{LimitKind};
 ghost use Rattle.silqc.specs.Ending.{EndsCheck, EndsCompile, Tells};
 ghost use Rattle.silqc.specs.Job.{IsCheckJob, CheckJob as CheckWords};
-ghost use Rattle.silqc.specs.Command.{Command, IsCommand, ForCommand, file_of, EndsWell, HasFault, OfCheck, OfCompile};
+ghost use Rattle.silqc.specs.Command.{Command, IsCommand, ForCommand, file_of, EndsWell, HasFault, OfCheck, OfCompile, EndsByAnswer};
 ghost use Rattle.silq_io.specs.declared.fault.SyntaxCause.{SyntaxCause};
 ghost use Rattle.silqc.specs.Headline.{PutsText, BreaksText, HasOtherForm, NeedsMore};
 ghost use Rattle.silqc.specs.Program.{first_file_fault};
@@ -57,6 +57,7 @@ pub fn silqc<F: Files, S: Sink, N: Sink>(
     ensures typing { (rule line col : ℕ) → result ≡ Status.Typing rule line col → (2 < rule) × ForCommand words.now (F.held files.old) (OfCheck (BreaksRule rule line col)) }
     ensures unsupported { (what : What) (line col : ℕ) → result ≡ Status.Unsupported what line col → ForCommand words.now (F.held files.old) (OfCheck (HasUnsupported what line col)) }
     ensures limit { (which : LimitKind) (count : ℕ) → result ≡ Status.Limit which count → ForCommand words.now (F.held files.old) (OfCheck (PassesLimit which count)) }
+    ensures answered { ForCommand words.now (F.held files.old) (EndsByAnswer result) }
     ensures unbuilt { result ≡ Status.Unbuilt → ForCommand words.now (F.held files.old) (OfCompile HasOtherForm) }
     ensures over_budget { (least budget : ℕ) → result ≡ Status.OverBudget least budget → ForCommand words.now (F.held files.old) (OfCompile (NeedsMore least budget)) }
     ensures write_fault { result ≡ Status.WriteFault → Rose (S.faults out.old) (S.faults out.new) }
@@ -88,6 +89,7 @@ fn run<F: Files, S: Sink>(alloc: Global, words: &Words, files: &mut F, out: &mut
     ensures typing { (rule line col : ℕ) → result ≡ Status.Typing rule line col → (2 < rule) × ForCommand words.now (F.held files.old) (OfCheck (BreaksRule rule line col)) }
     ensures unsupported { (what : What) (line col : ℕ) → result ≡ Status.Unsupported what line col → ForCommand words.now (F.held files.old) (OfCheck (HasUnsupported what line col)) }
     ensures limit { (which : LimitKind) (count : ℕ) → result ≡ Status.Limit which count → ForCommand words.now (F.held files.old) (OfCheck (PassesLimit which count)) }
+    ensures answered { ForCommand words.now (F.held files.old) (EndsByAnswer result) }
     ensures unbuilt { result ≡ Status.Unbuilt → ForCommand words.now (F.held files.old) (OfCompile HasOtherForm) }
     ensures over_budget { (least budget : ℕ) → result ≡ Status.OverBudget least budget → ForCommand words.now (F.held files.old) (OfCompile (NeedsMore least budget)) }
     ensures write_fault { result ≡ Status.WriteFault → Rose (S.faults out.old) (S.faults out.new) }

@@ -2,11 +2,11 @@ use Rattle.std.proofs.Common.{rules, ◌≡◌, ◌+◌, ◌<◌, ◌≤◌, len
 use Rattle.silq_tree.specs.Arena.{expr_at, stmt_at}
 use Rattle.silq_tree.proofs.Lists.{stmt_below, stmt_below_top, stmts_top, exprs_below_front, exprs_below_back, stmts_below_front, stmts_below_back, stmts_below_more, stmts_top_le}
 use Rattle.silq_tree.specs.Children.{else_stmts, AreStmtsBelow, AreExprsBelow, listed, place_exprs, stmt_exprs, stmt_stmts, StmtHasFirst}
-use Rattle.check_expr.specs.State.{State, scope_in}
+use Rattle.check_scope.specs.State.{State, scope_in}
 use Rattle.check_fun.proofs.BlockLevels.{level, level_less}
 use Rattle.check_fun.proofs.BlockSteps.{if_err_from, ahead_start, stmts_more, stmts_stop, stmts_all}
 use Rattle.silq_tree.specs.Standing.{statements_of, otherwise_of, block_of, place_of, stmt_grown}
-use Rattle.check_expr.specs.Context.{Scope}
+use Rattle.check_scope.specs.Context.{Scope}
 use Rattle.check_fun.specs.Counting.{checker_at, Runs, Fails}
 use Rattle.check_fun.specs.Statement.{stmts, branch, otherwise, otherwise_end, joined, plain_block, both}
 use Rattle.check_fun.proofs.BlockBranches.{runs_plain, fails_plain_end, runs_branch, fails_branch_end, runs_both, fails_first, fails_second, first_runs, first_fails, other_runs, other_fails, plain_runs, plain_fails, plain_other_runs, plain_other_fails}
@@ -16,13 +16,13 @@ use Rattle.std.proofs.lemmas.Int.{to_z-of_z}
 use Rattle.static_num.specs.declared.values.StaticFault.TheVariants.{ZeroDivisor, Overflow}
 use Rattle.std.proofs.Math.Facts.{sfits_to_z}
 use Rattle.check_fun.proofs.BlockLoops.{runs_unroll, fails_low, fails_high, fails_name, fails_rounds, empty_items}
-use Rattle.check_expr.specs.Library.{before_at, function_at}
+use Rattle.check_scope.specs.Library.{before_at, function_at}
 use Rattle.check_fun.specs.Program.{instances, returned_as}
-use Rattle.check_expr.specs.Steps.{IsFirst}
+use Rattle.check_scope.specs.Steps.{IsFirst}
 use Rattle.check_fun.proofs.Questions.{asked_runs, asked_fails, asked_room, asked_on, asked_stops, asked_less, asked_call, asked_same}
 use Rattle.silq_tree.specs.Syntax.{Function}
 use Rattle.check_expr.specs.Expression.{paired}
-use Rattle.check_expr.specs.Headers.{spot_or}
+use Rattle.check_scope.specs.Headers.{spot_or}
 use Rattle.check_fun.proofs.Instances.{begins, params_long, body_runs, body_ran, body_first, header_here, one_known, signature_made, instances_at, instances_past}
 use Rattle.check_fun.proofs.Measures.{level_deeper}
 use Rattle.std.specs.Prelude.{not, cond, IfSome, OnOk, IfErr, option_map}

@@ -2,7 +2,7 @@ use Rattle.std.proofs.Common.{drop, ◌≡◌, ◌-◌}
 use Rattle.silq_tree.specs.Arena.{expr_at, stmt_at}
 use Rattle.silq_tree.specs.Standing.{statements_of, block_of}
 use Rattle.check_fun.specs.Counting.{checker_at}
-use Rattle.check_expr.specs.State.{scope_in, context_of}
+use Rattle.check_scope.specs.State.{scope_in, context_of}
 use Rattle.check_fun.specs.Statement.{stmts as stmts_of, rounds as rounds_of, distance}
 use Rattle.check_fun.proofs.BlockSteps.{Ahead}
 use Rattle.std.specs.Prelude.{◌-ℤ◌, ◌+◌, ◌*◌, max, length}
@@ -10,7 +10,7 @@ use Rattle.check_fun.specs.Branches.{round_of}
 use Rattle.silq_tree.specs.Children.{else_stmts}
 use Rattle.silq_tree.proofs.Lists.{stmts_top}
 use Rattle.check_fun.proofs.BlockLevels.{level}
-use Rattle.check_expr.specs.Walk.{with_counts}
+use Rattle.check_scope.specs.Walk.{with_counts}
 use Rattle.check_expr.specs.Expression.{expr as expr_of}
 use Rattle.check_fun.proofs.+statement.Given as goal
 

@@ -1,7 +1,7 @@
 use Rattle.std.proofs.Common.{subst, refl}
 use Rattle.silqc.specs.Command.{compile, check}
 use Rattle.silqc.specs.Ending.{EndsCheck, EndsCompile}
-use Rattle.silqc.proofs.Commands.{only_job, only_check, no_command, nothing_put, accepted, at_fault, at_names, at_types, at_unsupported, at_limit}
+use Rattle.silqc.proofs.Commands.{only_job, only_check, no_command, nothing_put, accepted, at_fault, at_names, at_types, at_unsupported, at_limit, answered, unanswered}
 use Rattle.silqc.proofs.run.Goals as goal
 
 -- ---- a compilation
@@ -32,6 +32,9 @@ returns-in-Some-clause-unsupported g c = λ what line col is. absurd (subst Ends
 
 pub returns-in-Some-clause-limit : goal.returns-in-Some-clause-limit
 returns-in-Some-clause-limit g c = λ which count is. absurd (subst EndsCompile is c.compile.ensures.ends)
+
+pub returns-in-Some-clause-answered : goal.returns-in-Some-clause-answered
+returns-in-Some-clause-answered g c = unanswered c.args.words.now (g.F.Files.held c.args.files.now) _ _ c.in-Some.ensures
 
 pub returns-in-Some-clause-unbuilt : goal.returns-in-Some-clause-unbuilt
 returns-in-Some-clause-unbuilt g c = λ is. only_job c.args.words.now _ _ c.in-Some.ensures (c.compile.ensures.unbuilt is)
@@ -78,6 +81,10 @@ pub returns-in-Some-read_check-clause-limit : goal.returns-in-Some-read_check-cl
 returns-in-Some-read_check-clause-limit g c =
     at_limit c.args.words.now (g.F.Files.held c.args.files.now) c.check.result _ c.in-Some-read_check.ensures.1 c.check.ensures.tells c.check.ensures.ends
 
+pub returns-in-Some-read_check-clause-answered : goal.returns-in-Some-read_check-clause-answered
+returns-in-Some-read_check-clause-answered g c =
+    answered c.args.words.now (g.F.Files.held c.args.files.now) c.check.result _ c.in-Some-read_check.ensures.1 c.check.ensures.tells c.check.ensures.ends
+
 pub returns-in-Some-read_check-clause-unbuilt : goal.returns-in-Some-read_check-clause-unbuilt
 returns-in-Some-read_check-clause-unbuilt g c = λ is. absurd (subst EndsCheck is c.check.ensures.ends)
 
@@ -95,3 +102,6 @@ returns-in-Some-read_check-clause-broken g c = λ is. absurd (subst EndsCheck is
 pub returns-in-None-clause-words : goal.returns-in-None-clause-words
 returns-in-None-clause-words g c =
     (λ is. no_command c.args.words.now c.in_default.ensures c.in-None.ensures, λ h. refl)
+
+pub returns-in-None-clause-answered : goal.returns-in-None-clause-answered
+returns-in-None-clause-answered g c = λ command is. absurd (no_command c.args.words.now c.in_default.ensures c.in-None.ensures command is)

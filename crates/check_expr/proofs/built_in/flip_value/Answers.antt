@@ -1,6 +1,6 @@
 use Rattle.std.proofs.lemmas.Result.{IfOk-weaker, IfErr-weaker}
 use Rattle.check_expr.proofs.Scopes.{if_err}
-use Rattle.check_expr.proofs.Sequence.{reads_then, stops_then, stops_after}
+use Rattle.check_scope.proofs.Sequence.{reads_then, stops_then, stops_after}
 use Rattle.check_expr.proofs.built_in.flip_value.Goals as goal
 
 pub returns-clause-reads : goal.returns-clause-reads

@@ -1,6 +1,6 @@
 use Rattle.std.proofs.Common.{subst, sym, arith, IfOk, IfErr}
 use Rattle.check_expr.specs.Expression.{gate_values}
-use Rattle.check_expr.specs.Steps.{Reads, Stops}
+use Rattle.check_scope.specs.Steps.{Reads, Stops}
 use Rattle.check_expr.proofs.Called.{lone}
 use Rattle.check_expr.proofs.built_in.gate_values.Goals as goal
 

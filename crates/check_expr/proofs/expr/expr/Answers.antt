@@ -1,8 +1,8 @@
 use Rattle.std.proofs.Common.{subst, sym}
 use Rattle.silq_tree.specs.Arena.{expr_at}
 use Rattle.check_expr.specs.Expression.{expr}
-use Rattle.check_expr.specs.State.{scope_in}
-use Rattle.check_expr.specs.Steps.{Reads, Stops}
+use Rattle.check_scope.specs.State.{scope_in}
+use Rattle.check_scope.specs.Steps.{Reads, Stops}
 use Rattle.check_expr.proofs.Walks.{restored}
 use Rattle.check_expr.proofs.expr.expr.Goals as goal
 

@@ -2,8 +2,8 @@ use Rattle.std.proofs.Common.{w64, IfOk, IfErr, subst}
 use Rattle.std.proofs.lemmas.Int.{to_z-of_z}
 use Rattle.silq_tree.specs.Arena.{expr_at}
 use Rattle.silq_tree.specs.Standing.{scalar_of}
-use Rattle.check_expr.specs.State.{scope_in}
-use Rattle.check_expr.specs.Steps.{Reads, Stops}
+use Rattle.check_scope.specs.State.{scope_in}
+use Rattle.check_scope.specs.Steps.{Reads, Stops}
 use Rattle.check_expr.specs.Forms.{number_values}
 use Rattle.check_expr.proofs.expr.number.Goals as goal
 

@@ -1,11 +1,11 @@
 use mathlib.Core.Path.{ap}
-use Rattle.check_expr.proofs.Sequence.{reads_bind, stops_bind, stops_later}
+use Rattle.check_scope.proofs.Sequence.{reads_bind, stops_bind, stops_later}
 use Rattle.check_expr.proofs.Scopes.{if_err, reads_as, stops_as}
 use Rattle.std.proofs.Common.{w64}
 use Rattle.std.proofs.lemmas.Int.{to_z-of_z}
 use Rattle.silq_tree.specs.Arena.{expr_at}
 use Rattle.silq_tree.specs.Standing.{scalar_of}
-use Rattle.check_expr.specs.State.{scope_in}
+use Rattle.check_scope.specs.State.{scope_in}
 use Rattle.check_expr.specs.Expression.{typed_value}
 use Rattle.check_expr.proofs.expr.typed_number.Goals as goal
 

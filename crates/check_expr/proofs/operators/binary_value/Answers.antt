@@ -1,4 +1,4 @@
-use Rattle.check_expr.proofs.Sequence.{reads_bind, reads_then, reads_variables, stops_then, stops_later, stops_after}
+use Rattle.check_scope.proofs.Sequence.{reads_bind, reads_then, reads_variables, stops_then, stops_later, stops_after}
 use Rattle.check_expr.proofs.Scopes.{if_err}
 use Rattle.check_expr.proofs.operators.binary_value.Goals as goal
 

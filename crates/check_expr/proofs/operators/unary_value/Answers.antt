@@ -1,4 +1,4 @@
-use Rattle.check_expr.proofs.Sequence.{reads_then, stops_then, stops_after}
+use Rattle.check_scope.proofs.Sequence.{reads_then, stops_then, stops_after}
 use Rattle.check_expr.proofs.Scopes.{if_err}
 use Rattle.check_expr.proofs.operators.unary_value.Goals as goal
 

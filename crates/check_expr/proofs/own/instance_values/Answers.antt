@@ -1,5 +1,5 @@
 use Rattle.check_expr.proofs.Scopes.{if_err}
-use Rattle.check_expr.proofs.Sequence.{reads_bind, reads_then, reads_back, stops_bind, stops_then, stops_later}
+use Rattle.check_scope.proofs.Sequence.{reads_bind, reads_then, reads_back, stops_bind, stops_then, stops_later}
 use Rattle.check_expr.proofs.own.instance_values.Goals as goal
 
 pub returns-in_err-given-clause-stops : goal.returns-in_err-given-clause-stops

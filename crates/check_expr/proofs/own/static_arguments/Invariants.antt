@@ -2,7 +2,7 @@ use Rattle.std.proofs.Common.{drop}
 use Rattle.silq_types.specs.Known.{Signatures}
 use Rattle.check_expr.specs.Calls.{items}
 use Rattle.check_expr.specs.Expression.{static_arguments}
-use Rattle.check_expr.specs.State.{scope_in}
+use Rattle.check_scope.specs.State.{scope_in}
 use Rattle.check_expr.proofs.Called.{Going}
 use Rattle.check_expr.proofs.own.static_arguments.Given as goal
 

@@ -1,4 +1,4 @@
-use Rattle.check_expr.proofs.Sequence.{reads_bind, reads_back}
+use Rattle.check_scope.proofs.Sequence.{reads_bind, reads_back}
 use Rattle.check_expr.proofs.values.new_value.Goals as goal
 
 pub returns-clause-reads : goal.returns-clause-reads

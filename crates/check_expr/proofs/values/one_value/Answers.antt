@@ -1,4 +1,4 @@
-use Rattle.check_expr.proofs.Sequence.{reads_bind, stops_later}
+use Rattle.check_scope.proofs.Sequence.{reads_bind, stops_later}
 use Rattle.check_expr.proofs.Scopes.{if_err}
 use Rattle.check_expr.proofs.values.one_value.Goals as goal
 

@@ -2,7 +2,7 @@ use mathlib.Core.Path.{ap, ◌∙◌}
 use Rattle.check_expr.specs.Expression.{fits_rule}
 use Rattle.std.proofs.Common.{w64, IfOk, IfErr, subst}
 use Rattle.std.proofs.lemmas.Int.{to_z-of_z}
-use Rattle.check_expr.specs.Steps.{Reads, Stops}
+use Rattle.check_scope.specs.Steps.{Reads, Stops}
 use Rattle.check_expr.proofs.values.static_fits.Goals as goal
 
 pub returns-clause-reads : goal.returns-clause-reads

@@ -1,6 +1,6 @@
 use mathlib.Core.Path.{ap}
 use Rattle.check_expr.specs.Expression.{fits_rule}
-use Rattle.check_expr.proofs.Sequence.{reads_bind, reads_then, stops_bind, stops_then, stops_later, stops_after}
+use Rattle.check_scope.proofs.Sequence.{reads_bind, reads_then, stops_bind, stops_then, stops_later, stops_after}
 use Rattle.check_expr.proofs.Scopes.{if_err, reads_as, stops_as}
 use Rattle.std.proofs.Common.{rules, w64}
 use Rattle.std.proofs.lemmas.Int.{to_z-of_z}

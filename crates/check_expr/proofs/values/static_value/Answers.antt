@@ -1,8 +1,8 @@
 use Rattle.std.proofs.Common.{IfOk, IfErr}
 use Rattle.silq_tree.specs.Arena.{expr_at}
-use Rattle.check_expr.specs.Steps.{Reads, Stops}
+use Rattle.check_scope.specs.Steps.{Reads, Stops}
 use Rattle.check_expr.specs.Expression.{static_value}
-use Rattle.check_expr.specs.State.{scope_in}
+use Rattle.check_scope.specs.State.{scope_in}
 use Rattle.check_expr.proofs.Scopes.{only_one}
 use Rattle.check_expr.proofs.values.static_value.Goals as goal
 

@@ -1,7 +1,7 @@
 use Rattle.std.proofs.Common.{sym, ap, take}
-use Rattle.check_expr.specs.Context.{put_variables}
+use Rattle.check_scope.specs.Context.{put_variables}
 use Rattle.check_fun.specs.Statement.{made_linear}
-use Rattle.check_expr.specs.State.{State}
+use Rattle.check_scope.specs.State.{State}
 use Rattle.check_fun.proofs.Assigning.{runs_put_again, put_same, runs_put_linear}
 use Rattle.check_fun.proofs.assign.cut_part.Goals as goal
 

@@ -2,7 +2,7 @@ use Rattle.std.proofs.Common.{sym, subst, arith, get_or}
 use Rattle.std.specs.Prelude.{OnOk, IfErr}
 use Rattle.silq_tree.specs.Arena.{expr_at}
 use Rattle.silq_types.specs.declared.values.Value.{Value}
-use Rattle.check_expr.specs.Context.{Check}
+use Rattle.check_scope.specs.Context.{Check}
 use Rattle.check_fun.specs.Counting.{Runs, Fails}
 use Rattle.check_fun.proofs.PuttingBack.{suits_only}
 use Rattle.check_fun.proofs.assign.one_suits.Goals as goal

@@ -1,5 +1,5 @@
 use Rattle.std.proofs.Common.{◌≡◌, drop}
-use Rattle.check_expr.specs.Context.{find_var, variable}
+use Rattle.check_scope.specs.Context.{find_var, variable}
 use Rattle.check_fun.specs.Statement.{any_name, passes, is_held_var}
 use Rattle.check_fun.proofs.bind.any_held.Given as goal
 

@@ -1,5 +1,5 @@
 use Rattle.std.proofs.Common.{◌≡◌, drop}
-use Rattle.check_expr.specs.Context.{is_in_condition, variable}
+use Rattle.check_scope.specs.Context.{is_in_condition, variable}
 use Rattle.check_fun.specs.Statement.{any_name}
 use Rattle.check_fun.proofs.bind.any_in_condition.Given as goal
 

@@ -1,7 +1,7 @@
 use Rattle.std.proofs.Common.{drop}
-use Rattle.check_expr.specs.State.{State}
+use Rattle.check_scope.specs.State.{State}
 use Rattle.check_fun.specs.Statement.{none_changed as none_changed_of}
-use Rattle.check_expr.specs.Walk.{Checker, Counts}
+use Rattle.check_scope.specs.Walk.{Checker, Counts}
 use Rattle.check_fun.proofs.BlockSteps.{Ahead}
 use Rattle.check_fun.proofs.branch.none_changed.Given as goal
 

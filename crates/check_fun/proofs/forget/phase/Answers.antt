@@ -1,6 +1,6 @@
 use Rattle.std.proofs.Common.{◌≡◌, sym, ap, ◌∙◌}
 use Rattle.check_expr.specs.Expression.{is_qfree}
-use Rattle.check_expr.specs.Library.{function_at}
+use Rattle.check_scope.specs.Library.{function_at}
 use Rattle.check_fun.proofs.Counted.{runs_then, fails_then, fails_after}
 use Rattle.silq_tree.specs.Syntax.{Function}
 use Rattle.check_fun.proofs.Stepped.{passed, runs_tested, fails_tested}

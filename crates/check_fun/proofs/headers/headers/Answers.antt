@@ -1,5 +1,5 @@
 use Rattle.std.proofs.Common.{◌≡◌, arith}
-use Rattle.check_expr.specs.Faults.{fault_as}
+use Rattle.check_scope.specs.Faults.{fault_as}
 use Rattle.check_fun.proofs.HeaderNames.{headers_on, headers_stop, headers_done}
 use Rattle.check_fun.proofs.headers.headers.Goals as goal
 

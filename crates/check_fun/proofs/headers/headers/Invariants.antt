@@ -1,6 +1,6 @@
 use Rattle.std.proofs.Common.{◌≡◌, drop, [], List}
 use Rattle.silq_tree.specs.declared.node.NameId.{NameId as Named}
-use Rattle.check_expr.specs.Library.{functions_of}
+use Rattle.check_scope.specs.Library.{functions_of}
 use Rattle.check_fun.specs.Program.{all_headers}
 use Rattle.check_fun.proofs.Taken.{Agree}
 use Rattle.check_fun.proofs.headers.headers.Given as goal

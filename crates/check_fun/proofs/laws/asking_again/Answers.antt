@@ -1,6 +1,6 @@
 use Rattle.check_expr.specs.Expression.{expr}
 use Rattle.check_fun.specs.Program.{instances}
-use Rattle.check_expr.proofs.Readings.{continues}
+use Rattle.check_scope.proofs.Readings.{continues}
 use Rattle.check_expr.proofs.Quiet.{expr_quiet}
 use Rattle.check_fun.proofs.Growth.{instances_steady}
 use Rattle.check_fun.proofs.laws.asking_again.Goals as goal

@@ -6,7 +6,7 @@ use Rattle.silq_tree.specs.Standing.{param_of}
 use Rattle.silq_types.specs.declared.values.Origin.{Origin}
 use Rattle.silq_types.specs.declared.values.Var.{Var}
 use Rattle.check_fun.specs.Program.{param_vars}
-use Rattle.check_expr.specs.State.{State}
+use Rattle.check_scope.specs.State.{State}
 use Rattle.check_fun.proofs.Instances.{fresh_state, param_added}
 use Rattle.check_fun.proofs.Zipped.{drop_one, done_one, done_all, params_one, params_end}
 use Rattle.check_fun.proofs.params.add_params.Goals as goal

@@ -1,5 +1,5 @@
 use Rattle.std.specs.Prelude.{[]}
-use Rattle.check_expr.specs.Walk.{Counts}
+use Rattle.check_scope.specs.Walk.{Counts}
 use Rattle.check_expr.proofs.Quiet.{q_place}
 use Rattle.check_fun.proofs.Stepped.{runs_quiet, fresh_vars}
 use Rattle.check_fun.proofs.plain.fresh_now.Goals as goal

@@ -1,6 +1,6 @@
 use Rattle.silq_tree.specs.Arena.{expr_at}
-use Rattle.check_expr.specs.State.{scope_in}
-use Rattle.check_expr.specs.Walk.{Counts}
+use Rattle.check_scope.specs.State.{scope_in}
+use Rattle.check_scope.specs.Walk.{Counts}
 use Rattle.check_expr.proofs.Quiet.{q_names}
 use Rattle.check_fun.proofs.Stepped.{runs_quiet, fails_quiet}
 use Rattle.check_fun.proofs.plain.known_now.Goals as goal

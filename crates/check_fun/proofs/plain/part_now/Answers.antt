@@ -1,4 +1,4 @@
-use Rattle.check_expr.specs.Walk.{Counts}
+use Rattle.check_scope.specs.Walk.{Counts}
 use Rattle.check_expr.proofs.Quiet.{q_all_needed}
 use Rattle.check_fun.proofs.Stepped.{runs_quiet, fails_quiet}
 use Rattle.check_fun.proofs.plain.part_now.Goals as goal

@@ -1,5 +1,5 @@
 use Rattle.silq_tree.specs.Arena.{expr_at}
-use Rattle.check_expr.specs.Walk.{Counts}
+use Rattle.check_scope.specs.Walk.{Counts}
 use Rattle.check_expr.proofs.Quiet.{q_suits}
 use Rattle.check_fun.proofs.Stepped.{runs_quiet, fails_quiet}
 use Rattle.check_fun.proofs.plain.suits_now.Goals as goal

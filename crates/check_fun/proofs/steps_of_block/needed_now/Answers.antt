@@ -1,6 +1,6 @@
 use Rattle.std.proofs.Common.{rules, ◌≡◌}
-use Rattle.check_expr.specs.Context.{needed}
-use Rattle.check_expr.specs.State.{scope_in}
+use Rattle.check_scope.specs.Context.{needed}
+use Rattle.check_scope.specs.State.{scope_in}
 use Rattle.silq_tree.specs.Arena.{expr_at}
 use Rattle.check_fun.proofs.BlockSteps.{silent_needed}
 use Rattle.check_fun.proofs.BlockTold.{none_told, runs_told, fails_told}

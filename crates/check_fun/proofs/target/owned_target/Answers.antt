@@ -1,6 +1,6 @@
 use Rattle.std.specs.Prelude.{◌≡◌, Option, Some}
 use mathlib.Core.Path.{sym, ap, ◌∙◌}
-use Rattle.check_expr.specs.Context.{find_var, variable}
+use Rattle.check_scope.specs.Context.{find_var, variable}
 use Rattle.check_fun.proofs.Stepped.{passed}
 use Rattle.check_fun.proofs.Targets.{runs_owned, fails_owned_moved, fails_owned_typed}
 use Rattle.check_fun.proofs.target.owned_target.Goals as goal

@@ -2,7 +2,7 @@ use mathlib.Core.Path.{sym}
 use Rattle.check_fun.proofs.Counted.{fails_bind}
 use Rattle.silq_tree.specs.Arena.{expr_at}
 use Rattle.silq_tree.specs.Standing.{place_of}
-use Rattle.check_expr.specs.State.{scope_in}
+use Rattle.check_scope.specs.State.{scope_in}
 use Rattle.check_fun.proofs.Stepped.{passed}
 use Rattle.check_fun.proofs.Targets.{name_of_place, runs_target, fails_target_first, fails_target_name, fails_target_owner}
 use Rattle.check_fun.proofs.target.target_at.Goals as goal

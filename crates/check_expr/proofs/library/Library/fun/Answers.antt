@@ -1,6 +1,0 @@
-use Rattle.std.proofs.Common.{arith}
-use Rattle.check_expr.proofs.Named.{fun_below}
-use Rattle.check_expr.proofs.library.Library.fun.Goals as goal
-
-pub fun-requires : goal.fun-requires
-fun-requires c = rw c.as_slice.ensures (fun_below _ _ c.args.n _ c.self.invariant (rw (← c.self.view_is) at c.requires))

@@ -1,0 +1,14 @@
+pub mod Readings
+pub mod Sequence
+pub mod Overlapping
+pub mod Named
+pub mod Obeyed
+pub mod Searching
+pub mod Undoing
+pub mod Reached
+pub mod Chained
+pub mod HeaderLists
+pub mod UnknownNames
+pub mod PlaceSteps
+pub mod PlaceBlocks
+pub mod NamedParts

@@ -1,0 +1,15 @@
+pub mod Walk
+pub mod Context
+pub mod Uses
+pub mod Used
+pub mod Reach
+pub mod Reading
+pub mod Words
+pub mod Library
+pub mod Undo
+pub mod First
+pub mod Headers
+pub mod State
+pub mod Faults
+pub mod Steps
+pub mod Places
