@@ -3,7 +3,8 @@ use Rattle.std.specs.Prelude.{ℕ, Bool, true, false, cond, List, [], ◌∷◌,
 use Rattle.check_scope.specs.Context.{Scope, Context, Check, ◌>>=◌, ◌>>◌, give_back, pass, fail, of_result, rules, variables, put_variables, new_place, signature, unknown_at, known_names, needed, all_needed, is_known_name}
 use Rattle.check_scope.specs.declared.words.BuiltIn.{BuiltIn}
 use Rattle.check_scope.specs.declared.words.BuiltIn.TheVariants.{HGate, XGate, YGate, ZGate, Dup, Measure, Vector, RotateX, RotateY, RotateZ}
-use Rattle.check_expr.specs.Expression.{is_tuple, single_of, flip_value, many, length_value, lone_need, lone_wants, later_arguments, call_gate, new_value, one_value, static_value, unless_static, typed_value, unary_value, binary_value, single, operands, Asked, suits, gate_value, gate_values, vector_value, call_built_in, Arguments, natural, static_arguments, placed, argument_at, result_origin, result_values, call_own, call_found, asked_of_items, first_asked, later_asked, expr, arguments}
+use Rattle.check_expr.specs.Expression.{is_tuple, single_of, flip_value, many, length_value, lone_need, lone_wants, later_arguments, call_gate, one_value, static_value, unless_static, typed_value, unary_value, binary_value, single, operands, Asked, suits, gate_value, gate_values, vector_value, call_built_in, Arguments, natural, static_arguments, placed, argument_at, result_origin, result_values, call_own, call_found, asked_of_items, first_asked, later_asked, expr, arguments}
+use Rattle.check_scope.specs.Places.{new_value}
 use Rattle.check_scope.specs.Places.{move, unmoved, use_rules, use_part, use_found, use_place}
 use Rattle.check_scope.specs.Reading.{Uncounted}
 use Rattle.check_scope.specs.Uses.{Found, built_in, find_fun}

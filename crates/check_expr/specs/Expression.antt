@@ -29,19 +29,13 @@ use Rattle.check_scope.specs.declared.words.BuiltIn.{BuiltIn}
 use Rattle.check_scope.specs.declared.words.BuiltIn.TheVariants.{HGate, XGate, YGate, ZGate, Dup, Measure, Vector, RotateX, RotateY, RotateZ}
 use Rattle.check_scope.specs.Uses.{Found, is_consumed, built_in, find_fun, param_need, argument_uses, both_consume, consume_and_hold, some_pair}
 use Rattle.check_scope.specs.declared.uses.Use.{Use}
-use Rattle.check_scope.specs.Places.{use_place}
+use Rattle.check_scope.specs.Places.{new_value, use_place}
 use Rattle.check_scope.specs.Uses.{operand_clash}
 
 -- ---- values
 
 abbrev pub origin_of : Bool → Origin
 origin_of classical = if classical then Classical else Lifted
-
--- a value with a new place
-abbrev pub new_value : Ty → Origin → Check Value
-new_value t o = do
-  p ← new_place
-  give_back (record { ty = t; origin = o; place = p })
 
 abbrev pub one_value : Ty → Origin → Check (List Value)
 one_value t o = do

@@ -9,7 +9,8 @@ ghost use Rattle.silq_types.specs.Types.{at as spot_at, fits as fits_in, needed_
 ghost use Rattle.silq_types.specs.declared.values.Origin.TheVariants.{Lifted};
 ghost use Rattle.static_num.specs.Static.{is_static as static_is};
 ghost use Rattle.check_scope.specs.Context.{give_back, of_result, is_known_name as name_is_known};
-ghost use Rattle.check_expr.specs.Expression.{origin_of as origin_told, new_value as value_new, one_value as value_one, typed_by as by_type, fits_rule as rule_of_fit, static_value as value_static, typed_value as value_typed, is_tuple as tuple_is, single as single_value, suits as value_suits};
+ghost use Rattle.check_expr.specs.Expression.{origin_of as origin_told, one_value as value_one, typed_by as by_type, fits_rule as rule_of_fit, static_value as value_static, typed_value as value_typed, is_tuple as tuple_is, single as single_value, suits as value_suits};
+ghost use Rattle.check_scope.specs.Places.{new_value as value_new};
 ghost use Rattle.check_expr.specs.Numbers.{magnitude_of};
 ghost use Rattle.check_expr.specs.Asks.{types_of};
 ghost use Rattle.check_scope.specs.State.{State, scope_in};

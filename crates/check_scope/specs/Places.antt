@@ -3,6 +3,7 @@ use Rattle.std.specs.Prelude.{Bool, true, false, not, ◌&&◌, ◌||◌, if◌t
 use Rattle.silq_tree.specs.declared.node.Spot.{Spot}
 use Rattle.silq_tree.specs.Syntax.{place, Place}
 use Rattle.silq_types.specs.declared.types.Ty.{Ty}
+use Rattle.silq_types.specs.declared.values.Origin.{Origin}
 use Rattle.silq_types.specs.declared.values.Origin.TheVariants.{Classical}
 use Rattle.silq_types.specs.declared.values.Value.{Value}
 use Rattle.silq_types.specs.declared.values.Part.{Part}
@@ -12,8 +13,14 @@ use Rattle.silq_types.specs.Types.{place_name, place_indices, quantum, is_held, 
 use Rattle.check_scope.specs.declared.need.Need.{Need}
 use Rattle.check_scope.specs.declared.need.Need.TheVariants as needs
 use Rattle.check_scope.specs.Walk.{answer}
-use Rattle.check_scope.specs.Context.{Scope, Check, ◌>>=◌, ◌>>◌, give_back, fail, rules, variables, part_at, variable, indices, overlaps, same_part, is_in_condition, find_var, replace, is_known_name, part_type, all_needed}
+use Rattle.check_scope.specs.Context.{Scope, Check, ◌>>=◌, ◌>>◌, give_back, fail, rules, variables, new_place, part_at, variable, indices, overlaps, same_part, is_in_condition, find_var, replace, is_known_name, part_type, all_needed}
 use Rattle.check_scope.specs.Uses.{is_consumed}
+
+-- a value with a new place
+abbrev pub new_value : Ty → Origin → Check Value
+new_value t o = do
+  p ← new_place
+  give_back (record { ty = t; origin = o; place = p })
 
 -- a consumed use of a quantum value moves it; a classical one is copied
 abbrev pub is_moved : Need → Ty → Bool

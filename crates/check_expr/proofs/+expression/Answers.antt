@@ -3,7 +3,8 @@ use Rattle.check_expr.proofs.Scopes.{if_err, reads_result, stops_result, same_sc
 use Rattle.check_scope.proofs.Sequence.{keeps_refl, reads_bind, reads_then, reads_back, reads_variables, stops_bind, stops_then, stops_later, stops_after}
 use Rattle.check_expr.proofs.Walks.{Onward, item_stops, single_stops, suits_stops, memory_stops, onward, onward_none, onward_all, by_binary, by_call, number_reads, number_stops, truth_open, left_static, left_static_number, left_static_right, left_static_last, left_first, left_first_stops, left_first_right, at_static, at_place, at_unary, at_binary}
 use Rattle.check_expr.specs.Asks.{all_asked, types_of}
-use Rattle.check_expr.specs.Expression.{expr, arguments, binary_value, fits_rule, one_value, new_value, origin_of, unary_value, unary_fits, binary_fits, typed_by, binary_shape, lone_need, lone_wants, is_tuple, operands}
+use Rattle.check_expr.specs.Expression.{expr, arguments, binary_value, fits_rule, one_value, origin_of, unary_value, unary_fits, binary_fits, typed_by, binary_shape, lone_need, lone_wants, is_tuple, operands}
+use Rattle.check_scope.specs.Places.{new_value}
 use Rattle.check_scope.specs.State.{scope_in}
 use Rattle.check_scope.specs.Steps.{Reads, Stops}
 use Rattle.silq_tree.proofs.Lists.{expr_below, expr_below_top, exprs_top_le, exprs_below_front, exprs_below_back, exprs_below_more}
