@@ -116,7 +116,7 @@ fn static_arguments(
     let mut values = StaticList::new(library.alloc());
     for e in args {
         let value = needed(library, cx, *e)?;
-        natural(spot_of(library.tree(), *e), value)?;
+        natural(spot_of(library, *e), value)?;
         values.push(value)?;
     }
     Ok(values)

@@ -185,7 +185,7 @@ pub(crate) fn static_number(library: &Library, cx: &Context, e: ExprId) -> Resul
 {
     match eval(library.tree(), e, cx.statics()) {
         Ok(z) => Ok(z),
-        Err(_) => Err(broken(rule::NOT_STATIC, spot_of(library.tree(), e))),
+        Err(_) => Err(broken(rule::NOT_STATIC, spot_of(library, e))),
     }
 }
 
@@ -203,7 +203,7 @@ fn static_fits(library: &Library, e: ExprId, ty: Ty, z: i64) -> Result<(), ExprF
     ensures reads { (met : Signatures) (s : State) → IfOk result (λ u. Reads met (rule_of_fit (spot_at (expr_at library.now.nodes e)) ty z) s u s) }
     ensures stops { (met : Signatures) (s : State) → IfErr result (λ f. Stops met (rule_of_fit (spot_at (expr_at library.now.nodes e)) ty z) s f s) }
 {
-    fits_rule(spot_of(library.tree(), e), ty, z)
+    fits_rule(spot_of(library, e), ty, z)
 }
 
 /// A static expression takes this type.
@@ -236,7 +236,7 @@ pub(crate) fn static_value(
 {
     match wants {
         [ty] => static_typed(library, cx, e, *ty),
-        _ => Err(broken(rule::OUTSIDE_TYPE, spot_of(library.tree(), e))),
+        _ => Err(broken(rule::OUTSIDE_TYPE, spot_of(library, e))),
     }
 }
 
@@ -311,11 +311,11 @@ pub fn single(library: &Library, e: ExprId, values: &ValueList) -> Result<Value,
     ensures stops { (met : Signatures) (s : State) → IfErr result (λ f. Stops met (single_value (expr_at library.now.nodes e) values.now) s f s) }
 {
     if is_tuple(library, e) {
-        return Err(broken(rule::WRONG_TYPE, spot_of(library.tree(), e)));
+        return Err(broken(rule::WRONG_TYPE, spot_of(library, e)));
     }
     match values.as_slice() {
         [value] => Ok(*value),
-        _ => Err(broken(rule::RESULT_COUNT, spot_of(library.tree(), e))),
+        _ => Err(broken(rule::RESULT_COUNT, spot_of(library, e))),
     }
 }
 
@@ -327,7 +327,7 @@ pub fn suits(library: &Library, e: ExprId, want: Option<Ty>, value: Value) -> Re
 {
     match want {
         Some(ty) => obey(
-            spot_of(library.tree(), e),
+            spot_of(library, e),
             &[
                 (!is_same_shape(ty.shape, value.ty.shape), rule::WRONG_TYPE),
                 (ty.classical && !value.ty.classical, rule::NOT_CLASSICAL),

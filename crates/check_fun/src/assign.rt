@@ -160,7 +160,7 @@ fn put_back(
     ensures fails { (check : Checker) (c : Counts) → IfErr result (λ f. Fails check (back_put cx.old.held (record { part = target.part; owner = target.owner; ty = target.ty }) count place (expr_at library.now.nodes e) values.now at) cx.old c f) }
 {
     let is_tuple = is_tuple(library, e);
-    obeyed(spot_of(library.tree(), e), &[(is_tuple, rule::WRONG_TYPE)])?;
+    obeyed(spot_of(library, e), &[(is_tuple, rule::WRONG_TYPE)])?;
     one_suits(library, e, target.ty, values)?;
     may_put_back(cx, target, place, values, at)?;
     let linear = some_linear(values);
@@ -186,7 +186,7 @@ pub(crate) fn assign_name(
 {
     let is_tuple = is_tuple(library, e);
     let found = values(library, cx, tally, e, lone_consumed(is_tuple), &[])?;
-    obeyed(spot_of(library.tree(), e), &[(is_tuple, rule::WRONG_TYPE)])?;
+    obeyed(spot_of(library, e), &[(is_tuple, rule::WRONG_TYPE)])?;
     assigned(cx, at, &[name], found.as_slice())?;
     Ok(())
 }

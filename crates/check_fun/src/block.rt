@@ -176,7 +176,7 @@ fn condition(
     let found = values(library, cx, tally, cond, Need::Held, &[])?;
     let value = single_now(library, cond, found.as_slice())?;
     obey_now(
-        spot_of(library.tree(), cond),
+        spot_of(library, cond),
         !is_bit(&value.ty),
         rule::WRONG_TYPE,
     )?;
@@ -255,7 +255,7 @@ fn no_value(library: &Library, cond: ExprId) -> CheckFault
 {
     CheckFault::Broken {
         rule: rule::NOT_STATIC,
-        at: spot_of(library.tree(), cond),
+        at: spot_of(library, cond),
     }
 }
 

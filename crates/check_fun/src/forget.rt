@@ -95,11 +95,11 @@ fn angle_now(library: &Library, cx: &Context, e: ExprId) -> Result<(), CheckFaul
         Ok(_) => Ok(()),
         Err(AngleFault::NotEighth) => Err(CheckFault::Unsupported {
             what: What::Angle,
-            at: spot_of(library.tree(), e),
+            at: spot_of(library, e),
         }),
         Err(AngleFault::Static(_)) => Err(CheckFault::Broken {
             rule: rule::NOT_STATIC,
-            at: spot_of(library.tree(), e),
+            at: spot_of(library, e),
         }),
     }
 }

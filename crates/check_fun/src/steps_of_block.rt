@@ -69,14 +69,14 @@ pub(crate) fn single_now(
     if is_tuple(library, e) {
         return Err(CheckFault::Broken {
             rule: rule::WRONG_TYPE,
-            at: spot_of(library.tree(), e),
+            at: spot_of(library, e),
         });
     }
     match values {
         [value] => Ok(*value),
         _ => Err(CheckFault::Broken {
             rule: rule::RESULT_COUNT,
-            at: spot_of(library.tree(), e),
+            at: spot_of(library, e),
         }),
     }
 }

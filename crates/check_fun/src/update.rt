@@ -150,7 +150,7 @@ pub(crate) fn update_part(
     )?;
     let value = single_now(library, e, found.as_slice())?;
     let is_same = is_same_shape(target.ty.shape, value.ty.shape);
-    obeyed(spot_of(library.tree(), e), &[(!is_same, rule::WRONG_TYPE)])?;
+    obeyed(spot_of(library, e), &[(!is_same, rule::WRONG_TYPE)])?;
     may_update(library, cx, target, place.name, op, e, at)?;
     Ok(())
 }

@@ -20,7 +20,7 @@ use crate::context::Context;
 use crate::fault::CheckFault;
 use crate::library::Library;
 use crate::reach::{first_unknown, unknown_in_width};
-use crate::spots::spot_of;
+use crate::spots::spot_in;
 use crate::rule;
 use silq_tree::node::{Mark, ParamNode, ScalarNode, TypeNode};
 use silq_tree::{ExprId, Spot, Tree};
@@ -164,8 +164,8 @@ fn width_spot(tree: &Tree, ty: ScalarNode, at: Spot) -> Spot
 {
     match ty {
         ScalarNode::Bit => at,
-        ScalarNode::UInt(width) => spot_of(tree, width),
-        ScalarNode::Int(width) => spot_of(tree, width),
+        ScalarNode::UInt(width) => spot_in(tree, width),
+        ScalarNode::Int(width) => spot_in(tree, width),
     }
 }
 

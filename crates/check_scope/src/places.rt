@@ -53,7 +53,7 @@ pub fn needed(library: &Library, cx: &Context, e: ExprId) -> Result<i64, ExprFau
         Ok(value) => Ok(value),
         Err(_) => Err(ExprFault::Fault(CheckFault::Broken {
             rule: rule::NOT_STATIC,
-            at: spot_of(library.tree(), e),
+            at: spot_of(library, e),
         })),
     }
 }
