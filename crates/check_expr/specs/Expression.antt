@@ -30,6 +30,7 @@ use Rattle.check_scope.specs.declared.words.BuiltIn.TheVariants.{HGate, XGate, Y
 use Rattle.check_scope.specs.Uses.{Found, is_consumed, built_in, find_fun, param_need, argument_uses, both_consume, consume_and_hold, some_pair}
 use Rattle.check_scope.specs.declared.uses.Use.{Use}
 use Rattle.check_scope.specs.Places.{new_value, use_place}
+use Rattle.check_scope.specs.Programs.{paired}
 use Rattle.check_scope.specs.Uses.{operand_clash}
 
 -- ---- values
@@ -281,11 +282,6 @@ static_arguments (more e es) sc = do
   natural (at e) v
   vs ← static_arguments es sc
   give_back (v ∷ vs)
-
--- static names with their values
-abbrev pub paired : List NameId → List ℤ → Statics
-paired (x ∷ xs) (v ∷ vs) = (x, v) ∷ paired xs vs
-paired xs vs = []
 
 abbrev pub asked_by : Param → Asked
 asked_by p = record { need = if p.held then needs.Held else needs.Consumed; wants = p.ty ∷ [] }

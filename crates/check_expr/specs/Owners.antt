@@ -1,7 +1,8 @@
 -- Who owns a place: each place has at most one owner, among the variables that are not consumed and the values that are under way.
 use Rattle.std.specs.Prelude.{length, suc, ◌≡◌, ℕ, ◌+◌, ◌≤◌, ◌==◌, if◌then◌else◌, List, [], ◌∷◌, Option, Some, None, Ok, ⊤}
 use Rattle.check_scope.specs.Context.{Context, Check}
-use Rattle.check_expr.specs.Expression.{Asked, first_asked, later_asked, paired, exact_place}
+use Rattle.check_expr.specs.Expression.{Asked, first_asked, later_asked, exact_place}
+use Rattle.check_scope.specs.Programs.{paired}
 use Rattle.check_scope.specs.Uses.{Found, find_fun}
 use Rattle.check_scope.specs.Walk.{Walk, answer, broken, counted, asked}
 use Rattle.check_scope.specs.declared.need.Need.{Need}

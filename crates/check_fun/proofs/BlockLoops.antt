@@ -15,7 +15,8 @@ use Rattle.check_scope.specs.Walk.{Counts, Checker}
 use Rattle.check_scope.specs.Context.{Scope, Check, ◌>>=◌, ◌>>◌, rules, variables, is_variable, needed}
 use Rattle.check_fun.specs.Branches.{round_of}
 use Rattle.check_scope.specs.State.{State}
-use Rattle.check_fun.specs.Statement.{rounds, distance, any_name, is_static_param}
+use Rattle.check_fun.specs.Statement.{rounds, any_name, is_static_param}
+use Rattle.check_scope.specs.Programs.{distance}
 use Rattle.check_fun.specs.Counting.{Runs, Fails, loop_step}
 use Rattle.check_scope.specs.declared.fault.CheckFault.{CheckFault}
 use Rattle.check_fun.proofs.BlockRounds.{empty_rounds}

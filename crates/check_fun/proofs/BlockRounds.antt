@@ -26,7 +26,8 @@ use Rattle.check_scope.specs.State.{State, context_of, scope_in}
 use Rattle.check_scope.specs.Library.{Shelf}
 use Rattle.check_fun.specs.Branches.{run_time_choice, taken_branch, round_of}
 use Rattle.check_fun.specs.Counting.{Stays, Runs, Fails, checker_at, choice_step}
-use Rattle.check_fun.specs.Statement.{stmts, otherwise, otherwise_end, plain_block, none_left, end_from, branch, both, condition, under, with_static, rounds, distance, chosen}
+use Rattle.check_fun.specs.Statement.{stmts, otherwise, otherwise_end, plain_block, none_left, end_from, branch, both, condition, under, with_static, rounds, chosen}
+use Rattle.check_scope.specs.Programs.{distance}
 use Rattle.check_scope.specs.declared.fault.CheckFault.{CheckFault}
 use Rattle.check_scope.specs.declared.fault.CheckFault.TheVariants as checks
 use Rattle.check_fun.proofs.BlockSteps.{Ahead, ahead_then, ahead_stops, same_scope_after, same_checker_after}

@@ -7,7 +7,8 @@ use Rattle.check_scope.specs.Context.{Scope, Context, Check, ◌>>=◌, ◌>>◌
 use Rattle.check_expr.specs.Expression.{is_tuple, lone_need, lone_wants, some_linear, expr, single}
 use Rattle.check_expr.specs.Owners.{at_place, owns, owners, owned, Sole, handed, ProperFor, Ensures}
 use Rattle.check_scope.specs.declared.need.Need.{Need}
-use Rattle.check_fun.specs.Statement.{bound, bind_name, bind_names, assigned, assign_name, one_suits, static_updated, assign_part, assign_to, target, target_of, target_type, Target, taken_out, made_linear, with_origin, update_part, forget_name, end_var, phase_of, angle_rule, first_type, returned, none_left, end_from, plain_block, none_changed, branch, joined, both, under, with_static, chosen, condition, rounds, distance, stmt, stmts, forget_as, otherwise, otherwise_end}
+use Rattle.check_fun.specs.Statement.{bound, bind_name, bind_names, assigned, assign_name, one_suits, static_updated, assign_part, assign_to, target, target_of, target_type, Target, taken_out, made_linear, with_origin, update_part, forget_name, end_var, phase_of, angle_rule, first_type, returned, none_left, end_from, plain_block, none_changed, branch, joined, both, under, with_static, chosen, condition, rounds, stmt, stmts, forget_as, otherwise, otherwise_end}
+use Rattle.check_scope.specs.Programs.{distance}
 use Rattle.silq_tree.specs.Syntax.{Expression, Statement, assign, spread, update, forget, forget_value, phase, choice, loop, call, block, Statements, done, next, Place, whole, part, part_of_part, return_nothing, return_value, Otherwise, else_block, else_choice}
 use Rattle.silq_tree.specs.declared.node.NameId.{NameId}
 use Rattle.silq_tree.specs.declared.node.Spot.{Spot}

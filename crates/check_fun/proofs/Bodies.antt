@@ -7,7 +7,7 @@ use Rattle.check_expr.proofs.Alike.{some_same, same_key_same}
 use Rattle.check_expr.proofs.Owners.{gives-bind, o_bind, o_then, o_back, o_fail, o_rules, o_from}
 use Rattle.check_scope.specs.Context.{Scope, Context, ◌>>◌}
 use Rattle.check_scope.specs.declared.words.BuiltIn.{BuiltIn}
-use Rattle.check_expr.specs.Expression.{paired}
+use Rattle.check_scope.specs.Programs.{paired}
 use Rattle.check_expr.specs.Owners.{owners, owned, Sole, Proper, ProperFor, Gives, Ensures, fun_at, IsProper, AreProper}
 use Rattle.check_scope.specs.Uses.{Found, find_fun}
 use Rattle.check_scope.specs.Walk.{Walk, answer, broken, counted, asked, Met, known, limited, new, meet, Counts, Checker, known_or_checked, with_counts, most_walked}

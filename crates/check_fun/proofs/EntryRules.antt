@@ -11,7 +11,8 @@ use Rattle.check_fun.specs.Entry.{program_of, check_named}
 use Rattle.check_scope.specs.Faults.{fault_as}
 use Rattle.check_scope.specs.Headers.{spot_or}
 use Rattle.check_scope.specs.Library.{Shelf, functions_of, function_at, before_at, found_at}
-use Rattle.check_fun.specs.Program.{Program, Accepted, all_headers, check_one, instances, entry_rules, check_entry, earlier_than}
+use Rattle.check_fun.specs.Program.{Accepted, all_headers, check_one, instances, entry_rules, check_entry}
+use Rattle.check_scope.specs.Programs.{Program, earlier_than}
 use Rattle.check_scope.specs.Steps.{IsFirst}
 use Rattle.check_scope.specs.Uses.{find_fun}
 use Rattle.check_scope.specs.Walk.{Counts}

@@ -6,7 +6,7 @@ use Rattle.std.proofs.lemmas.List.{append_assoc, append-nil}
 use Rattle.std.proofs.lemmas.Bool.{eqb-true, ltb-false, le-ltb}
 use Rattle.check_expr.proofs.Alike.{same_key_refl, same_key_fun}
 use Rattle.check_scope.specs.declared.words.BuiltIn.{BuiltIn}
-use Rattle.check_expr.specs.Expression.{paired}
+use Rattle.check_scope.specs.Programs.{paired}
 use Rattle.check_scope.specs.Reading.{Steady}
 use Rattle.check_scope.specs.Walk.{Walk, answer, broken, counted, asked, Met, known, limited, new, met_as, meet, too_deep, most_instances, Counts, Checker, known_or_checked, with_counts, most_walked}
 use Rattle.check_fun.specs.Program.{instance_walk, kept, check_one, instances}

@@ -23,7 +23,7 @@ use Rattle.silq_types.specs.declared.values.Var.{Var}
 use Rattle.check_scope.specs.declared.fault.CheckFault.{CheckFault}
 use Rattle.check_scope.specs.Context.{Context, new_place}
 use Rattle.check_fun.specs.Counting.{Runs, Fails, checker_at}
-use Rattle.check_expr.specs.Expression.{paired}
+use Rattle.check_scope.specs.Programs.{paired}
 use Rattle.check_scope.specs.Faults.{fault_as}
 use Rattle.check_scope.specs.Library.{Shelf, functions_of, function_at, before_at}
 use Rattle.check_fun.specs.Program.{instances, check_one, instance_walk, kept, signature_by, with_instance, param_vars, returned_as}

@@ -9,7 +9,8 @@ use Rattle.silq_tree.specs.Syntax.{Expression, Expressions, number, typed_number
 use Rattle.static_num.specs.Static.{is_static, value, in_range}
 use Rattle.static_num.specs.Angle.{is_turn, fraction, divisor}
 use Rattle.silq_types.specs.Rules.{Fault, rule, unsupported, over, and_then}
-use Rattle.check_fun.specs.Program.{Program, Accepted, check}
+use Rattle.check_fun.specs.Program.{Accepted, check}
+use Rattle.check_scope.specs.Programs.{Program}
 use Rattle.silq_io.specs.declared.fault.What.TheVariants.{Angle}
 use Rattle.silq_io.specs.declared.limit.LimitKind.TheVariants.{Walked, Instances, Depth}
 use Rattle.silq_types.specs.declared.types.Ty.{Ty}

@@ -19,13 +19,8 @@ use Rattle.check_scope.specs.Walk.{Walk, bind, answer, Counts, Checker, with_cou
 use Rattle.check_scope.specs.Context.{variable}
 use Rattle.check_scope.specs.declared.words.BuiltIn.{BuiltIn}
 use Rattle.check_scope.specs.Uses.{Found, built_in, find_fun}
-use Rattle.check_expr.specs.Expression.{paired}
+use Rattle.check_scope.specs.Programs.{Program, earlier_than, paired}
 use Rattle.check_fun.specs.Statement.{any_name, whole_body}
-
--- the functions in file order, and which names are those of built-in functions
-pub record Program : Type 0 where
-  pub words : List (NameId × BuiltIn)
-  pub funs : List Function
 
 -- ---- headers
 
@@ -116,11 +111,6 @@ has_negative (z ∷ zs) = int_lt z (pos 0) || has_negative zs
 abbrev pub entry_rules : Function → List ℤ → Result (Unit {0}) Fault
 entry_rules f statics =
     if not (length f.statics == length statics) || has_negative statics || has_classical f.params then Err (rule not_static f.at) else Ok tt
-
--- the functions before the one at this number, the nearest first
-abbrev pub earlier_than : ℕ → List Function → List Function
-earlier_than n [] = []
-earlier_than n (f ∷ before) = if length before == n then before else earlier_than n before
 
 -- an accepted program: the entry's signature, and the instances met
 pub record Accepted : Type 0 where

@@ -20,6 +20,7 @@ use Rattle.silq_types.specs.Rules.{rule, unsupported, unknown_name, name_taken, 
 use Rattle.silq_types.specs.Types.{value_of, same_name, place_name, place_indices, shape_eq, ty_eq, is_bit, is_number, is_linear, is_held, is_empty, names, needed_at, at}
 use Rattle.check_scope.specs.declared.need.Need.TheVariants as needs
 use Rattle.check_scope.specs.Context.{Scope, Check, ◌>>=◌, ◌>>◌, give_back, pass, fail, of_result, rules, variables, put_variables, new_place, count_statement, part_at, variable, indices, is_in_condition, find_var, same_part, is_variable, replace, is_known_name, part_type, known_names, needed, all_needed}
+use Rattle.check_scope.specs.Programs.{distance}
 use Rattle.check_scope.specs.Uses.{uses, parts_of}
 use Rattle.check_expr.specs.Expression.{is_tuple, lone_need, lone_wants, expr, single, suits, is_qfree, some_linear}
 
@@ -299,10 +300,6 @@ condition sc e = do
 abbrev pub rounds : (ℤ → Check (Unit {0})) → ℤ → ℕ → Check (Unit {0})
 rounds body low zero = pass
 rounds body low (suc n) = body low >> rounds body (low +ℤ pos 1) n
-
-abbrev pub distance : ℤ → ℕ
-distance (pos n) = n
-distance (negsuc n) = 0
 
 abbrev pub is_static_param : Scope → NameId → Bool
 is_static_param sc x = any_name (λ y. same_name y x) sc.this.statics

@@ -13,3 +13,4 @@ pub mod State
 pub mod Faults
 pub mod Steps
 pub mod Places
+pub mod Programs
