@@ -1,3 +1,4 @@
+pub mod NameChains
 pub mod Readings
 pub mod Sequence
 pub mod Overlapping

@@ -1,3 +1,4 @@
+pub mod NameIndex
 pub mod Walk
 pub mod Context
 pub mod Uses
