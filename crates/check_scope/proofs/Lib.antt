@@ -1,4 +1,5 @@
 pub mod NameChains
+pub mod FoundFunctions
 pub mod Readings
 pub mod Sequence
 pub mod Overlapping
