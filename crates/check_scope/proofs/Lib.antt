@@ -6,7 +6,9 @@ pub mod Overlapping
 pub mod Named
 pub mod Obeyed
 pub mod Searching
+pub mod VariableWalks
 pub mod Undoing
+pub mod KeptVariables
 pub mod Reached
 pub mod Chained
 pub mod HeaderLists

@@ -8,6 +8,7 @@ pub mod Reading
 pub mod Words
 pub mod Library
 pub mod Undo
+pub mod Kept
 pub mod First
 pub mod Headers
 pub mod State
