@@ -13,6 +13,7 @@ pub mod need;
 pub mod obey;
 pub mod part_types;
 mod part_uses;
+mod name_index;
 mod parts;
 pub mod places;
 mod reach;
