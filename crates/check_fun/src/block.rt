@@ -118,7 +118,7 @@ fn both(
     let start = copied(library.alloc(), cx.vars())?;
     branch(library, cx, tally, then.items.as_slice(), then.end)?;
     let one = copied(library.alloc(), cx.vars())?;
-    cx.put(start);
+    cx.put(start)?;
     branch(
         library,
         cx,
@@ -127,7 +127,7 @@ fn both(
         end_of_else(library, other),
     )?;
     let vars = joined(library.alloc(), one.as_slice(), cx.vars())?;
-    cx.put(vars);
+    cx.put(vars)?;
     Ok(())
 }
 
