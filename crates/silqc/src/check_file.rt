@@ -12,7 +12,7 @@ use crate::input::{ReadError, read_file};
 use crate::program::{Refusal, refusal_of};
 use crate::source::{self, SOURCE_LIMIT};
 use crate::status::Status;
-use check_expr::CheckFault;
+use check_scope::CheckFault;
 use check_fun::check::check;
 use silq_io::{Files, LimitKind};
 use silq_parse::{ParseFault, parse};
