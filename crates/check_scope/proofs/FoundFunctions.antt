@@ -7,7 +7,7 @@ use Rattle.silq_tree.specs.declared.node.FunId.{FunId}
 use Rattle.silq_tree.specs.Syntax.{Function}
 use Rattle.silq_tree.specs.Arena.{Forest, nothing, fun_at, program_at}
 use Rattle.silq_types.specs.Types.{same_name}
-use Rattle.check_scope.specs.Library.{Shelf, functions_of, function_at, before_at, found_at, names_at}
+use Rattle.check_scope.specs.Library.{Shelf, functions_of, before_at, found_at, names_at}
 use Rattle.check_scope.specs.NameIndex.{is_name, last_below}
 use Rattle.check_scope.specs.Uses.{find_fun, Found}
 use Rattle.check_scope.proofs.NameChains.{found, is_there}

@@ -1,9 +1,8 @@
 -- Changes of variables leave their names.
-use Rattle.std.proofs.Common.{◌≡◌, refl, ℕ, ◌<◌, Bool, true, false, cond, ◌&&◌, List, [], ◌∷◌, ◌++◌, Some, ◌∙◌, sym, ap, set, length, slice_get, length-set, arith}
+use Rattle.std.proofs.Common.{◌≡◌, refl, ℕ, Bool, true, false, cond, List, [], ◌∷◌, ◌++◌, Some, ◌∙◌, sym, ap, set, length, slice_get, length-set, arith}
 use Rattle.silq_tree.specs.declared.node.NameId.{NameId}
 use Rattle.silq_types.specs.declared.values.Part.{Part}
 use Rattle.silq_types.specs.declared.values.Var.{Var}
-use Rattle.silq_types.specs.Types.{same_name}
 use Rattle.check_scope.specs.Context.{same_part, replace}
 use Rattle.check_scope.specs.First.{IsFirstAt}
 use Rattle.check_scope.specs.Kept.{variable_names, AreKept}

@@ -1,7 +1,7 @@
 -- A walk down the variables of one name.
-use Rattle.std.proofs.Common.{◌≡◌, refl, ℕ, zero, suc, ◌+◌, ◌-◌, ◌<◌, ◌≤◌, ◌⊎◌, inl, inr, Bool, true, false, ◌&&◌, ◌||◌, not, List, [], ◌∷◌, ◌++◌, Option, Some, None, ◌∙◌, sym, ap, subst, take, drop, map, get_or, length, slice_get, option_map, MatchOption, add-one, arith}
+use Rattle.std.proofs.Common.{◌≡◌, refl, ℕ, zero, suc, ◌+◌, ◌-◌, ◌<◌, ◌≤◌, ◌⊎◌, inl, inr, Bool, true, false, ◌&&◌, ◌||◌, not, List, [], ◌∷◌, ◌++◌, Option, Some, None, ◌∙◌, sym, ap, subst, take, drop, get_or, length, slice_get, option_map, MatchOption, add-one, arith}
 use Rattle.std.proofs.lemmas.List.{length-map, take_more, take-map, map_push, map-append, take-append-drop, take_all, length-drop}
-use Rattle.std.proofs.lemmas.Option.{slice_get_within, slice_get-map, slice_get_past, slice_get-get_or, slice_get_cases, get_or_from_slice_get}
+use Rattle.std.proofs.lemmas.Option.{slice_get_within, slice_get-map, slice_get-get_or, slice_get_cases, get_or_from_slice_get}
 use Rattle.silq_tree.specs.declared.node.NameId.{NameId}
 use Rattle.silq_types.specs.declared.values.Part.{Part}
 use Rattle.silq_types.specs.declared.values.Var.{Var}
@@ -11,7 +11,7 @@ use Rattle.check_scope.specs.First.{IsFirstAt, IsAbsent}
 use Rattle.check_scope.specs.Kept.{variable_names}
 use Rattle.check_scope.specs.NameIndex.{is_name, last_below}
 use Rattle.check_scope.specs.Places.{disturbs}
-use Rattle.check_scope.proofs.NameChains.{found, found_none, is_there, equal_is_same}
+use Rattle.check_scope.proofs.NameChains.{found, found_none, is_there}
 use Rattle.check_scope.proofs.Searching.{Passed, passed_none, passed_more, first_here, absent}
 
 -- whether there is a variable, and it passes
@@ -81,8 +81,10 @@ walked_past vars x p i stop next h w e after =
   where
     at : (k : ℕ) → i ≤ k → (k ≡ i) ⊎ (i < k)
     at k l = grind arith
+
     under : (k : ℕ) → (k < w.bound) ⊎ (w.bound ≤ k)
     under k = grind arith
+
     go : (k : ℕ) → i ≤ k → k < stop → ((k ≡ i) ⊎ (i < k)) → passes p (slice_get vars k) ≡ false
     go k l m (inl same) = ap (λ (j : ℕ). passes p (slice_get vars j)) same ∙ e
     go k l m (inr above) = elim (under k) [

@@ -35,12 +35,7 @@ fn is_in_reach(statics: &Statics, name: NameId) -> bool
 /// The first name in a place, which stands there, that is not in reach.
 #[cycle(reach)]
 #[tactic(auto, using(silq_tree::proofs::Lists::ids, crate::proofs::Reached::first_unknown_in_both))]
-fn unknown_in_place(
-    tree: &Tree,
-    statics: &Statics,
-    place: PlaceNode,
-    at: Spot,
-) -> Option<Spot>
+fn unknown_in_place(tree: &Tree, statics: &Statics, place: PlaceNode, at: Spot) -> Option<Spot>
     requires { AreExprsBelow (length tree.now.exprs) (place_exprs place) }
     ensures { result ≡ first_of (reached statics.now []) (names (placed (place_of (expr_at tree.now) place) at)) }
 {
@@ -62,11 +57,7 @@ fn unknown_in_place(
 /// The first name in the width of a type that is not in reach.
 #[cycle(reach)]
 #[tactic(auto, using(silq_tree::proofs::Lists::ids, crate::proofs::Reached::first_unknown_in_both))]
-pub(crate) fn unknown_in_width(
-    tree: &Tree,
-    statics: &Statics,
-    ty: ScalarNode,
-) -> Option<Spot>
+pub(crate) fn unknown_in_width(tree: &Tree, statics: &Statics, ty: ScalarNode) -> Option<Spot>
     requires { AreExprsBelow (length tree.now.exprs) (scalar_exprs ty) }
     ensures { result ≡ first_of (reached statics.now []) (scalar_names (scalar_of (expr_at tree.now) ty)) }
 {

@@ -1,4 +1,4 @@
-use Rattle.std.proofs.Common.{◌≡◌, ◌<◌, ◌∙◌, sym, length, rules}
+use Rattle.std.proofs.Common.{◌<◌, ◌∙◌, sym, length, rules}
 use Rattle.check_scope.proofs.NameChains.{left_below}
 use Rattle.check_scope.specs.Kept.{variable_names}
 use Rattle.check_scope.proofs.VariableWalks.{way_is_of, walked_within, walked_in_names, walked_before, walked_past, walked_end, passes_at, disturbs_here, disturbs_none}

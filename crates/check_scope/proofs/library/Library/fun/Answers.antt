@@ -1,4 +1,3 @@
-use Rattle.std.proofs.Common.{arith}
 use Rattle.check_scope.proofs.Named.{fun_below}
 use Rattle.check_scope.proofs.library.Library.fun.Goals as goal
 

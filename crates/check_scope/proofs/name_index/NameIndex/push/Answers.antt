@@ -1,4 +1,4 @@
-use Rattle.std.proofs.Common.{◌≡◌, length, vec_len, rules}
+use Rattle.std.proofs.Common.{◌≡◌, length, rules}
 use Rattle.check_scope.specs.NameIndex.{names_of, last_below}
 use Rattle.check_scope.proofs.NameChains.{index_push}
 use Rattle.check_scope.proofs.name_index.NameIndex.push.Goals as goal
