@@ -1,0 +1,5 @@
+use Rattle.check_expr.proofs.ShapesWalk.{reads_ensures}
+use Rattle.check_expr.proofs.shape.shape.Goals as goal
+
+pub returns-clause-types : goal.returns-clause-types
+returns-clause-types c = ?
