@@ -7,7 +7,7 @@ use Rattle.check_expr.proofs.ShapesVars.{SameTypes, consumed_type, scalar_same}
 use Rattle.check_expr.specs.Expression.{Asked, first_asked, later_asked, asked_by, asked_by_built_in, Arguments, one_value, static_value, unless_static, typed_value, typed_by, unary_value, binary_value, is_tuple, lone_need, lone_wants, single, single_of, operands, suits, flip_value, gate_value, gate_values, repeated, many, length_value, all_typed, vector_value, call_gate, call_built_in, static_arguments, natural, paired, exact_place, result_origin, placed, argument_at, result_values, unnamed_rule, lone_linear, all_lifted, is_qfree, call_own, call_found, asked_of_items, expr, arguments, later_arguments}
 use Rattle.check_expr.specs.Owners.{Gives, Ensures}
 use Rattle.check_expr.specs.Shapes.{some_static, has_static, types_of_values, shape_of, or_any, first_type, scalar_told, part_of_place, var_type, found_type, part_told, joined_type, binary_type, gate_type, count_told, length_told, built_in_type, result_types, signed_types, instance_types, call_types, type_of, first_item, second_item, item_types, types_of, types_told}
-use Rattle.check_scope.specs.Context.{Scope, Context, Check, ◌>>=◌, ◌>>◌, give_back, new_place, needed, all_needed, find_var, replace, variable, part_at, part_type, is_known_name}
+use Rattle.check_scope.specs.Context.{Scope, Context, Check, ◌>>=◌, ◌>>◌, give_back, signature, needed, all_needed, find_var, replace, variable, part_at, part_type, is_known_name}
 use Rattle.check_scope.specs.Places.{new_value, move, unmoved, is_moved, disturbs, use_rules, use_part, use_found, use_place}
 use Rattle.check_scope.specs.State.{State, context_of}
 use Rattle.check_scope.specs.Steps.{Reads}
@@ -269,6 +269,9 @@ module _ (met : Signatures) where
       pub shut : is_static sc.statics e ≡ true → v.ty ∷ [] ≡ wants
       pub open_ : is_static sc.statics e ≡ false → v.ty ≡ type_of e sc vars met
 
+    tuple_shut : (es : Expressions) (s : Spot) → is_static sc.statics (tuple es s) ≡ true → ⊥
+    tuple_shut es s x = let h = tuple_is_open sc.statics es s in cc
+
     t_single_of : {P : Context → Type 0} (e : Expression) (vs : List Value) → Ensures Knows P (single_of e vs) (λ v c. (vs ≡ v ∷ []) × P c)
     t_single_of e [] = o_fail Knows 0 _
     t_single_of e (v ∷ []) = o_back Knows 0 v (λ c p. (refl, p))
@@ -285,6 +288,12 @@ module _ (met : Signatures) where
 
     t_lone : (e : Expression) (wants : List Ty) (vs : List Value) → Ensures Knows (λ c. Told e (lone_wants e wants) vs × Same c) (single e vs) (λ v c. Lone e wants v × Same c)
     t_lone e wants vs = o_more Knows 0 (t_single e vs) (λ v c h. (lone_of e wants vs v h.0.0 h.0.1 h.1.0, h.1.1))
+
+    lone_held : (e : Expression) (vs : List Value) (v : Value) → is_tuple e ≡ false → vs ≡ v ∷ [] → Told e [] vs → Lone e [] v
+    lone_held e vs v h q t = lone_of e [] vs v h q (subst (λ ws. Told e ws vs) (sym (lone_asked e [] h)) t)
+
+    t_held : (e : Expression) (vs : List Value) → Ensures Knows (λ c. Told e [] vs × Same c) (single e vs) (λ v c. Lone e [] v × Same c)
+    t_held e vs = o_more Knows 0 (t_single e vs) (λ v c h. (lone_held e vs v h.0.0 h.0.1 h.1.0, h.1.1))
 
     lone_open : (e : Expression) (v : Value) → Lone e [] v → v.ty ≡ type_of e sc vars met
     lone_open e v h = go (is_static sc.statics e) refl
@@ -410,3 +419,111 @@ module _ (met : Signatures) where
         record { runs = λ c h.
           (o_more Knows 0 (t_many s vs m (first_item rest sc vars met) (items_first rest needs.Held [] vs refl h.1.1.0))
           (λ xs d q. (q.0 ∙ ap (λ t. t ∷ []) (counted_length a rest m (first_item rest sc vars met) (h.1.0 (and_first (is_static sc.statics a) (all_typed rest) (not_false (is_static sc.statics a && all_typed rest) h.0.0))) (not_false (is_count most_items m) h.0.1.0)), q.1))).runs c h.1.1.1 }))))
+
+    t_built_in : (b : BuiltIn) (ss args : Expressions) (s : Spot) (need : Need) (walk : Arguments) (later : Check (List Value)) → Walks args walk → Walks_later args later → Ensures Knows Same (call_built_in sc b ss args s need walk later) (λ vs c. (types_of_values vs ≡ built_in_type b (length_told sc.statics args) (first_item args sc vars met) (second_item args sc vars met) ∷ []) × Same c)
+    t_built_in HGate ss args s need walk later w r = t_call_gate HGate ss args s need walk refl w
+    t_built_in XGate ss args s need walk later w r = t_call_gate XGate ss args s need walk refl w
+    t_built_in YGate ss args s need walk later w r = t_call_gate YGate ss args s need walk refl w
+    t_built_in ZGate ss args s need walk later w r = t_call_gate ZGate ss args s need walk refl w
+    t_built_in Dup ss args s need walk later w r = t_call_gate Dup ss args s need walk refl w
+    t_built_in Measure ss args s need walk later w r = t_call_gate Measure ss args s need walk refl w
+    t_built_in Vector ss args s need walk later w r = o_then Knows 0 (o_rules Knows 0 s _) (λ u. o_from Knows 0 (λ c h. h.1) (t_vector s args later r))
+    t_built_in RotateX ss args s need walk later w r = o_fail Knows 0 _
+    t_built_in RotateY ss args s need walk later w r = o_fail Knows 0 _
+    t_built_in RotateZ ss args s need walk later w r = o_fail Knows 0 _
+
+    -- ---- calls of own functions
+
+    t_placed : (o : Option Value) (t : Ty) (k : Origin) → Ensures Knows Same (placed o t k) (λ x c. (x.ty ≡ t) × Same c)
+    t_placed None t k = t_new t k
+    t_placed (Some v) t k = o_back Knows 0 _ (λ c s. (refl, s))
+
+    t_results : (lifts : Bool) (vs : List Value) (rs : List Returned) → Ensures Knows Same (result_values lifts vs rs) (λ xs c. (types_of_values xs ≡ result_types rs) × Same c)
+    t_results lifts vs [] = o_back Knows 0 [] (λ c s. (refl, s))
+    t_results lifts vs (r ∷ rs) =
+        o_bind Knows 0 (t_placed (argument_at vs r.from) r.ty (result_origin lifts r.ty)) (λ x. o_bind Knows 0 (carried (t_results lifts vs rs)) (λ xs.
+        o_back Knows 0 (x ∷ xs) (λ c h. (ap (λ t. t ∷ types_of_values xs) h.0 ∙ ap (λ ts. r.ty ∷ ts) h.1.0, h.1.1))))
+
+    abbrev key_of : Found → List ℤ → InstanceKey
+    key_of f zs = record { fun = record { number = f.number }; statics = zs }
+
+    instance_same : (f : Found) (ss : Expressions) (zs : List ℤ) (sig : Signature) → index_values sc.statics ss ≡ Some zs → signature_of met (key_of f zs) ≡ Some sig → result_types sig.results ≡ instance_types met f.number (index_values sc.statics ss)
+    instance_same f ss zs sig e k = sym (ap (λ o. instance_types met f.number o) e ∙ ap signed_types k)
+
+    t_own : (f : Found) (ss args : Expressions) (s : Spot) (need : Need) (walk : Arguments) → Walks args walk → Ensures Knows Same (call_own sc f ss args s need walk) (λ vs c. (types_of_values vs ≡ instance_types met f.number (index_values sc.statics ss)) × Same c)
+    t_own f ss args s need walk w =
+        o_then Knows 0 (o_rules Knows 0 s _) (λ u.
+        o_bind Knows 0 (o_from Knows 0 (λ c h. h.1) (t_static_arguments ss)) (λ zs.
+        o_bind Knows 0 (o_result Knows 0 (header_of (paired f.fun.statics zs) exact_place f.fun)) (λ h.
+        o_bind Knows 0 (o_variables Knows 0) (λ vs.
+        o_then Knows 0 (o_rules Knows 0 s _) (λ u2.
+        record { runs = λ c r. (last zs h r.1.1.1.0).runs c r.1.1.1.1 })))))
+      where
+        -- the arguments, the signature and the results
+        last : (zs : List ℤ) (h : Header) → index_values sc.statics ss ≡ Some zs → Ensures Knows Same (walk (map asked_by h.params) >>= (λ vs. signature (key_of f zs) >>= (λ sig. result_values (is_qfree f.fun.mark && all_lifted h.params vs) vs sig.results >>= (λ xs. unnamed_rule s need (lone_linear xs) >> give_back xs)))) (λ vs c. (types_of_values vs ≡ instance_types met f.number (index_values sc.statics ss)) × Same c)
+        last zs h e =
+            o_bind Knows 0 (w (map asked_by h.params)) (λ vs.
+            o_bind Knows 0 (o_from Knows 0 (λ c r. r.1) (o_signature Knows 0 (key_of f zs))) (λ sig.
+            given (λ (k : signature_of met (key_of f zs) ≡ Some sig).
+            o_bind Knows 0 (t_results (is_qfree f.fun.mark && all_lifted h.params vs) vs sig.results) (λ xs.
+            o_then Knows 0 (o_rules Knows 0 s _) (λ u. o_back Knows 0 xs (λ c r. (r.1.0 ∙ instance_same f ss zs sig e k, r.1.1)))))))
+
+    t_found : (b : Option BuiltIn) (f : Option Found) (ss args : Expressions) (s : Spot) (need : Need) (walk : Arguments) (later : Check (List Value)) → Walks args walk → Walks_later args later → Ensures Knows Same (call_found sc b f ss args s need walk later) (λ vs c. (types_of_values vs ≡ call_types sc.statics met b f ss args (first_item args sc vars met) (second_item args sc vars met)) × Same c)
+    t_found (Some b) f ss args s need walk later w r = t_built_in b ss args s need walk later w r
+    t_found None (Some f) ss args s need walk later w r = t_own f ss args s need walk w
+    t_found None None ss args s need walk later w r = o_fail Knows 0 _
+
+    -- ---- expressions
+
+    unary_told : (op : UnaryOp) (e : Expression) (s : Spot) (v : Value) → is_static sc.statics (unary op e s) ≡ false → Lone e [] v → v.ty ∷ [] ≡ types_of (unary op e s) sc vars met
+    unary_told op e s v f h = ap (λ t. t ∷ []) (lone_open e v h)
+
+    mutual
+      t_expr : (e : Expression) (need : Need) (wants : List Ty) → Ensures Knows Same (expr e sc need wants) (λ vs c. Told e wants vs × Same c)
+      t_expr (number n s) need wants = o_more Knows 0 (t_static (number n s) wants) (λ vs c h. (told_shut (number n s) wants vs (number_is_shut sc.statics n s) h.0, h.1))
+      t_expr (typed_number n k s) need wants =
+          o_bind Knows 0 (t_typed n k s) (λ v. o_back Knows 0 (v ∷ []) (λ c h. (told_open (typed_number n k s) wants (v ∷ []) (typed_is_open sc.statics n k s) (ap (λ t. t ∷ []) h.0), h.1)))
+      t_expr (truth b s) need wants = o_more Knows 0 (t_static (truth b s) wants) (λ vs c h. (told_shut (truth b s) wants vs (truth_is_shut sc.statics b s) h.0, h.1))
+      t_expr (pi s) need wants = o_fail Knows 0 _
+      t_expr (place w s) need wants =
+          t_unless (place w s) wants refl (λ x. o_bind Knows 0 (t_use_place w s need) (λ v. o_back Knows 0 (v ∷ []) (λ c h. (ap (λ t. t ∷ []) h.0, h.1))))
+      t_expr (called f ss args s) need wants =
+          o_more Knows 0 (t_found (built_in sc.words f) (find_fun sc.before f) ss args s need (λ l. arguments args sc needs.Held l) (later_arguments args sc) (λ l. t_arguments args needs.Held l) (t_later args))
+          (λ vs c h. (told_open (called f ss args s) wants vs (call_is_open sc.statics f ss args s) h.0, h.1))
+      t_expr (tuple es s) need wants =
+          o_more Knows 0 (t_arguments es need (asked_of_items need wants))
+          (λ vs c h. (record { shut = λ x. let f : ⊥ = tuple_shut es s x in absurd f; open_ = λ x. items_types es need (asked_of_items need wants) vs x h.0 }, h.1))
+      t_expr (unary op e s) need wants =
+          t_unless (unary op e s) wants refl (λ x. o_bind Knows 0 (t_expr e needs.Held []) (λ vs. o_bind Knows 0 (t_held e vs) (λ v.
+          given (λ (q : Lone e [] v). o_more Knows 0 (t_unary op s v) (λ xs c h. (h.0 ∙ unary_told op e s v x q, h.1))))))
+      t_expr (binary op a b s) need wants =
+          t_unless (binary op a b s) wants refl (λ x.
+          o_bind Knows 0 (t_operands op a b (λ w. expr a sc needs.Held (lone_wants a w) >>= single a) (λ w. expr b sc needs.Held (lone_wants b w) >>= single b)
+          (λ w. o_bind Knows 0 (t_expr a needs.Held (lone_wants a w)) (λ vs. t_lone a w vs))
+          (λ w. o_bind Knows 0 (t_expr b needs.Held (lone_wants b w)) (λ vs. t_lone b w vs)))
+          (λ r. given (λ (q : Both op a b r). o_more Knows 0 (t_binary op a b s r.0 r.1) (λ xs c h. (h.0 ∙ ap (λ t. t ∷ []) q, h.1)))))
+
+      t_arguments : (es : Expressions) (other : Need) (l : List Asked) → Ensures Knows Same (arguments es sc other l) (λ vs c. Items es other l vs × Same c)
+      t_arguments none other l = o_back Knows 0 [] (λ c s. (tt, s))
+      t_arguments (more e es) other l =
+          o_bind Knows 0 (t_expr e (lone_need e (first_asked other l).need) (lone_wants e (first_asked other l).wants)) (λ vs.
+          o_bind Knows 0 (t_lone e (first_asked other l).wants vs) (λ v.
+          o_then Knows 0 (o_suits Knows 0 e (first_asked other l).wants v) (λ u.
+          o_bind Knows 0 (carried (t_arguments es other (later_asked l))) (λ rest.
+          o_back Knows 0 (v ∷ rest) (λ c h. ((h.0, h.1.0), h.1.1))))))
+
+      t_later : (es : Expressions) → Walks_later es (later_arguments es sc)
+      t_later none = o_back Knows 0 [] (λ c s. (tt, s))
+      t_later (more e es) = t_arguments es needs.Held []
+
+    told_same : (e : Expression) (wants : List Ty) (vs : List Value) → Told e wants vs → types_told e sc vars met ≡ shape_of sc.statics e vs
+    told_same e wants vs h = go (has_static sc.statics e) refl
+      where
+        go : (b : Bool) → has_static sc.statics e ≡ b → cond (has_static sc.statics e) None (Some (types_of e sc vars met)) ≡ cond (has_static sc.statics e) None (Some (types_of_values vs))
+        go true x = ap (λ b. cond b None (Some (types_of e sc vars met))) x ∙ sym (ap (λ b. cond b None (Some (types_of_values vs))) x)
+        go false x = ap (λ ts. cond (has_static sc.statics e) None (Some ts)) (sym (h.open_ x))
+
+  -- what the walk reads has the types that are told without it
+  pub types_read : (sc : Scope) (e : Expression) (need : Need) (wants : List Ty) (vs : List Value) (old now : State) → Reads met (expr e sc need wants) old vs now → types_told e sc old.vars met ≡ shape_of sc.statics e vs
+  types_read sc e need wants vs old now r =
+      told_same sc old.vars e wants vs (reads_ensures (Same sc old.vars) (expr e sc need wants) (λ xs c. Told sc old.vars e wants xs × Same sc old.vars c) old now vs (t_expr sc old.vars e need wants) r (record { types = λ p. refl })).0

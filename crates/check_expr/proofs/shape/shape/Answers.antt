@@ -1,4 +1,4 @@
-use Rattle.check_expr.proofs.ShapesWalk.{reads_ensures}
+use Rattle.check_expr.proofs.ShapesWalk.{types_read}
 use Rattle.check_expr.proofs.shape.shape.Goals as goal
 
 pub returns-clause-types : goal.returns-clause-types
