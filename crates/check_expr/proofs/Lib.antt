@@ -6,3 +6,4 @@ pub mod Scopes
 pub mod Walks
 pub mod ShapesVars
 pub mod ShapesWalk
+pub mod ShapesCode

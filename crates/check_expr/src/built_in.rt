@@ -157,7 +157,7 @@ fn gate_values(
 }
 
 /// What so many of a value are made of.
-fn repeated(shape: Shape, len: u32) -> Shape
+pub(crate) fn repeated(shape: Shape, len: u32) -> Shape
     ensures { result ≡ shape_repeated shape (pos len) }
 {
     match shape {
@@ -285,7 +285,7 @@ fn all_typed(tree: &Tree, items: &[ExprId]) -> bool
 }
 
 /// The length as a count, where it is 1 to 4,096.
-fn as_count(len: i64) -> Option<u32>
+pub(crate) fn as_count(len: i64) -> Option<u32>
     ensures some { is_some result ≡ is_count_up_to most_items len }
     ensures value { IfSome result (λ n. pos n ≡ len) }
 {

@@ -62,7 +62,7 @@ fn binary_fits(op: BinaryOp, shape: Shape) -> bool
     }
 }
 
-fn binary_shape(op: BinaryOp, shape: Shape) -> Shape
+pub(crate) fn binary_shape(op: BinaryOp, shape: Shape) -> Shape
     ensures { result ≡ shape_binary op shape }
 {
     match op {
