@@ -332,7 +332,7 @@ module _ (met : Signatures) where
     t_operands : (op : BinaryOp) (a b : Expression) (left right : List Ty → Check Value) → ((w : List Ty) → Ensures Knows Same (left w) (λ x c. Lone a w x × Same c)) → ((w : List Ty) → Ensures Knows Same (right w) (λ x c. Lone b w x × Same c)) → Ensures Knows Same (operands sc a left right) (λ r c. Both op a b r × Same c)
     t_operands op a b left right l r = o_if Knows 0 (is_static sc.statics a)
         (λ e. o_bind Knows 0 (o_result Knows 0 (needed_at sc.statics a (at a))) (λ z. o_bind Knows 0 (o_from Knows 0 (λ c h. h.1) (r [])) (λ y.
-          o_bind Knows 0 (carried (l (y.ty ∷ []))) (λ x. o_back Knows 0 (x, y) (λ c h. (both_left op a b x y e h.0 h.1.0, h.1.1))))))
+        o_bind Knows 0 (carried (l (y.ty ∷ []))) (λ x. o_back Knows 0 (x, y) (λ c h. (both_left op a b x y e h.0 h.1.0, h.1.1))))))
         (λ e. o_bind Knows 0 (l []) (λ x. o_bind Knows 0 (carried (r (x.ty ∷ []))) (λ y. o_back Knows 0 (x, y) (λ c h. (both_right op a b x y e h.0 h.1.0, h.1.1)))))
 
     -- ---- arguments
@@ -416,9 +416,11 @@ module _ (met : Signatures) where
     t_vector s none later r = o_fail Knows 0 _
     t_vector s (more a rest) later r =
         o_then Knows 0 (o_names Knows 0 sc a) (λ u. o_bind Knows 0 (t_length a) (λ m. o_bind Knows 0 (carried r) (λ vs. o_then Knows 0 (o_rules Knows 0 s _) (λ u2.
-        record { runs = λ c h.
-          (o_more Knows 0 (t_many s vs m (first_item rest sc vars met) (items_first rest needs.Held [] vs refl h.1.1.0))
-          (λ xs d q. (q.0 ∙ ap (λ t. t ∷ []) (counted_length a rest m (first_item rest sc vars met) (h.1.0 (and_first (is_static sc.statics a) (all_typed rest) (not_false (is_static sc.statics a && all_typed rest) h.0.0))) (not_false (is_count most_items m) h.0.1.0)), q.1))).runs c h.1.1.1 }))))
+        record {
+          runs = λ c h.
+              (o_more Knows 0 (t_many s vs m (first_item rest sc vars met) (items_first rest needs.Held [] vs refl h.1.1.0))
+              (λ xs d q. (q.0 ∙ ap (λ t. t ∷ []) (counted_length a rest m (first_item rest sc vars met) (h.1.0 (and_first (is_static sc.statics a) (all_typed rest) (not_false (is_static sc.statics a && all_typed rest) h.0.0))) (not_false (is_count most_items m) h.0.1.0)), q.1))).runs c h.1.1.1;
+        }))))
 
     t_built_in : (b : BuiltIn) (ss args : Expressions) (s : Spot) (need : Need) (walk : Arguments) (later : Check (List Value)) → Walks args walk → Walks_later args later → Ensures Knows Same (call_built_in sc b ss args s need walk later) (λ vs c. (types_of_values vs ≡ built_in_type b (length_told sc.statics args) (first_item args sc vars met) (second_item args sc vars met) ∷ []) × Same c)
     t_built_in HGate ss args s need walk later w r = t_call_gate HGate ss args s need walk refl w
@@ -527,3 +529,8 @@ module _ (met : Signatures) where
   pub types_read : (sc : Scope) (e : Expression) (need : Need) (wants : List Ty) (vs : List Value) (old now : State) → Reads met (expr e sc need wants) old vs now → types_told e sc old.vars met ≡ shape_of sc.statics e vs
   types_read sc e need wants vs old now r =
       told_same sc old.vars e wants vs (reads_ensures (Same sc old.vars) (expr e sc need wants) (λ xs c. Told sc old.vars e wants xs × Same sc old.vars c) old now vs (t_expr sc old.vars e need wants) r (record { types = λ p. refl })).0
+
+  -- the same where they are told
+  pub types_told_read : (sc : Scope) (e : Expression) (need : Need) (wants : List Ty) (vs : List Value) (old now : State) (ts : List Ty) → false ≡ has_static sc.statics e → ts ≡ types_of e sc old.vars met → Reads met (expr e sc need wants) old vs now → Some ts ≡ shape_of sc.statics e vs
+  types_told_read sc e need wants vs old now ts h q r =
+      ap (λ us. Some us) q ∙ ap (λ b. cond b None (Some (types_of e sc old.vars met))) h ∙ types_read sc e need wants vs old now r

@@ -56,12 +56,7 @@ fn first_type(types: &[Ty]) -> Ty
 }
 
 /// The type of a number with a written type.
-fn number_type(
-    library: &Library,
-    cx: &Context,
-    ty: ScalarNode,
-    at: Spot,
-) -> Result<Ty, AllocError>
+fn number_type(library: &Library, cx: &Context, ty: ScalarNode, at: Spot) -> Result<Ty, AllocError>
     requires { AreExprsBelow (length library.now.nodes.exprs) (scalar_exprs ty) }
     ensures { IfOk result (λ t. t ≡ scalar_told (type_of_scalar cx.now.statics (is_known_name (scope_in library.now cx.now) cx.now.vars) (scalar_of (expr_at library.now.nodes) ty) at)) }
 {
@@ -342,12 +337,7 @@ fn call_types(
 /// The type of the one value of an expression.
 #[cycle(shape)]
 #[tactic(auto, using(silq_tree::proofs::Lists::ids))]
-fn type_at(
-    library: &Library,
-    cx: &Context,
-    e: ExprId,
-    known: &Known,
-) -> Result<Ty, AllocError>
+fn type_at(library: &Library, cx: &Context, e: ExprId, known: &Known) -> Result<Ty, AllocError>
     requires { e.number < length library.now.nodes.exprs }
     ensures { IfOk result (λ t. t ≡ type_of (expr_at library.now.nodes e) (scope_in library.now cx.now) cx.now.vars known.now) }
 {
@@ -406,12 +396,7 @@ fn item_types(
 
 /// The types of all values of an expression.
 #[tactic(auto, using(silq_tree::proofs::Lists::ids))]
-fn types_at(
-    library: &Library,
-    cx: &Context,
-    e: ExprId,
-    known: &Known,
-) -> Result<TyList, AllocError>
+fn types_at(library: &Library, cx: &Context, e: ExprId, known: &Known) -> Result<TyList, AllocError>
     requires { e.number < length library.now.nodes.exprs }
     ensures { IfOk result (λ ts. ts ≡ types_of (expr_at library.now.nodes e) (scope_in library.now cx.now) cx.now.vars known.now) }
 {
