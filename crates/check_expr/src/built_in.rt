@@ -19,15 +19,15 @@ ghost use Rattle.check_scope.specs.Context.{rules};
 ghost use Rattle.check_scope.specs.Steps.{Reads, Stops};
 
 use crate::asked::Ask;
-use check_scope::context::Context;
 use crate::expr::{ValueList, arguments};
+use crate::values::{alone, broken, is_static, one_value, static_number};
+use check_scope::context::Context;
 use check_scope::fault::{CheckFault, ExprFault};
 use check_scope::library::Library;
 use check_scope::need::Need;
 use check_scope::obey::obey;
 use check_scope::places::known_names;
 use check_scope::rule;
-use crate::values::{alone, broken, is_static, one_value, static_number};
 use check_scope::words::BuiltIn;
 use silq_io::What;
 use silq_tree::{Expr, ExprId, Mark, Spot, Tree};
