@@ -175,11 +175,7 @@ fn condition(
 {
     let found = values(library, cx, tally, cond, Need::Held, &[])?;
     let value = single_now(library, cond, found.as_slice())?;
-    obey_now(
-        spot_of(library, cond),
-        !is_bit(&value.ty),
-        rule::WRONG_TYPE,
-    )?;
+    obey_now(spot_of(library, cond), !is_bit(&value.ty), rule::WRONG_TYPE)?;
     let parts = named_parts(library, cx, cond)?;
     Ok(parts)
 }
