@@ -4,3 +4,6 @@ pub mod Owners
 pub mod Called
 pub mod Scopes
 pub mod Walks
+pub mod ShapesVars
+pub mod ShapesWalk
+pub mod ShapesCode

@@ -5,3 +5,4 @@ pub mod Calls
 pub mod Numbers
 pub mod Tests
 pub mod Forms
+pub mod Shapes

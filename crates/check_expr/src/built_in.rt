@@ -19,15 +19,15 @@ ghost use Rattle.check_scope.specs.Context.{rules};
 ghost use Rattle.check_scope.specs.Steps.{Reads, Stops};
 
 use crate::asked::Ask;
-use check_scope::context::Context;
 use crate::expr::{ValueList, arguments};
+use crate::values::{alone, broken, is_static, one_value, static_number};
+use check_scope::context::Context;
 use check_scope::fault::{CheckFault, ExprFault};
 use check_scope::library::Library;
 use check_scope::need::Need;
 use check_scope::obey::obey;
 use check_scope::places::known_names;
 use check_scope::rule;
-use crate::values::{alone, broken, is_static, one_value, static_number};
 use check_scope::words::BuiltIn;
 use silq_io::What;
 use silq_tree::{Expr, ExprId, Mark, Spot, Tree};
@@ -157,7 +157,7 @@ fn gate_values(
 }
 
 /// What so many of a value are made of.
-fn repeated(shape: Shape, len: u32) -> Shape
+pub(crate) fn repeated(shape: Shape, len: u32) -> Shape
     ensures { result ≡ shape_repeated shape (pos len) }
 {
     match shape {
@@ -285,7 +285,7 @@ fn all_typed(tree: &Tree, items: &[ExprId]) -> bool
 }
 
 /// The length as a count, where it is 1 to 4,096.
-fn as_count(len: i64) -> Option<u32>
+pub(crate) fn as_count(len: i64) -> Option<u32>
     ensures some { is_some result ≡ is_count_up_to most_items len }
     ensures value { IfSome result (λ n. pos n ≡ len) }
 {

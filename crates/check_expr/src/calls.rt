@@ -11,14 +11,14 @@ ghost use Rattle.check_scope.specs.Steps.{Reads, Stops};
 ghost use Rattle.check_scope.specs.Uses.{built_in, find_fun};
 
 use crate::built_in::call_built_in;
-use check_scope::context::Context;
 use crate::expr::ValueList;
+use crate::own::call_own;
+use crate::values::broken;
+use check_scope::context::Context;
 use check_scope::fault::ExprFault;
 use check_scope::library::Library;
 use check_scope::need::Need;
-use crate::own::call_own;
 use check_scope::rule;
-use crate::values::broken;
 use silq_tree::{ExprId, NameId, Spot};
 use silq_types::Known;
 

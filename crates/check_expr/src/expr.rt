@@ -18,16 +18,16 @@ ghost use Rattle.check_scope.specs.Walk.{with_known};
 
 use crate::asked::Ask;
 use crate::calls::call;
+use crate::operators::{binary_value, unary_value};
+use crate::values::{
+    alone, broken, is_static, is_tuple, single, static_number, static_value, suits, typed_value,
+};
 use check_scope::context::Context;
 use check_scope::fault::{CheckFault, ExprFault};
 use check_scope::library::Library;
 use check_scope::need::Need;
-use crate::operators::{binary_value, unary_value};
 use check_scope::places::use_place;
 use check_scope::rule;
-use crate::values::{
-    alone, broken, is_static, is_tuple, single, static_number, static_value, suits, typed_value,
-};
 use silq_tree::node::{PlaceNode, ScalarNode};
 use silq_tree::{BinaryOp, Expr, ExprId, Spot, UnaryOp};
 use silq_types::{Known, List, Shape, Ty, Value};

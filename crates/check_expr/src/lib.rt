@@ -10,6 +10,7 @@ pub mod expr;
 pub mod laws;
 mod operators;
 mod own;
+pub mod shape;
 mod signatures;
 pub mod values;
 

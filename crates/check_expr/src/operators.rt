@@ -10,14 +10,14 @@ ghost use Rattle.check_expr.specs.Tests.{unary_tests, binary_tests};
 ghost use Rattle.check_scope.specs.State.{State, scope_in};
 ghost use Rattle.check_scope.specs.Steps.{Reads, Stops};
 
-use check_scope::context::Context;
 use crate::expr::ValueList;
+use crate::values::{is_same_shape, typed_by};
+use check_scope::context::Context;
 use check_scope::fault::{CheckFault, ExprFault};
 use check_scope::library::Library;
 use check_scope::obey::obey;
 use check_scope::rule;
 use check_scope::uses::operands_clash;
-use crate::values::{is_same_shape, typed_by};
 use silq_tree::{BinaryOp, ExprId, Spot, UnaryOp};
 use silq_types::{Shape, Ty, Value};
 use std::alloc::Global;
@@ -62,7 +62,7 @@ fn binary_fits(op: BinaryOp, shape: Shape) -> bool
     }
 }
 
-fn binary_shape(op: BinaryOp, shape: Shape) -> Shape
+pub(crate) fn binary_shape(op: BinaryOp, shape: Shape) -> Shape
     ensures { result ≡ shape_binary op shape }
 {
     match op {

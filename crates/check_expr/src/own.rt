@@ -17,8 +17,10 @@ ghost use Rattle.check_scope.specs.Uses.{argument_uses, param_need, some_pair, b
 
 use crate::asked::Ask;
 use crate::built_in::{is_linear, mark_of, unnamed_rule};
-use check_scope::context::Context;
 use crate::expr::{ValueList, arguments};
+use crate::signatures::signature;
+use crate::values::new_value;
+use check_scope::context::Context;
 use check_scope::fault::ExprFault;
 use check_scope::header::{Header, header_types};
 use check_scope::library::Library;
@@ -27,9 +29,7 @@ use check_scope::obey::obey;
 use check_scope::places::needed;
 use check_scope::rule;
 use check_scope::spots::spot_of;
-use crate::signatures::signature;
 use check_scope::uses::{UseList, argument_parts, consume_held, consume_twice, needs_of_own};
-use crate::values::new_value;
 use silq_tree::{ExprId, FunId, Mark, NameId, Spot};
 use silq_types::{InstanceKey, Known, List, Origin, Param, Returned, StaticList, Ty, Value};
 use static_num::Statics;

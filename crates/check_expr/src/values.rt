@@ -18,8 +18,8 @@ ghost use Rattle.check_scope.specs.Steps.{Reads, Stops};
 ghost use Rattle.check_scope.specs.declared.fault.CheckFault.TheVariants as checks;
 ghost use Rattle.check_scope.specs.declared.fault.ExprFault.TheVariants as stops;
 
-use check_scope::context::Context;
 use crate::expr::ValueList;
+use check_scope::context::Context;
 use check_scope::fault::{CheckFault, ExprFault};
 use check_scope::header::scalar_type;
 use check_scope::library::Library;

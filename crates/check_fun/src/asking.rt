@@ -8,8 +8,8 @@ ghost use Rattle.check_scope.specs.State.{scope_in};
 
 use crate::instance::instance;
 use crate::tally::Tally;
-use check_scope::context::Context;
 use check_expr::expr::{ValueList, expr};
+use check_scope::context::Context;
 use check_scope::fault::{CheckFault, ExprFault};
 use check_scope::library::Library;
 use check_scope::need::Need;

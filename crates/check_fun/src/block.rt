@@ -118,7 +118,7 @@ fn both(
     let start = copied(library.alloc(), cx.vars())?;
     branch(library, cx, tally, then.items.as_slice(), then.end)?;
     let one = copied(library.alloc(), cx.vars())?;
-    cx.put(start);
+    cx.put(start)?;
     branch(
         library,
         cx,
@@ -127,7 +127,7 @@ fn both(
         end_of_else(library, other),
     )?;
     let vars = joined(library.alloc(), one.as_slice(), cx.vars())?;
-    cx.put(vars);
+    cx.put(vars)?;
     Ok(())
 }
 
@@ -175,11 +175,7 @@ fn condition(
 {
     let found = values(library, cx, tally, cond, Need::Held, &[])?;
     let value = single_now(library, cond, found.as_slice())?;
-    obey_now(
-        spot_of(library, cond),
-        !is_bit(&value.ty),
-        rule::WRONG_TYPE,
-    )?;
+    obey_now(spot_of(library, cond), !is_bit(&value.ty), rule::WRONG_TYPE)?;
     let parts = named_parts(library, cx, cond)?;
     Ok(parts)
 }

@@ -14,11 +14,11 @@ ghost use Rattle.check_fun.specs.Stepping.{fault_in};
 ghost use Rattle.check_scope.specs.declared.fault.CheckFault.TheVariants as checks;
 ghost use Rattle.check_scope.specs.Walk.{Checker, Counts};
 
+use check_expr::values;
 use check_scope::context::Context;
 use check_scope::fault::{CheckFault, ExprFault};
 use check_scope::library::Library;
 use check_scope::obey::obey;
-use check_expr::values;
 use check_scope::places;
 use silq_tree::node::PlaceNode;
 use silq_tree::{ExprId, Spot};

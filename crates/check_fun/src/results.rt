@@ -3,8 +3,8 @@
 ghost use Rattle.std.specs.Prelude.{◌≡◌, suc, ◌<◌, ◌^◌, ◌-◌, length, IfOk};
 ghost use Rattle.check_fun.specs.Program.{given_on, returned_as};
 
-use check_scope::context::Context;
 use check_expr::expr::ValueList;
+use check_scope::context::Context;
 use silq_tree::Mark;
 use silq_types::{ParamList, ResultList, Returned, Signature, Ty, Value};
 use std::alloc::{AllocError, Global};

@@ -16,12 +16,12 @@ use crate::asking::values;
 use crate::plain::suits_now;
 use crate::steps_of_block::single_now;
 use crate::tally::Tally;
-use check_scope::context::Context;
 use check_expr::expr::ValueList;
+use check_expr::values::is_tuple;
+use check_scope::context::Context;
 use check_scope::fault::CheckFault;
 use check_scope::library::Library;
 use check_scope::need::Need;
-use check_expr::values::is_tuple;
 use silq_tree::ExprId;
 use silq_types::{List, Ty, TyList, Value};
 

@@ -10,13 +10,13 @@ ghost use Rattle.check_scope.specs.State.{State, scope_in};
 ghost use Rattle.check_scope.specs.Walk.{Checker, Counts};
 ghost use Rattle.check_scope.specs.declared.fault.ExprFault.TheVariants as stops;
 
+use check_expr::values::is_tuple;
 use check_scope::context::Context;
 use check_scope::fault::{CheckFault, ExprFault};
 use check_scope::library::Library;
 use check_scope::places::needed as needed_value;
 use check_scope::rule;
 use check_scope::spots::spot_of;
-use check_expr::values::is_tuple;
 use silq_tree::{ExprId, Spot};
 use silq_types::Value;
 

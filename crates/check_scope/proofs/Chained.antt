@@ -1,25 +1,17 @@
 -- The types that are written, step by step: what code for each step gives for the whole.
-use Rattle.std.specs.Prelude.{◌≡◌, refl, ℕ, ◌+◌, ◌<◌, zero, suc, Bool, true, false, ◌||◌, ◌&&◌, if◌then◌else◌, List, [], ◌∷◌, ◌++◌, length, map, flat_map, drop, Option, Some, None, option_map, is_some, Result, Ok, Err, IfSome, ℤ}
-use Rattle.std.proofs.Common.{get_or, append_assoc}
-use Rattle.std.proofs.lemmas.List.{append-nil}
-use mathlib.Core.Path.{sym, ap, ◌∙◌, subst}
-use native.Mathlib.Omega.{arith}
+use Rattle.std.specs.Prelude.{◌≡◌, refl, Bool, true, false, ◌||◌, if◌then◌else◌, List, [], ◌∷◌, ◌++◌, Option, Some, None, option_map, is_some, Result, Ok, IfSome, ℤ}
+use mathlib.Core.Path.{sym, ap, ◌∙◌}
 use Rattle.silq_tree.specs.declared.node.NameId.{NameId}
 use Rattle.silq_tree.specs.declared.node.Spot.{Spot}
-use Rattle.silq_tree.specs.declared.node.Mark.{Mark}
 use Rattle.silq_tree.specs.declared.node.ExprId.{ExprId}
 use Rattle.silq_tree.specs.declared.node.TypeNode.{TypeNode}
-use Rattle.silq_tree.specs.declared.node.ParamNode.{ParamNode}
-use Rattle.silq_tree.specs.Children.{type_exprs, param_exprs, AreExprsBelow}
-use Rattle.silq_tree.specs.Standing.{scalar_of, type_of, sized, param_of}
-use Rattle.silq_tree.specs.Syntax.{Expression, ScalarType, WrittenType, Parameter}
-use Rattle.silq_tree.proofs.Lists.{exprs_below_front, exprs_below_back}
+use Rattle.silq_tree.specs.Standing.{scalar_of, type_of, sized}
+use Rattle.silq_tree.specs.Syntax.{Expression, ScalarType}
 use Rattle.silq_types.specs.declared.types.Scalar.{Scalar}
 use Rattle.silq_types.specs.declared.types.Shape.{Shape}
 use Rattle.silq_types.specs.declared.types.Ty.{Ty}
-use Rattle.silq_types.specs.declared.signature.Param.{Param}
 use Rattle.silq_types.specs.Rules.{Fault, and_then}
-use Rattle.silq_types.specs.Types.{Statics, value_of, all_known, moved_to, first_unknown, scalar_names, size_names, width_of, width_spot, length_of, scalar_by, shape_by, scalar_type, header_type, written_at, is_lifted, param_types, result_types}
+use Rattle.silq_types.specs.Types.{Statics, value_of, all_known, moved_to, first_unknown, scalar_names, size_names, width_of, width_spot, length_of, scalar_by, shape_by, scalar_type, header_type}
 use Rattle.check_scope.specs.Faults.{fault_as}
 use Rattle.check_scope.specs.Reach.{is_in_reach, type_known}
 use Rattle.check_scope.specs.Steps.{IsFirst}

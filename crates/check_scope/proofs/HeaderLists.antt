@@ -1,8 +1,8 @@
 -- The types of parameters and of results, one after another.
-use Rattle.std.specs.Prelude.{◌≡◌, refl, ℕ, ◌+◌, ◌<◌, zero, suc, Bool, true, false, ◌||◌, ◌&&◌, if◌then◌else◌, List, [], ◌∷◌, ◌++◌, length, map, flat_map, drop, Option, Some, None, Result, Ok, Err}
+use Rattle.std.specs.Prelude.{◌≡◌, refl, ℕ, ◌+◌, ◌<◌, zero, suc, Bool, ◌||◌, ◌&&◌, if◌then◌else◌, List, [], ◌∷◌, ◌++◌, length, map, flat_map, drop, Option, Some, None, Result, Ok, Err}
 use Rattle.std.proofs.Common.{get_or, append_assoc}
 use Rattle.std.proofs.lemmas.List.{append-nil, at_drop_more}
-use mathlib.Core.Path.{sym, ap, ◌∙◌, subst}
+use mathlib.Core.Path.{sym, ap, ◌∙◌}
 use native.Mathlib.Omega.{arith}
 use Rattle.silq_tree.specs.declared.node.Spot.{Spot}
 use Rattle.silq_tree.specs.declared.node.Mark.{Mark}

@@ -1,10 +1,14 @@
+pub mod NameChains
+pub mod FoundFunctions
 pub mod Readings
 pub mod Sequence
 pub mod Overlapping
 pub mod Named
 pub mod Obeyed
 pub mod Searching
+pub mod VariableWalks
 pub mod Undoing
+pub mod KeptVariables
 pub mod Reached
 pub mod Chained
 pub mod HeaderLists

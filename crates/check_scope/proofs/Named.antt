@@ -1,15 +1,13 @@
 -- Functions by name and by number.
-use Rattle.std.proofs.Common.{◌≡◌, refl, ℕ, zero, suc, ◌+◌, ◌<◌, ◌≤◌, ◌==◌, Bool, true, false, List, [], ◌∷◌, ◌++◌, Option, Some, None, ◌∙◌, sym, ap, take, drop, map, reverse, get_or, length, slice_get, add-one, append_assoc, length-append, arith}
-use Rattle.std.proofs.lemmas.List.{drop_more, take_more, get_or-map}
+use Rattle.std.proofs.Common.{◌≡◌, refl, ℕ, zero, suc, ◌+◌, ◌<◌, ◌==◌, true, List, [], ◌∷◌, Some, ◌∙◌, sym, ap, drop, get_or, length, slice_get, add-one, arith}
+use Rattle.std.proofs.lemmas.List.{drop_more}
 use Rattle.std.proofs.lemmas.Bool.Decides.{nat_tests}
 use Rattle.std.proofs.lemmas.Option.{slice_get_within, get_or_from_slice_get}
 use Rattle.silq_tree.specs.declared.node.NameId.{NameId}
 use Rattle.silq_tree.specs.declared.node.FunId.{FunId}
-use Rattle.silq_tree.specs.Syntax.{Function}
-use Rattle.silq_tree.specs.Arena.{nothing, fun_at}
 use Rattle.check_scope.specs.declared.words.BuiltIn.{BuiltIn}
-use Rattle.check_scope.specs.Library.{Shelf, functions_of, function_at, before_at, found_at, AreFunsBelow}
-use Rattle.check_scope.specs.Uses.{built_in, find_fun, Found}
+use Rattle.check_scope.specs.Library.{AreFunsBelow}
+use Rattle.check_scope.specs.Uses.{built_in}
 use Rattle.check_scope.specs.Words.{built_ins, named, with_word, words_from}
 
 equal : (a b : ℕ) → a ≡ b → (a == b) ≡ true

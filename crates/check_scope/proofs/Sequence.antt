@@ -1,10 +1,10 @@
 -- Code that does one check and then another is held against both in turn.
-use Rattle.std.specs.Prelude.{◌≡◌, refl, ℕ, Option, Some, None, Ok, Err, IfSome}
-use mathlib.Core.Path.{sym, ap, ◌∙◌, subst}
+use Rattle.std.specs.Prelude.{◌≡◌, refl, Option, Some, None, Ok, Err, IfSome}
+use mathlib.Core.Path.{ap, ◌∙◌, subst}
 use Rattle.silq_types.specs.Rules.{and_then}
 use Rattle.silq_types.specs.Known.{Signatures}
-use Rattle.check_scope.specs.Walk.{Stop, with_known}
-use Rattle.check_scope.specs.Context.{Context, Check, ◌>>=◌, ◌>>◌, give_back, pass, variables}
+use Rattle.check_scope.specs.Walk.{with_known}
+use Rattle.check_scope.specs.Context.{Check, ◌>>=◌, ◌>>◌, give_back, pass, variables}
 use Rattle.check_scope.specs.State.{State, Keeps, context_of}
 use Rattle.check_scope.specs.Faults.{stop_as}
 use Rattle.check_scope.specs.Steps.{Reads, Stops}

@@ -1,3 +1,4 @@
+pub mod NameIndex
 pub mod Walk
 pub mod Context
 pub mod Uses
@@ -7,6 +8,7 @@ pub mod Reading
 pub mod Words
 pub mod Library
 pub mod Undo
+pub mod Kept
 pub mod First
 pub mod Headers
 pub mod State

@@ -1,5 +1,5 @@
 -- A program as its bodies see it.
-use Rattle.std.specs.Prelude.{◌≡◌, ℕ, ◌<◌, List, [], ◌∷◌, Option, length, option_map, take, reverse, slice_index_or}
+use Rattle.std.specs.Prelude.{◌≡◌, ℕ, ◌<◌, List, [], ◌∷◌, length, map, take, reverse, slice_index_or}
 use Rattle.silq_tree.specs.declared.node.NameId.{NameId}
 use Rattle.silq_tree.specs.declared.node.FunId.{FunId}
 use Rattle.silq_tree.specs.Syntax.{Function}
@@ -30,7 +30,16 @@ before_at l n = reverse (take n (functions_of l))
 abbrev pub found_at : Shelf → ℕ → Found
 found_at l n = record { number = n; fun = function_at l n }
 
+-- the names of these functions
+abbrev pub names_at : Forest → List FunId → List NameId
+names_at nodes funs = map (λ (f : Function). f.name) (program_at nodes funs)
+
 -- each is a function of the arena
 abbrev pub AreFunsBelow : ℕ → List FunId → Type 0
 AreFunsBelow n [] = Unit {0}
 AreFunsBelow n (id ∷ ids) = (id.number < n) × AreFunsBelow n ids
+
+-- the functions of a program, with an index of their names
+pub record IsShelved (nodes : Forest) (funs : List FunId) (names : List NameId) : Type 0 where
+  pub below : AreFunsBelow (length nodes.funs) funs
+  pub named : names ≡ names_at nodes funs

@@ -1,7 +1,7 @@
 -- A use of a place: a variable, or a part of one.
 use Rattle.std.specs.Prelude.{Bool, true, false, not, ◌&&◌, ◌||◌, if◌then◌else◌, List, [], ◌∷◌, Option, Some, None}
 use Rattle.silq_tree.specs.declared.node.Spot.{Spot}
-use Rattle.silq_tree.specs.Syntax.{place, Place}
+use Rattle.silq_tree.specs.Syntax.{Place}
 use Rattle.silq_types.specs.declared.types.Ty.{Ty}
 use Rattle.silq_types.specs.declared.values.Origin.{Origin}
 use Rattle.silq_types.specs.declared.values.Origin.TheVariants.{Classical}
@@ -9,7 +9,7 @@ use Rattle.silq_types.specs.declared.values.Value.{Value}
 use Rattle.silq_types.specs.declared.values.Part.{Part}
 use Rattle.silq_types.specs.declared.values.Var.{Var}
 use Rattle.silq_types.specs.Rules.{rule, unknown_name, used_after_move, held_changed, condition_changed, bad_part}
-use Rattle.silq_types.specs.Types.{place_name, place_indices, quantum, is_held, is_empty}
+use Rattle.silq_types.specs.Types.{place_name, place_indices, is_held, is_empty}
 use Rattle.check_scope.specs.declared.need.Need.{Need}
 use Rattle.check_scope.specs.declared.need.Need.TheVariants as needs
 use Rattle.check_scope.specs.Walk.{answer}

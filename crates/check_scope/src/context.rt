@@ -1,6 +1,6 @@
 //! The context of a body's walk.
 
-ghost use Rattle.std.specs.Prelude.{◌≡◌, ◌<◌, ◌-◌, ℕ, suc, max, Some, not, [], ◌∷◌, ◌++◌, length, take, slice_get, true, MatchOption, IfOk, IfErr, OnOk, OnErr};
+ghost use Rattle.std.specs.Prelude.{◌≡◌, ◌<◌, ◌≤◌, ◌-◌, ℕ, suc, max, Some, not, [], ◌∷◌, ◌++◌, length, take, slice_get, true, MatchOption, IfOk, IfErr, OnOk, OnErr};
 ghost use Rattle.std.specs.Option.{option_copied};
 ghost use Rattle.silq_types.specs.Known.{Signatures};
 ghost use Rattle.silq_types.specs.Types.{is_empty};
@@ -8,13 +8,15 @@ ghost use Rattle.check_scope.specs.Context.{find_var, replace, is_in_condition, 
 ghost use Rattle.check_scope.specs.Library.{Shelf};
 ghost use Rattle.check_scope.specs.State.{scope_in};
 ghost use Rattle.check_scope.specs.Steps.{Reads, Stops};
-ghost use Rattle.check_scope.specs.Undo.{set_at};
 ghost use Rattle.check_scope.specs.First.{IsFirstAt, IsAbsent};
+ghost use Rattle.check_scope.specs.Kept.{variable_names};
+ghost use Rattle.check_scope.specs.Places.{disturbs as disturb};
 ghost use Rattle.check_scope.specs.declared.fault.CheckFault.TheVariants as checks;
 ghost use Rattle.check_scope.specs.declared.fault.ExprFault.TheVariants as stops;
 
 use crate::fault::{CheckFault, ExprFault};
-use crate::parts::{overlaps_any, same_part};
+use crate::name_index::NameIndex;
+use crate::parts::{is_in_the_way, overlaps_any, same_part};
 use silq_tree::NameId;
 use silq_types::{List, Part, Ty, TyList, Var};
 use static_num::Statics;
@@ -28,15 +30,58 @@ pub type PartList = List<Part>;
 const PLACES: u128 = 1 << 127;
 
 /// The number of the first variable with this part.
-fn position(vars: &[Var], part: Part) -> Option<usize>
+fn position(vars: &[Var], names: &NameIndex, part: Part) -> Option<usize>
+    requires { names.now ≡ variable_names vars.now }
     ensures { MatchOption result (IsAbsent vars.now part) (IsFirstAt vars.now part) }
 {
-    for (i, var) in vars.iter().enumerate() {
-        if same_part(var.part, part) {
-            return Some(i);
+    let mut first = None;
+    let mut next = names.last(part.name);
+    while let Some(i) = next {
+        next = names.before(i);
+        if same_part(vars[i].part, part) {
+            first = Some(i);
         }
     }
-    None
+    first
+}
+
+/// Whether another variable that was taken out overlaps the part.
+fn disturbs(vars: &[Var], names: &NameIndex, part: Part) -> bool
+    requires { names.now ≡ variable_names vars.now }
+    ensures { result ≡ disturb vars.now part }
+{
+    let mut next = names.last(part.name);
+    while let Some(i) = next {
+        if is_in_the_way(vars[i], part) {
+            return true;
+        }
+        next = names.before(i);
+    }
+    false
+}
+
+/// How many variables in front have the names of the others.
+fn same_names(vars: &[Var], others: &[Var]) -> usize
+    ensures within { result ≤ length others.now }
+    ensures same { take result (variable_names vars.now) ≡ take result (variable_names others.now) }
+{
+    let len = vars.len().min(others.len());
+    for n in 0..len {
+        if vars[n].part.name.number != others[n].part.name.number {
+            return n;
+        }
+    }
+    len
+}
+
+/// Adds the names of these variables.
+fn push_names(names: &mut NameIndex, vars: &[Var]) -> Result<(), AllocError>
+    ensures { OnOk result (names.new ≡ names.old ++ variable_names vars.now) }
+{
+    for var in vars {
+        names.push(var.part.name)?;
+    }
+    Ok(())
 }
 
 /// What the walk of a body changes and sees: the variables in order of definition, the next new place, the values of static names,
@@ -48,6 +93,8 @@ pub struct Context {
     depth: u32,
     height: u32,
     vars: Vec<Var>,
+    // the names of the variables
+    names: NameIndex,
     // each variable that was changed since the expression began, with its number, the latest last
     moved: Vec<(usize, Var)>,
     next: u128,
@@ -57,8 +104,8 @@ pub struct Context {
 
 impl Model for Context {
     ghost use Rattle.check_scope.specs.State.{State};
-    ghost use Rattle.std.specs.Prelude.{length};
-    ghost use Rattle.check_scope.specs.Undo.{undone, AreBelow};
+    ghost use Rattle.check_scope.specs.Kept.{AreKept};
+    ghost use Rattle.check_scope.specs.Undo.{undone};
 
     ghost Value = { State };
 
@@ -74,7 +121,7 @@ impl Model for Context {
       held = c.held.items;
     } };
 
-    ghost invariant = { λ c. AreBelow (length c.vars.items) c.moved.items };
+    ghost invariant = { λ c. AreKept c.vars.items c.moved.items c.names };
 }
 
 impl Context {
@@ -88,6 +135,7 @@ impl Context {
             depth,
             height: 0,
             vars: Vec::new(alloc),
+            names: NameIndex::new(alloc),
             moved: Vec::new(alloc),
             next: 0,
             statics,
@@ -162,10 +210,17 @@ impl Context {
     pub fn find(&self, part: Part) -> Option<Var>
         ensures { result ≡ find_var self.now.vars part }
     {
-        match position(self.vars.as_slice(), part) {
+        match position(self.vars.as_slice(), &self.names, part) {
             Some(i) => Some(self.vars[i]),
             None => None,
         }
+    }
+
+    /// Whether another variable than the part itself, which an element assignment took out, overlaps it.
+    pub fn is_disturbed(&self, part: Part) -> bool
+        ensures { result ≡ disturb self.now.vars part }
+    {
+        disturbs(self.vars.as_slice(), &self.names, part)
     }
 
     /// Whether a run-time condition is in force.
@@ -209,7 +264,7 @@ impl Context {
         ensures ok { OnOk result (self.new ≡ record self.old { vars = replace self.old.vars (record var { consumed = true }) }) }
         ensures err { OnErr result (self.new ≡ self.old) }
     {
-        if let Some(i) = position(self.vars.as_slice(), var.part) {
+        if let Some(i) = position(self.vars.as_slice(), &self.names, var.part) {
             self.moved.push((i, var))?;
             self.vars[i] = Var {
                 consumed: true,
@@ -253,7 +308,13 @@ impl Context {
     {
         self.moved.clear();
         self.vars.push(var)?;
-        Ok(())
+        match self.names.push(var.part.name) {
+            Ok(()) => Ok(()),
+            Err(fault) => {
+                self.vars.pop();
+                Err(fault)
+            }
+        }
     }
 
     /// The first variable with this one's part is replaced by it, if there is one.
@@ -261,18 +322,9 @@ impl Context {
         ensures { self.new ≡ record self.old { vars = replace self.old.vars var; start = replace self.old.vars var } }
     {
         self.moved.clear();
-        if let Some(i) = position(self.vars.as_slice(), var.part) {
+        if let Some(i) = position(self.vars.as_slice(), &self.names, var.part) {
             self.vars[i] = var;
         }
-    }
-
-    /// The variable with this number is replaced.
-    pub fn set(&mut self, i: usize, var: Var)
-        requires { i < length self.old.vars }
-        ensures { self.new ≡ record self.old { vars = set_at self.old.vars i var; start = set_at self.old.vars i var } }
-    {
-        self.moved.clear();
-        self.vars[i] = var;
     }
 
     /// Keeps the first n variables.
@@ -281,14 +333,28 @@ impl Context {
     {
         self.moved.clear();
         self.vars.truncate(n);
+        self.names.truncate(n);
     }
 
-    /// All variables, in place of those before.
-    pub fn put(&mut self, vars: Vec<Var>)
-        ensures { self.new ≡ record self.old { vars = vars.items; start = vars.items } }
+    /// All variables, in place of those before. Where there is no memory there are none.
+    pub fn put(&mut self, vars: Vec<Var>) -> Result<(), AllocError>
+        ensures ok { OnOk result (self.new ≡ record self.old { vars = vars.items; start = vars.items }) }
+        ensures err { OnErr result (self.new ≡ record self.old { vars = []; start = [] }) }
     {
         self.moved.clear();
-        self.vars = vars;
+        let same = same_names(self.vars.as_slice(), vars.as_slice());
+        self.names.truncate(same);
+        match push_names(&mut self.names, &vars.as_slice()[same..]) {
+            Ok(()) => {
+                self.vars = vars;
+                Ok(())
+            }
+            Err(fault) => {
+                self.names.truncate(0);
+                self.vars.clear();
+                Err(fault)
+            }
+        }
     }
 
     /// Gives a static name its value.

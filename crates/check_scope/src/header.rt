@@ -19,12 +19,11 @@ ghost use Rattle.check_scope.specs.Steps.{IsFirst};
 use crate::context::Context;
 use crate::fault::CheckFault;
 use crate::library::Library;
-use crate::reach::{first_unknown, unknown_in_width};
 use crate::spots::spot_in;
-use crate::rule;
+use crate::{reach, rule, unknown};
 use silq_tree::node::{Mark, ParamNode, ScalarNode, TypeNode};
 use silq_tree::{ExprId, Spot, Tree};
-use silq_types::{Param, ParamList, Scalar, Shape, Ty, TyList, Var};
+use silq_types::{Param, ParamList, Scalar, Shape, Ty, TyList};
 use static_num::{Statics, eval};
 use std::alloc::Global;
 
@@ -170,17 +169,12 @@ fn width_spot(tree: &Tree, ty: ScalarNode, at: Spot) -> Spot
 }
 
 /// Each name in the width of a type is known.
-fn width_known(
-    tree: &Tree,
-    statics: &Statics,
-    vars: &[Var],
-    ty: ScalarNode,
-) -> Result<(), CheckFault>
-    requires { AreExprsBelow (length tree.now.exprs) (scalar_exprs ty) }
-    ensures value { IfOk result (λ u. known_all (first_of (is_in_reach statics.now vars.now) (scalar_names (scalar_of (expr_at tree.now) ty))) ≡ Ok u) }
-    ensures fault { IfErr result (λ f. IsFirst f (known_all (first_of (is_in_reach statics.now vars.now) (scalar_names (scalar_of (expr_at tree.now) ty))))) }
+fn width_known(library: &Library, cx: &Context, ty: ScalarNode) -> Result<(), CheckFault>
+    requires { AreExprsBelow (length library.now.nodes.exprs) (scalar_exprs ty) }
+    ensures value { IfOk result (λ u. known_all (first_of (is_known_name (scope_in library.now cx.now) cx.now.vars) (scalar_names (scalar_of (expr_at library.now.nodes) ty))) ≡ Ok u) }
+    ensures fault { IfErr result (λ f. IsFirst f (known_all (first_of (is_known_name (scope_in library.now cx.now) cx.now.vars) (scalar_names (scalar_of (expr_at library.now.nodes) ty))))) }
 {
-    all_known(unknown_in_width(tree, statics, vars, ty))
+    all_known(unknown::unknown_in_width(library, cx, ty))
 }
 
 /// The width of a type, with its fault at its first token.
@@ -197,24 +191,6 @@ fn own_width(
     width_of(tree, statics, ty, width_spot(tree, ty, at))
 }
 
-/// The type of a number at this place, where these variables are in reach.
-fn scalar_in_reach(
-    tree: &Tree,
-    statics: &Statics,
-    vars: &[Var],
-    ty: ScalarNode,
-    at: Spot,
-) -> Result<Scalar, CheckFault>
-    requires { AreExprsBelow (length tree.now.exprs) (scalar_exprs ty) }
-    ensures value { IfOk result (λ k. scalar_type_of statics.now (is_in_reach statics.now vars.now) (scalar_of (expr_at tree.now) ty) at ≡ Ok k) }
-    ensures fault { IfErr result (λ f. IsFirst f (scalar_type_of statics.now (is_in_reach statics.now vars.now) (scalar_of (expr_at tree.now) ty) at)) }
-{
-    width_known(tree, statics, vars, ty)?;
-    let width = own_width(tree, statics, ty, at)?;
-    let scalar = scalar_by(ty, width, at)?;
-    Ok(scalar)
-}
-
 /// The type of a number at this place: the names of its width first, then the width's value, then its size, 1 to 64.
 pub fn scalar_type(
     library: &Library,
@@ -226,7 +202,10 @@ pub fn scalar_type(
     ensures value { IfOk result (λ k. scalar_type_of cx.now.statics (is_known_name (scope_in library.now cx.now) cx.now.vars) (scalar_of (expr_at library.now.nodes) ty) at ≡ Ok k) }
     ensures fault { IfErr result (λ f. IsFirst f (scalar_type_of cx.now.statics (is_known_name (scope_in library.now cx.now) cx.now.vars) (scalar_of (expr_at library.now.nodes) ty) at)) }
 {
-    scalar_in_reach(library.tree(), cx.statics(), cx.vars(), ty, at)
+    width_known(library, cx, ty)?;
+    let width = own_width(library.tree(), cx.statics(), ty, at)?;
+    let scalar = scalar_by(ty, width, at)?;
+    Ok(scalar)
 }
 
 // ---- the types of a header
@@ -247,12 +226,12 @@ fn unknown_in_type(tree: &Tree, statics: &Statics, ty: TypeNode) -> Option<Spot>
     requires { AreExprsBelow (length tree.now.exprs) (type_exprs ty) }
     ensures { result ≡ first_of (is_in_reach statics.now []) (scalar_names (scalar_of (expr_at tree.now) ty.scalar) ++ size_names (option_map (expr_at tree.now) ty.size)) }
 {
-    if let Some(spot) = unknown_in_width(tree, statics, &[], ty.scalar) {
+    if let Some(spot) = reach::unknown_in_width(tree, statics, ty.scalar) {
         return Some(spot);
     }
     match ty.size {
         None => None,
-        Some(len) => first_unknown(tree, statics, &[], len),
+        Some(len) => reach::first_unknown(tree, statics, len),
     }
 }
 

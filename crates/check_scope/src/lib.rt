@@ -9,6 +9,7 @@ pub mod context;
 pub mod fault;
 pub mod header;
 pub mod library;
+mod name_index;
 pub mod need;
 pub mod obey;
 pub mod part_types;

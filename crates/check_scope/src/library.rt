@@ -4,12 +4,13 @@ ghost use Rattle.std.specs.Prelude.{◌≡◌, ◌<◌, length, option_map, IfOk
 ghost use Rattle.silq_tree.specs.Arena.{expr_at, stmt_at};
 ghost use Rattle.silq_tree.specs.Children.{fun_exprs, fun_stmts, AreExprsBelow, AreStmtsBelow};
 ghost use Rattle.silq_tree.specs.Standing.{fun_grown};
-ghost use Rattle.check_scope.specs.Library.{AreFunsBelow, function_at, before_at, found_at};
+ghost use Rattle.check_scope.specs.Library.{AreFunsBelow, function_at, before_at, found_at, names_at};
 ghost use Rattle.check_scope.specs.Uses.{built_in, find_fun};
 ghost use Rattle.check_scope.specs.Words.{built_ins, named, words_of};
 
+use crate::name_index::NameIndex;
 use crate::words::BuiltIn;
-use silq_tree::{Fun, NameId, Names, Program, Tree};
+use silq_tree::{Fun, FunId, NameId, Names, Program, Tree};
 use std::alloc::{AllocError, Global};
 use std::marker::Model;
 
@@ -47,23 +48,36 @@ fn built_in_words(alloc: Global, names: &Names) -> Result<Vec<(NameId, BuiltIn)>
     Ok(words)
 }
 
+/// The names of these functions.
+fn function_names(alloc: Global, tree: &Tree, funs: &[FunId]) -> Result<NameIndex, AllocError>
+    requires { AreFunsBelow (length tree.now.funs) funs.now }
+    ensures { IfOk result (λ names. names ≡ names_at tree.now funs.now) }
+{
+    let mut names = NameIndex::new(alloc);
+    for id in funs {
+        names.push(tree.fun(*id).name)?;
+    }
+    Ok(names)
+}
+
 /// A program, with its functions and the built-in ones by name.
 #[derive(Drop)]
 pub struct Library {
     program: Program,
     words: Vec<(NameId, BuiltIn)>,
+    // the names of the functions
+    names: NameIndex,
     alloc: Global,
 }
 
 impl Model for Library {
-    ghost use Rattle.std.specs.Prelude.{length};
-    ghost use Rattle.check_scope.specs.Library.{Shelf, AreFunsBelow};
+    ghost use Rattle.check_scope.specs.Library.{Shelf, IsShelved};
 
     ghost Value = { Shelf };
 
     ghost view = { λ l. record { nodes = l.program.tree; words = l.words.items; funs = l.program.funs } };
 
-    ghost invariant = { λ l. AreFunsBelow (length l.program.tree.funs) l.program.funs };
+    ghost invariant = { λ l. IsShelved l.program.tree l.program.funs l.names };
 }
 
 impl Library {
@@ -73,9 +87,11 @@ impl Library {
         ensures { IfOk result (λ l. l ≡ record { nodes = program.tree; words = words_of program.names; funs = program.funs }) }
     {
         let words = built_in_words(alloc, &program.names)?;
+        let names = function_names(alloc, &program.tree, program.funs.as_slice())?;
         Ok(Library {
             program,
             words,
+            names,
             alloc,
         })
     }
@@ -128,13 +144,9 @@ impl Library {
         ensures found { find_fun (before_at self.now before) name ≡ option_map (found_at self.now) result }
         ensures below { IfSome result (λ n. n < length self.now.funs) }
     {
-        let mut n = (before as usize).min(self.program.funs.len()) as u32;
-        while n > 0 {
-            n -= 1;
-            if self.fun(n).name.number == name.number {
-                return Some(n);
-            }
+        match self.names.last_before(name, before as usize) {
+            None => None,
+            Some(n) => Some(n as u32),
         }
-        None
     }
 }

@@ -14,7 +14,6 @@ use crate::fault::{CheckFault, ExprFault};
 use crate::need::Need;
 use crate::obey::obey;
 use crate::part_types::part_type;
-use crate::parts::{overlaps, same_part};
 use crate::rule;
 use crate::unknown::variable;
 use silq_tree::Spot;
@@ -39,27 +38,6 @@ fn is_held(origin: Origin) -> bool
         Origin::Linear => false,
         Origin::Classical => false,
     }
-}
-
-/// Whether the variable is a part that was taken out, and another one than this, which it overlaps.
-fn is_in_the_way(var: Var, part: Part) -> bool
-    ensures { result ≡ (not (is_empty (indices var.part)) && not (equal_part var.part part) && overlap_of var.part part) }
-{
-    (var.part.first.is_some() || var.part.second.is_some())
-        && !same_part(var.part, part)
-        && overlaps(var.part, part)
-}
-
-/// Whether another variable that was taken out overlaps the part.
-pub(crate) fn disturbs(vars: &[Var], part: Part) -> bool
-    ensures { result ≡ disturb vars.now part }
-{
-    for var in vars {
-        if is_in_the_way(*var, part) {
-            return true;
-        }
-    }
-    false
 }
 
 /// The value of a variable, which is consumed.
@@ -115,10 +93,10 @@ fn take(cx: &mut Context, need: Need, var: Var) -> Result<Value, ExprFault>
 }
 
 /// Whether a part of a variable can't be used so.
-fn is_blocked(vars: &[Var], need: Need, part: Part, var: Var) -> bool
-    ensures { result ≡ (disturb vars.now part || moved_by need var.ty) }
+fn is_blocked(cx: &Context, need: Need, part: Part, var: Var) -> bool
+    ensures { result ≡ (disturb cx.now.vars part || moved_by need var.ty) }
 {
-    disturbs(vars, part) || is_moved(need, var.ty)
+    cx.is_disturbed(part) || is_moved(need, var.ty)
 }
 
 /// The rules of a use of a part by its variable.
@@ -167,7 +145,7 @@ fn use_part(
             }))
         }
         Some(ty) => {
-            let bad = is_blocked(cx.vars(), need, part, var);
+            let bad = is_blocked(cx, need, part, var);
             obey_use(cx, at, need, part, var, bad)?;
             leave(cx, need, ty, var)
         }
@@ -186,7 +164,7 @@ fn use_whole(
     ensures reads { (met : Signatures) (l : Shelf) → IfOk result (λ v. Reads met (use_of_found (scope_in l cx.old) at need part cx.old.vars (Some var) (find_var cx.old.vars (variable_of part.name))) cx.old v cx.new) }
     ensures stops { (met : Signatures) (l : Shelf) → IfErr result (λ f. Stops met (use_of_found (scope_in l cx.old) at need part cx.old.vars (Some var) (find_var cx.old.vars (variable_of part.name))) cx.old f cx.new) }
 {
-    let bad = disturbs(cx.vars(), part);
+    let bad = cx.is_disturbed(part);
     obey_use(cx, at, need, part, var, bad)?;
     take(cx, need, var)
 }

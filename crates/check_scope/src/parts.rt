@@ -1,9 +1,10 @@
 //! Parts: which are the same, and which overlap.
 
-ghost use Rattle.std.specs.Prelude.{◌≡◌};
+ghost use Rattle.std.specs.Prelude.{◌≡◌, ◌&&◌, not};
+ghost use Rattle.silq_types.specs.Types.{is_empty};
 ghost use Rattle.check_scope.specs.Context.{indices, is_prefix as prefix_of, listed, overlaps as overlap_of, overlaps_any as overlaps_some, same_index as equal_index, same_part as equal_part};
 
-use silq_types::Part;
+use silq_types::{Part, Var};
 
 /// Whether both are the same index value, or none.
 fn same_index(a: Option<i64>, b: Option<i64>) -> bool
@@ -59,6 +60,15 @@ pub(crate) fn overlaps(p: Part, q: Part) -> bool
     ensures { result ≡ overlap_of p q }
 {
     p.name.number == q.name.number && (is_prefix(p, q) || is_prefix(q, p))
+}
+
+/// Whether the variable is a part that was taken out, and another one than this, which it overlaps.
+pub(crate) fn is_in_the_way(var: Var, part: Part) -> bool
+    ensures { result ≡ (not (is_empty (indices var.part)) && not (equal_part var.part part) && overlap_of var.part part) }
+{
+    (var.part.first.is_some() || var.part.second.is_some())
+        && !same_part(var.part, part)
+        && overlaps(var.part, part)
 }
 
 /// Whether one of the first overlaps the second.

@@ -2,10 +2,10 @@
 
 ghost use Rattle.std.specs.Prelude.{◌≡◌, ◌<◌, length};
 ghost use Rattle.silq_tree.specs.Arena.{expr_at};
-ghost use Rattle.silq_tree.specs.Children.{place_exprs, AreExprsBelow, HasFirst};
-ghost use Rattle.silq_tree.specs.Standing.{expressions_of, place_of};
+ghost use Rattle.silq_tree.specs.Children.{place_exprs, scalar_exprs, AreExprsBelow, HasFirst};
+ghost use Rattle.silq_tree.specs.Standing.{expressions_of, place_of, scalar_of};
 ghost use Rattle.silq_tree.specs.Syntax.{place as place_tree};
-ghost use Rattle.silq_types.specs.Types.{value_of as value_of_static, first_unknown as unknown_of, names, all_names};
+ghost use Rattle.silq_types.specs.Types.{value_of as value_of_static, first_unknown as unknown_of, names, all_names, scalar_names};
 ghost use Rattle.check_scope.specs.Context.{is_known_name as is_known, variable as variable_of};
 ghost use Rattle.check_scope.specs.State.{scope_in};
 
@@ -56,9 +56,7 @@ pub(crate) fn first_unknown(library: &Library, cx: &Context, e: ExprId) -> Optio
     match library.tree().expr(e) {
         Expr::Number { ty, .. } => match ty {
             None => None,
-            Some(ScalarNode::Bit) => None,
-            Some(ScalarNode::UInt(width)) => first_unknown(library, cx, *width),
-            Some(ScalarNode::Int(width)) => first_unknown(library, cx, *width),
+            Some(ty) => unknown_in_width(library, cx, *ty),
         },
         Expr::Truth { .. } => None,
         Expr::Pi { .. } => None,
@@ -73,6 +71,20 @@ pub(crate) fn first_unknown(library: &Library, cx: &Context, e: ExprId) -> Optio
             Some(at) => Some(at),
             None => first_unknown(library, cx, *right),
         },
+    }
+}
+
+/// The same in the width of a type.
+#[cycle(unknown)]
+#[tactic(auto, using(silq_tree::proofs::Lists::ids, crate::proofs::UnknownNames::unknowns))]
+pub(crate) fn unknown_in_width(library: &Library, cx: &Context, ty: ScalarNode) -> Option<Spot>
+    requires { AreExprsBelow (length library.now.nodes.exprs) (scalar_exprs ty) }
+    ensures { result ≡ unknown_of (is_known (scope_in library.now cx.now) cx.now.vars) (scalar_names (scalar_of (expr_at library.now.nodes) ty)) }
+{
+    match ty {
+        ScalarNode::Bit => None,
+        ScalarNode::UInt(width) => first_unknown(library, cx, width),
+        ScalarNode::Int(width) => first_unknown(library, cx, width),
     }
 }
 

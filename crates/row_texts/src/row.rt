@@ -1,24 +1,37 @@
 //! How a line spells a text.
 //!
-//! `\n` is a line feed, `\t` a tab and `\r` a carriage return; a backslash before any other character is that character. A
-//! line `N*TEXT` with a decimal number N is N times TEXT.
+//! `\n` is a line feed, `\t` a tab and `\r` a carriage return; a backslash before any other character is that character,
+//! and at the end it is nothing. A line `N*TEXT`, where N is a decimal number below 2^32 (digits, in front of which a plus may
+//! stand), is N times the text that TEXT spells. Any other line is the text that it spells itself.
 
-ghost use Rattle.std.specs.Prelude.{◌≡◌, IfOk, false};
-ghost use Rattle.std.specs.Str.{chars, encode_utf8_all};
+ghost use Rattle.std.specs.Prelude.{◌≡◌, IfOk, MatchOption, Some, None};
 ghost use Rattle.std.specs.String.{string_bytes};
-ghost use Rattle.row_texts.specs.Spelled.{escaped, spelled, times};
+ghost use Rattle.row_texts.specs.Spelled.{escaped, spelled_text, times, counted, row_text};
 
 use std::alloc::{AllocError, Global};
 
 /// The text that a line spells.
-pub fn text_of(alloc: Global, line: &str) -> Result<String, AllocError> {
-    if let Some((number, text)) = line.split_once('*') {
-        if let Ok(count) = number.parse::<u32>() {
-            let text = unescape(alloc, text)?;
-            return repeat(alloc, &text, count);
+pub fn text_of(alloc: Global, line: &str) -> Result<String, AllocError>
+    ensures { IfOk result (λ text. string_bytes text ≡ row_text line.now) }
+{
+    match counted(line) {
+        Some((count, rest)) => {
+            let text = unescape(alloc, rest)?;
+            repeat(alloc, &text, count)
         }
+        None => unescape(alloc, line),
     }
-    unescape(alloc, line)
+}
+
+// The number before the first `*`, and what stands behind that.
+fn counted(line: &str) -> Option<(u32, &str)>
+    ensures { MatchOption result (counted line.now ≡ None) (λ row. counted line.now ≡ Some (row.0, row.1.now)) }
+{
+    let (number, rest) = line.split_once('*')?;
+    match number.parse::<u32>() {
+        Ok(count) => Some((count, rest)),
+        Err(_) => None,
+    }
 }
 
 // So many times a text.
@@ -46,7 +59,7 @@ fn meant(letter: char) -> char
 
 // The text with its escapes read.
 fn unescape(alloc: Global, line: &str) -> Result<String, AllocError>
-    ensures { IfOk result (λ text. string_bytes text ≡ encode_utf8_all (spelled false (chars line.now))) }
+    ensures { IfOk result (λ text. string_bytes text ≡ spelled_text line.now) }
 {
     let mut text = String::new(alloc);
     let mut behind = false;

@@ -23,7 +23,7 @@ module _ (job : CheckJob) (bytes : List ℕ) where
   check_of : Program → Result Accepted Fault
   check_of p =
       check_named (record { words = words_of (names_of (tokens_of (chars bytes)).items); funs = program_tree p })
-          (number_of_name (names_of (tokens_of (chars bytes)).items) job.entry) job.statics
+      (number_of_name (names_of (tokens_of (chars bytes)).items) job.entry) job.statics
 
   -- the bytes have one answer, as a text has one tree
   pub one_answer : (one other : Result Accepted Fault) → Answers job bytes one → Answers job bytes other → one ≡ other

@@ -91,13 +91,13 @@ block::both-returns-in_err-branch-clause-fails t c = if_err_from _ _ _ c.from_re
 
 pub block::both-returns-in_err-branch-2-clause-fails : goal.block::both-returns-in_err-branch-2-clause-fails
 block::both-returns-in_err-branch-2-clause-fails t c = if_err_from _ _ _ c.from_residual-in_err-branch-2.ensures.1
-    (fails_second c.args.library.now (λ sc. branch (stmts (statements_of (expr_at c.args.library.now.nodes) (stmt_at c.args.library.now.nodes) c.args.then.now.items) sc) c.args.then.now.end) (λ sc. branch (otherwise (otherwise_of (expr_at c.args.library.now.nodes) (stmt_at c.args.library.now.nodes) c.args.other.now) sc) (otherwise_end (otherwise_of (expr_at c.args.library.now.nodes) (stmt_at c.args.library.now.nodes) c.args.other.now))) c.args.cx.now c.args.tally.now _ _ _ _ _ (c.in_ok-start.ensures.ok ∙ c.vars.ensures) (first_runs (checker_at c.args.library.now c.args.cx.now) (expr_at c.args.library.now.nodes) (stmt_at c.args.library.now.nodes) (scope_in c.args.library.now c.args.cx.now) c.args.cx.now c.args.tally.now _ _ c.args.then.now.end _ _ c.as_slice.ensures c.in_ok-branch.ensures.runs) c.put.ensures
+    (fails_second c.args.library.now (λ sc. branch (stmts (statements_of (expr_at c.args.library.now.nodes) (stmt_at c.args.library.now.nodes) c.args.then.now.items) sc) c.args.then.now.end) (λ sc. branch (otherwise (otherwise_of (expr_at c.args.library.now.nodes) (stmt_at c.args.library.now.nodes) c.args.other.now) sc) (otherwise_end (otherwise_of (expr_at c.args.library.now.nodes) (stmt_at c.args.library.now.nodes) c.args.other.now))) c.args.cx.now c.args.tally.now _ _ _ _ _ (c.in_ok-start.ensures.ok ∙ c.vars.ensures) (first_runs (checker_at c.args.library.now c.args.cx.now) (expr_at c.args.library.now.nodes) (stmt_at c.args.library.now.nodes) (scope_in c.args.library.now c.args.cx.now) c.args.cx.now c.args.tally.now _ _ c.args.then.now.end _ _ c.as_slice.ensures c.in_ok-branch.ensures.runs) c.in_ok-put.ensures.ok
     (other_fails (checker_at c.args.library.now c.put.new.self) (expr_at c.args.library.now.nodes) (stmt_at c.args.library.now.nodes) (scope_in c.args.library.now c.put.new.self) c.put.new.self _ _ c.args.other.now _ _ c.items_of.ensures c.end_of_else.ensures c.in_err-branch-2.ensures.fails))
 
 pub block::both-returns-clause-runs : goal.block::both-returns-clause-runs
 block::both-returns-clause-runs t c =
-    runs_both c.args.library.now (λ sc. branch (stmts (statements_of (expr_at c.args.library.now.nodes) (stmt_at c.args.library.now.nodes) c.args.then.now.items) sc) c.args.then.now.end) (λ sc. branch (otherwise (otherwise_of (expr_at c.args.library.now.nodes) (stmt_at c.args.library.now.nodes) c.args.other.now) sc) (otherwise_end (otherwise_of (expr_at c.args.library.now.nodes) (stmt_at c.args.library.now.nodes) c.args.other.now))) c.args.cx.now c.args.tally.now _ _ _ _ _ _ _ _ _ (c.in_ok-start.ensures.ok ∙ c.vars.ensures) (c.as_slice-2.ensures.value ∙ c.in_ok-one.ensures.ok ∙ c.vars-2.ensures) (c.in_ok-vars.ensures.ok ∙ ap (λ vs. joined c.as_slice-2.result.now vs) c.vars-3.ensures) (first_runs (checker_at c.args.library.now c.args.cx.now) (expr_at c.args.library.now.nodes) (stmt_at c.args.library.now.nodes) (scope_in c.args.library.now c.args.cx.now) c.args.cx.now c.args.tally.now _ _ c.args.then.now.end _ _ c.as_slice.ensures c.in_ok-branch.ensures.runs) c.put.ensures
-    (other_runs (checker_at c.args.library.now c.put.new.self) (expr_at c.args.library.now.nodes) (stmt_at c.args.library.now.nodes) (scope_in c.args.library.now c.put.new.self) c.put.new.self _ _ c.args.other.now _ _ _ c.items_of.ensures c.end_of_else.ensures c.in_ok-branch-2.ensures.runs) c.put-2.ensures
+    runs_both c.args.library.now (λ sc. branch (stmts (statements_of (expr_at c.args.library.now.nodes) (stmt_at c.args.library.now.nodes) c.args.then.now.items) sc) c.args.then.now.end) (λ sc. branch (otherwise (otherwise_of (expr_at c.args.library.now.nodes) (stmt_at c.args.library.now.nodes) c.args.other.now) sc) (otherwise_end (otherwise_of (expr_at c.args.library.now.nodes) (stmt_at c.args.library.now.nodes) c.args.other.now))) c.args.cx.now c.args.tally.now _ _ _ _ _ _ _ _ _ (c.in_ok-start.ensures.ok ∙ c.vars.ensures) (c.as_slice-2.ensures.value ∙ c.in_ok-one.ensures.ok ∙ c.vars-2.ensures) (c.in_ok-vars.ensures.ok ∙ ap (λ vs. joined c.as_slice-2.result.now vs) c.vars-3.ensures) (first_runs (checker_at c.args.library.now c.args.cx.now) (expr_at c.args.library.now.nodes) (stmt_at c.args.library.now.nodes) (scope_in c.args.library.now c.args.cx.now) c.args.cx.now c.args.tally.now _ _ c.args.then.now.end _ _ c.as_slice.ensures c.in_ok-branch.ensures.runs) c.in_ok-put.ensures.ok
+    (other_runs (checker_at c.args.library.now c.put.new.self) (expr_at c.args.library.now.nodes) (stmt_at c.args.library.now.nodes) (scope_in c.args.library.now c.put.new.self) c.put.new.self _ _ c.args.other.now _ _ _ c.items_of.ensures c.end_of_else.ensures c.in_ok-branch-2.ensures.runs) c.in_ok-put-2.ensures.ok
 
 pub block::run_time-returns-in_err-parts-clause-fails : goal.block::run_time-returns-in_err-parts-clause-fails
 block::run_time-returns-in_err-parts-clause-fails t c = if_err_from _ _ _ c.from_residual.ensures.1 (fails_condition c.args.library.now (expr_at c.args.library.now.nodes c.args.cond) (λ sc. both (branch (stmts (statements_of (expr_at c.args.library.now.nodes) (stmt_at c.args.library.now.nodes) c.args.then.now.items) sc) c.args.then.now.end) (branch (otherwise (otherwise_of (expr_at c.args.library.now.nodes) (stmt_at c.args.library.now.nodes) c.args.other.now) sc) (otherwise_end (otherwise_of (expr_at c.args.library.now.nodes) (stmt_at c.args.library.now.nodes) c.args.other.now)))) c.args.cx.now c.args.tally.now _ c.in_err-parts.ensures.fails)
@@ -197,7 +197,7 @@ pub block::both-branch-library-requires : goal.block::both-branch-library-requir
 block::both-branch-library-requires t c = ((let below = level_less c.args.cx.now.depth c.args.cx.now.depth (length c.args.library.now.nodes.stmts) (8 * stmts_top c.as_slice.result.now + 1) (8 * max (stmts_top c.args.then.now.items) (stmts_top (else_stmts c.args.other.now)) + 2) (refl) (omega (arith, ap stmts_top c.as_slice.ensures)) in omega (arith, c.decreases, below)), (subst (λ xs. AreStmtsBelow (length c.args.library.now.nodes.stmts) xs) (sym c.as_slice.ensures) c.requires.then, (c.requires.this, c.requires.depth)))
 
 pub block::both-branch-library-requires-2 : goal.block::both-branch-library-requires-2
-block::both-branch-library-requires-2 t c = ((let below = level_less c.put.new.self.depth c.args.cx.now.depth (length c.args.library.now.nodes.stmts) (8 * stmts_top c.items_of.result.now + 1) (8 * max (stmts_top c.args.then.now.items) (stmts_top (else_stmts c.args.other.now)) + 2) ((ap (λ (s : State). s.depth) c.put.ensures ∙ c.in_ok-branch.ensures.runs.stays.depth)) (omega (arith, ap stmts_top c.items_of.ensures)) in omega (arith, c.decreases, below)), (subst (λ xs. AreStmtsBelow (length c.args.library.now.nodes.stmts) xs) (sym c.items_of.ensures) c.requires.other, (subst (λ n. n < length c.args.library.now.funs) (sym (ap (λ (s : State). s.this) c.put.ensures ∙ c.in_ok-branch.ensures.runs.stays.this)) c.requires.this, subst (λ n. n ≤ 64) (sym (ap (λ (s : State). s.depth) c.put.ensures ∙ c.in_ok-branch.ensures.runs.stays.depth)) c.requires.depth)))
+block::both-branch-library-requires-2 t c = ((let below = level_less c.put.new.self.depth c.args.cx.now.depth (length c.args.library.now.nodes.stmts) (8 * stmts_top c.items_of.result.now + 1) (8 * max (stmts_top c.args.then.now.items) (stmts_top (else_stmts c.args.other.now)) + 2) ((ap (λ (s : State). s.depth) c.in_ok-put.ensures.ok ∙ c.in_ok-branch.ensures.runs.stays.depth)) (omega (arith, ap stmts_top c.items_of.ensures)) in omega (arith, c.decreases, below)), (subst (λ xs. AreStmtsBelow (length c.args.library.now.nodes.stmts) xs) (sym c.items_of.ensures) c.requires.other, (subst (λ n. n < length c.args.library.now.funs) (sym (ap (λ (s : State). s.this) c.in_ok-put.ensures.ok ∙ c.in_ok-branch.ensures.runs.stays.this)) c.requires.this, subst (λ n. n ≤ 64) (sym (ap (λ (s : State). s.depth) c.in_ok-put.ensures.ok ∙ c.in_ok-branch.ensures.runs.stays.depth)) c.requires.depth)))
 
 pub block::run_time-both-requires : goal.block::run_time-both-requires
 block::run_time-both-requires t c = ((let below = level_less c.hold.new.self.depth c.args.cx.now.depth (length c.args.library.now.nodes.stmts) (8 * max (stmts_top c.args.then.now.items) (stmts_top (else_stmts c.args.other.now)) + 2) (8 * max (stmts_top c.args.then.now.items) (stmts_top (else_stmts c.args.other.now)) + 3) ((ap (λ (s : State). s.depth) c.in-Ok.ensures.ok ∙ c.in_ok-parts.ensures.runs.stays.depth)) (omega arith) in omega (arith, c.decreases, below)), (c.requires.then, (c.requires.other, (subst (λ n. n < length c.args.library.now.funs) (sym (ap (λ (s : State). s.this) c.in-Ok.ensures.ok ∙ c.in_ok-parts.ensures.runs.stays.this)) c.requires.this, subst (λ n. n ≤ 64) (sym (ap (λ (s : State). s.depth) c.in-Ok.ensures.ok ∙ c.in_ok-parts.ensures.runs.stays.depth)) c.requires.depth))))

@@ -1,5 +1,4 @@
-use Rattle.std.proofs.Common.{◌≡◌, ◌+◌, ◌++◌, ◌∷◌, [], List, Some, None, ◌∙◌, sym, ap, append_assoc, drop}
-use Rattle.std.specs.Prelude.{Option}
+use Rattle.std.proofs.Common.{◌≡◌, ◌+◌, ◌++◌, List, ◌∙◌, sym, ap, append_assoc, drop}
 use Rattle.silq_tree.specs.declared.node.NameId.{NameId}
 use Rattle.check_scope.specs.declared.words.BuiltIn.{BuiltIn}
 use Rattle.check_scope.specs.Words.{built_ins, named, with_word, words_from, words_of}

@@ -10,12 +10,12 @@ pub returns-in_ok-obey_use-in-None-clause-stops : goal.returns-in_ok-obey_use-in
 returns-in_ok-obey_use-in-None-clause-stops c = λ met l. rw (← c.in-None.ensures) (stops_after met _ _ _ _ _ _ _ (c.in_ok-obey_use-in-None.ensures.reads met l) (stops_fail met _ _ _))
 
 pub returns-in_err-obey_use-in-Some-clause-stops : goal.returns-in_err-obey_use-in-Some-clause-stops
-returns-in_err-obey_use-in-Some-clause-stops c = λ met l. at_exit _ _ _ c.from_residual-in_err-obey_use-in-Some.ensures.1 (rw (← c.in-Some.ensures) (stops_then met _ _ _ _ _ (rw (c.is_blocked-bad.ensures, c.vars.ensures) at (c.in_err-obey_use-in-Some.ensures.stops met l))))
+returns-in_err-obey_use-in-Some-clause-stops c = λ met l. at_exit _ _ _ c.from_residual-in_err-obey_use-in-Some.ensures.1 (rw (← c.in-Some.ensures) (stops_then met _ _ _ _ _ (rw c.is_blocked-bad.ensures at (c.in_err-obey_use-in-Some.ensures.stops met l))))
 
 pub returns-in_ok-obey_use-in-Some-clause-reads : goal.returns-in_ok-obey_use-in-Some-clause-reads
 returns-in_ok-obey_use-in-Some-clause-reads c = λ met l.
-    rw (← c.in-Some.ensures) (IfOk-weaker c.leave.result _ _ (λ v r. reads_then met _ _ _ _ _ _ _ (rw (c.is_blocked-bad.ensures, c.vars.ensures) at (c.in_ok-obey_use-in-Some.ensures.reads met l)) r) (c.leave.ensures.reads met))
+    rw (← c.in-Some.ensures) (IfOk-weaker c.leave.result _ _ (λ v r. reads_then met _ _ _ _ _ _ _ (rw c.is_blocked-bad.ensures at (c.in_ok-obey_use-in-Some.ensures.reads met l)) r) (c.leave.ensures.reads met))
 
 pub returns-in_ok-obey_use-in-Some-clause-stops : goal.returns-in_ok-obey_use-in-Some-clause-stops
 returns-in_ok-obey_use-in-Some-clause-stops c = λ met l.
-    rw (← c.in-Some.ensures) (IfErr-weaker c.leave.result _ _ (λ v r. stops_after met _ _ _ _ _ _ _ (rw (c.is_blocked-bad.ensures, c.vars.ensures) at (c.in_ok-obey_use-in-Some.ensures.reads met l)) r) (c.leave.ensures.stops met))
+    rw (← c.in-Some.ensures) (IfErr-weaker c.leave.result _ _ (λ v r. stops_after met _ _ _ _ _ _ _ (rw c.is_blocked-bad.ensures at (c.in_ok-obey_use-in-Some.ensures.reads met l)) r) (c.leave.ensures.stops met))

@@ -1,4 +1,4 @@
-use Rattle.std.proofs.Common.{◌≡◌, ◌+◌, ◌*◌, drop}
+use Rattle.std.proofs.Common.{◌≡◌, ◌+◌, ◌*◌, [], drop}
 use Rattle.silq_tree.specs.Arena.{expr_at}
 use Rattle.silq_tree.specs.Children.{place_exprs, scalar_exprs}
 use Rattle.silq_tree.specs.Standing.{expressions_of}
@@ -22,5 +22,5 @@ decreases-unknown_in_width l = 2 * exprs_top (scalar_exprs l.ty)
 -- what the expressions that are left name gives the answer
 abbrev pub invariant-unknown_in_all-loop-item : goal.invariant-unknown_in_all-loop-item
 invariant-unknown_in_all-loop-item l =
-    first_unknown (is_in_reach l.statics l.vars) (all_names (expressions_of (expr_at l.tree) (drop l.item-index l.items)))
-    ≡ first_unknown (is_in_reach l.fn.statics l.fn.vars) (all_names (expressions_of (expr_at l.fn.tree) l.fn.items))
+    first_unknown (is_in_reach l.statics []) (all_names (expressions_of (expr_at l.tree) (drop l.item-index l.items)))
+    ≡ first_unknown (is_in_reach l.fn.statics []) (all_names (expressions_of (expr_at l.fn.tree) l.fn.items))
