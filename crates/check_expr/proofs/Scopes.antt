@@ -1,15 +1,14 @@
 -- A step leaves the scope as it is; and where a check answers, breaks a rule, or has no memory at once.
-use Rattle.std.specs.Prelude.{List, [], ◌∷◌, IfErr, ◌≡◌, refl, ℕ, Bool, true, false, Option, Some, None, Result, Ok, Err, IfSome}
+use Rattle.std.specs.Prelude.{List, [], ◌∷◌, IfErr, ◌≡◌, refl, ℕ, Result, Ok, Err}
 use Rattle.std.proofs.Common.{get_or, length, ◌<◌, ◌≤◌, arith}
 use Rattle.std.specs.Result.{IsErrAnd}
-use mathlib.Core.Path.{sym, ap, ◌∙◌, subst}
+use mathlib.Core.Path.{sym, subst}
 use Rattle.silq_tree.specs.declared.node.Spot.{Spot}
 use Rattle.silq_types.specs.Rules.{Fault, rule}
 use Rattle.silq_types.specs.Known.{Signatures}
 use Rattle.check_scope.specs.Context.{Check, fail, give_back, of_result}
 use Rattle.check_scope.specs.Library.{Shelf}
 use Rattle.check_scope.specs.State.{State, Keeps, scope_in}
-use Rattle.check_scope.specs.Faults.{fault_as}
 use Rattle.check_scope.specs.Steps.{Reads, Stops, IsFirst}
 use Rattle.check_scope.specs.declared.fault.CheckFault.{CheckFault}
 use Rattle.check_scope.specs.declared.fault.CheckFault.TheVariants as checks

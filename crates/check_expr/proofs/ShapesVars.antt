@@ -1,7 +1,6 @@
 -- A walk leaves the types of the variables, and what is told by them.
 use Rattle.std.specs.Prelude.{◌≡◌, refl, Bool, true, false, cond, List, [], ◌∷◌, Option, Some, None, option_map, is_some, ◌||◌}
-use mathlib.Core.Path.{sym, ap, ◌∙◌, subst}
-use native.Mathlib.Omega.{arith}
+use mathlib.Core.Path.{sym, ap, ◌∙◌}
 use Rattle.check_expr.proofs.Alike.{some_same, same_part_refl}
 use Rattle.check_expr.proofs.Owners.{found_part}
 use Rattle.check_expr.specs.Shapes.{var_type}
@@ -10,7 +9,7 @@ use Rattle.silq_tree.specs.Syntax.{ScalarType}
 use Rattle.silq_tree.specs.declared.node.NameId.{NameId}
 use Rattle.silq_tree.specs.declared.node.Spot.{Spot}
 use Rattle.silq_types.specs.Rules.{and_then}
-use Rattle.silq_types.specs.Types.{Statics, value_of, first_unknown, all_known, width_of, width_spot, scalar_by, scalar_names, scalar_type}
+use Rattle.silq_types.specs.Types.{value_of, first_unknown, all_known, width_of, width_spot, scalar_by, scalar_names, scalar_type}
 use Rattle.silq_types.specs.declared.types.Ty.{Ty}
 use Rattle.silq_types.specs.declared.values.Part.{Part}
 use Rattle.silq_types.specs.declared.values.Var.{Var}

@@ -6,7 +6,7 @@ use Rattle.silq_tree.specs.declared.node.NameId.{NameId}
 use Rattle.silq_tree.specs.declared.node.Spot.{Spot}
 use Rattle.silq_tree.specs.declared.node.UnaryOp.{UnaryOp}
 use Rattle.silq_tree.specs.declared.node.BinaryOp.{BinaryOp}
-use Rattle.silq_tree.specs.Syntax.{Expression, Expressions, ScalarType, number, typed_number, truth, pi, place, called, tuple, unary, binary, none, more, Place, whole, part, part_of_part}
+use Rattle.silq_tree.specs.Syntax.{Expression, number, typed_number, truth, pi, place, called, tuple, unary, binary, more, Place}
 use Rattle.silq_tree.specs.declared.node.ScalarNode.{ScalarNode}
 use Rattle.silq_tree.specs.declared.node.Expr.TheVariants as nodes
 use Rattle.silq_tree.specs.Standing.{expressions_of, scalar_of, expr_grown}
@@ -23,7 +23,7 @@ use Rattle.check_scope.specs.declared.fault.ExprFault.{ExprFault}
 use Rattle.check_scope.specs.declared.fault.ExprFault.TheVariants as stops
 use Rattle.check_expr.specs.Asks.{asked_as, all_asked, types_of}
 use Rattle.check_scope.specs.Context.{Scope, Check, of_result}
-use Rattle.check_expr.specs.Expression.{expr, arguments, static_value, first_asked, later_asked, lone_need, lone_wants, single, suits, asked_of_items, call_found, later_arguments}
+use Rattle.check_expr.specs.Expression.{expr, arguments, static_value, first_asked, later_asked, lone_need, lone_wants, single, suits, call_found, later_arguments}
 use Rattle.check_scope.specs.Uses.{built_in, find_fun}
 use Rattle.check_scope.specs.declared.need.Need.TheVariants as needs
 use Rattle.check_expr.specs.Forms.{number_values, part_values, unary_values, binary_values, operand, both_operands}

@@ -24,7 +24,7 @@ use Rattle.silq_types.specs.Rules.{rule, unsupported, name_taken, wrong_type, no
 use Rattle.silq_types.specs.Types.{Statics, single_shape, shape_eq, quantum, is_bit, is_number, is_scalar, is_linear, fits, is_count, most_items, needed_at, scalar_type, header_of, is_empty, at, count}
 use Rattle.check_scope.specs.declared.need.Need.{Need}
 use Rattle.check_scope.specs.declared.need.Need.TheVariants as needs
-use Rattle.check_scope.specs.Context.{Scope, Check, ◌>>=◌, ◌>>◌, give_back, pass, fail, of_result, rules, variables, new_place, signature, is_known_name, known_names, needed}
+use Rattle.check_scope.specs.Context.{Scope, Check, ◌>>=◌, ◌>>◌, give_back, pass, fail, of_result, rules, variables, signature, is_known_name, known_names, needed}
 use Rattle.check_scope.specs.declared.words.BuiltIn.{BuiltIn}
 use Rattle.check_scope.specs.declared.words.BuiltIn.TheVariants.{HGate, XGate, YGate, ZGate, Dup, Measure, Vector, RotateX, RotateY, RotateZ}
 use Rattle.check_scope.specs.Uses.{Found, is_consumed, built_in, find_fun, param_need, argument_uses, both_consume, consume_and_hold, some_pair}

@@ -459,7 +459,6 @@ pub fn shape(
     known: &Known,
 ) -> Result<Option<TyList>, AllocError>
     requires id { e.number < length library.now.nodes.exprs }
-    requires this { cx.now.this < length library.now.funs }
     ensures static_type { IfOk result (λ ts. is_some ts ≡ not (static_within cx.now.statics (expr_at library.now.nodes e))) }
     ensures types { (need : Needs) (wants : Listed Types) (vs : Listed Values) (s : State) → IfOk result (λ ts. Reads known.now (expr_of (expr_at library.now.nodes e) (scope_in library.now cx.now) need wants) cx.now vs s → ts ≡ shape_of cx.now.statics (expr_at library.now.nodes e) vs) }
 {

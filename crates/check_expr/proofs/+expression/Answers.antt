@@ -1,24 +1,20 @@
 use Rattle.check_expr.proofs.Called.{gates}
-use Rattle.check_expr.proofs.Scopes.{if_err, reads_result, stops_result, same_scope, reads_as, stops_as, stops_full}
-use Rattle.check_scope.proofs.Sequence.{keeps_refl, reads_bind, reads_then, reads_back, reads_variables, stops_bind, stops_then, stops_later, stops_after}
-use Rattle.check_expr.proofs.Walks.{Onward, item_stops, single_stops, suits_stops, memory_stops, onward, onward_none, onward_all, by_binary, by_call, number_reads, number_stops, truth_open, left_static, left_static_number, left_static_right, left_static_last, left_first, left_first_stops, left_first_right, at_static, at_place, at_unary, at_binary}
-use Rattle.check_expr.specs.Asks.{all_asked, types_of}
-use Rattle.check_expr.specs.Expression.{expr, arguments, binary_value, fits_rule, one_value, origin_of, unary_value, unary_fits, binary_fits, typed_by, binary_shape, lone_need, lone_wants, is_tuple, operands}
-use Rattle.check_scope.specs.Places.{new_value}
+use Rattle.check_expr.proofs.Scopes.{if_err, same_scope, reads_as, stops_as}
+use Rattle.check_scope.proofs.Sequence.{reads_bind, reads_then, reads_variables, stops_bind, stops_then, stops_later, stops_after}
+use Rattle.check_expr.proofs.Walks.{Onward, item_stops, single_stops, suits_stops, memory_stops, onward, onward_none, onward_all, by_binary, by_call, number_reads, number_stops, truth_open, left_static, left_static_number, left_static_right, left_static_last, left_first, left_first_stops, left_first_right, at_static}
+use Rattle.check_expr.specs.Expression.{expr, binary_value, lone_wants}
 use Rattle.check_scope.specs.State.{scope_in}
 use Rattle.check_scope.specs.Steps.{Reads, Stops}
 use Rattle.silq_tree.proofs.Lists.{expr_below, expr_below_top, exprs_top_le, exprs_below_front, exprs_below_back, exprs_below_more}
 use Rattle.silq_tree.specs.Arena.{expr_at}
 use Rattle.silq_tree.specs.Children.{AreExprsBelow, expr_exprs}
-use Rattle.silq_tree.specs.Standing.{scalar_of, expressions_of, expr_grown}
-use Rattle.silq_tree.specs.declared.node.Expr.{Expr}
-use Rattle.std.proofs.Common.{get_or, ◌<◌, length, rules, ◌++◌, ◌≡◌, arith, w64, IfOk, IfErr, subst, refl, true, false}
+use Rattle.silq_tree.specs.Standing.{expr_grown}
+use Rattle.std.proofs.Common.{get_or, ◌<◌, length, rules, ◌++◌, ◌≡◌, arith, w64, IfOk, IfErr, subst}
 use Rattle.std.proofs.lemmas.Int.{to_z-of_z}
 use Rattle.std.proofs.lemmas.Result.{IfOk-weaker, IfErr-weaker}
 use mathlib.Core.Path.{sym, ap, ◌∙◌}
 use mir.Val.{SFits}
 use Rattle.check_scope.specs.declared.need.Need.TheVariants as needs
-use Rattle.silq_tree.specs.declared.node.Expr.TheVariants as nodes
 use Rattle.check_expr.proofs.+expression.Goals as goal
 
 pub expr::unary-returns-in_err-values-clause-stops : goal.expr::unary-returns-in_err-values-clause-stops

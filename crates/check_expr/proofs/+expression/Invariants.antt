@@ -1,13 +1,6 @@
-use Rattle.std.proofs.Common.{◌+◌, ◌*◌, max, drop, ◌++◌, List}
-use Rattle.silq_types.specs.declared.values.Value.{Value}
+use Rattle.std.proofs.Common.{◌+◌, ◌*◌, max}
 use Rattle.silq_tree.specs.Arena.{expr_at}
-use Rattle.silq_tree.specs.Standing.{expressions_of}
 use Rattle.silq_tree.proofs.Lists.{exprs_top}
-use Rattle.check_scope.specs.declared.fault.ExprFault.{ExprFault}
-use Rattle.check_expr.specs.Asks.{all_asked}
-use Rattle.check_expr.specs.Expression.{arguments}
-use Rattle.check_scope.specs.State.{State, Keeps, scope_in}
-use Rattle.check_scope.specs.Steps.{Reads, Stops}
 use Rattle.check_expr.proofs.Walks.{Onward}
 use Rattle.check_expr.proofs.+expression.Given as goal
 

@@ -1,4 +1,4 @@
-use Rattle.std.proofs.Common.{subst, sym}
+use Rattle.std.proofs.Common.{subst}
 use Rattle.silq_tree.specs.Arena.{expr_at}
 use Rattle.check_expr.specs.Expression.{expr}
 use Rattle.check_scope.specs.State.{scope_in}
