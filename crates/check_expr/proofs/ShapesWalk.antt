@@ -3,12 +3,8 @@ use Rattle.std.specs.Prelude.{◌≡◌, refl, ℕ, max, Bool, true, false, not,
 use mathlib.Core.Path.{sym, ap, ◌∙◌, subst}
 use Rattle.check_expr.proofs.Owners.{gives-more, o_bind, o_then, o_more, o_from, o_back, o_fail, o_if, o_rules, o_result, o_variables, o_names, o_natural, o_signature, o_suits}
 use Rattle.check_expr.proofs.ShapesVars.{SameTypes, consumed_type, scalar_same}
-<<<<<<< HEAD
-use Rattle.check_expr.specs.Expression.{Asked, first_asked, later_asked, asked_by, asked_by_built_in, Arguments, one_value, static_value, unless_static, typed_value, typed_by, unary_value, binary_value, is_tuple, lone_need, lone_wants, single, single_of, operands, suits, flip_value, gate_value, gate_values, repeated, many, length_value, all_typed, vector_value, call_gate, call_built_in, static_arguments, natural, exact_place, result_origin, placed, argument_at, result_values, unnamed_rule, lone_linear, all_lifted, is_qfree, call_own, call_found, asked_of_items, expr, arguments, later_arguments}
+use Rattle.check_expr.specs.Expression.{Asked, first_asked, later_asked, asked_by, asked_by_built_in, Arguments, one_value, static_value, unless_static, typed_value, typed_by, unary_value, binary_value, is_tuple, lone_need, lone_wants, single, single_of, operands, flip_value, gate_value, gate_values, repeated, many, length_value, all_typed, vector_value, call_gate, call_built_in, static_arguments, exact_place, result_origin, placed, argument_at, result_values, unnamed_rule, lone_linear, all_lifted, is_qfree, call_own, call_found, asked_of_items, expr, arguments, later_arguments}
 use Rattle.check_scope.specs.Programs.{paired}
-=======
-use Rattle.check_expr.specs.Expression.{Asked, first_asked, later_asked, asked_by, asked_by_built_in, Arguments, one_value, static_value, unless_static, typed_value, typed_by, unary_value, binary_value, is_tuple, lone_need, lone_wants, single, single_of, operands, flip_value, gate_value, gate_values, repeated, many, length_value, all_typed, vector_value, call_gate, call_built_in, static_arguments, paired, exact_place, result_origin, placed, argument_at, result_values, unnamed_rule, lone_linear, all_lifted, is_qfree, call_own, call_found, asked_of_items, expr, arguments, later_arguments}
->>>>>>> 2e30806081899e548ed0942d4113115b986cc078
 use Rattle.check_expr.specs.Owners.{Gives, Ensures}
 use Rattle.check_expr.specs.Shapes.{some_static, has_static, types_of_values, shape_of, or_any, first_type, scalar_told, part_of_place, var_type, found_type, part_told, joined_type, binary_type, gate_type, count_told, length_told, built_in_type, result_types, signed_types, instance_types, call_types, type_of, first_item, second_item, item_types, types_of, types_told}
 use Rattle.check_scope.specs.Context.{Scope, Context, Check, ◌>>=◌, ◌>>◌, give_back, signature, needed, all_needed, find_var, variable, part_at, is_known_name}
