@@ -131,10 +131,10 @@ abbrev mutual
   stmt (return_nothing s) sc = statement
   stmt (return_value e s) sc = statement >> expr e sc Consumed >> step (type_returned sc.results)
   stmt (call e s) sc = statement >> expr e sc Consumed
-  stmt (condition e then other s) sc =
+  stmt (condition e b other s) sc =
       statement >>
-      (if is_static sc.statics e then (if is_true (static_value sc.statics e) then inner then sc else otherwise other sc)
-      else (expr e sc Held >> choice (inner then sc) (otherwise other sc)))
+      (if is_static sc.statics e then (if is_true (static_value sc.statics e) then inner b sc else otherwise other sc)
+      else (expr e sc Held >> choice (inner b sc) (otherwise other sc)))
   stmt (loop x low high body s) sc =
       statement >>
       rounds (λ v. inner body (with_static sc x v)) (static_value sc.statics low) (distance (static_value sc.statics high -ℤ static_value sc.statics low))
