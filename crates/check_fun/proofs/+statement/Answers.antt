@@ -321,11 +321,11 @@ block::condition-returns-in_err-value-clause-fails t c = if_err_from _ _ _ c.fro
 
 pub block::condition-returns-in_err-obey_now-clause-fails : goal.block::condition-returns-in_err-obey_now-clause-fails
 block::condition-returns-in_err-obey_now-clause-fails t c = if_err_from _ _ _ c.from_residual-in_err-obey_now.ensures.1
-    (fails_bit (checker_at c.args.library.now c.args.cx.now) (scope_in c.args.library.now c.args.cx.now) (expr_at c.args.library.now.nodes c.args.cond) c.args.cx.now c.args.tally.now _ _ _ _ _ _ _ _ c.as_slice.ensures c.in_ok-found.ensures.runs (c.in_ok-value.ensures.runs (checker_at c.args.library.now c.args.cx.now) _ _) c.spot_at_first.ensures (ap not c.is_bit.ensures) (c.in_err-obey_now.ensures.fails (checker_at c.args.library.now c.args.cx.now) _ _))
+    (fails_bit (checker_at c.args.library.now c.args.cx.now) (scope_in c.args.library.now c.args.cx.now) (expr_at c.args.library.now.nodes c.args.cond) c.args.cx.now c.args.tally.now _ _ _ _ _ _ _ _ c.as_slice.ensures c.in_ok-found.ensures.runs (c.in_ok-value.ensures.runs (checker_at c.args.library.now c.args.cx.now) _ _) c.spot_of.ensures (ap not c.is_bit.ensures) (c.in_err-obey_now.ensures.fails (checker_at c.args.library.now c.args.cx.now) _ _))
 
 pub block::condition-returns-clause-runs : goal.block::condition-returns-clause-runs
 block::condition-returns-clause-runs t c =
-    runs_condition (checker_at c.args.library.now c.args.cx.now) (scope_in c.args.library.now c.args.cx.now) (expr_at c.args.library.now.nodes c.args.cond) c.args.cx.now c.args.tally.now _ _ _ _ _ _ _ _ c.as_slice.ensures c.in_ok-found.ensures.runs (c.in_ok-value.ensures.runs (checker_at c.args.library.now c.args.cx.now) _ _) c.spot_at_first.ensures (ap not c.is_bit.ensures) (c.in_ok-obey_now.ensures.runs (checker_at c.args.library.now c.args.cx.now) _ _)
+    runs_condition (checker_at c.args.library.now c.args.cx.now) (scope_in c.args.library.now c.args.cx.now) (expr_at c.args.library.now.nodes c.args.cond) c.args.cx.now c.args.tally.now _ _ _ _ _ _ _ _ c.as_slice.ensures c.in_ok-found.ensures.runs (c.in_ok-value.ensures.runs (checker_at c.args.library.now c.args.cx.now) _ _) c.spot_of.ensures (ap not c.is_bit.ensures) (c.in_ok-obey_now.ensures.runs (checker_at c.args.library.now c.args.cx.now) _ _)
     (same_parts c.args.library.now (expr_at c.args.library.now.nodes c.args.cond) c.args.cx.now c.values.new.cx _ _ c.in_ok-found.ensures.runs.stays c.in_ok-parts.ensures.ok)
 
 pub assign::assign_name-returns-in_err-found-clause-fails : goal.assign::assign_name-returns-in_err-found-clause-fails
