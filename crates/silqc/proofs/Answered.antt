@@ -1,5 +1,6 @@
 -- A file has one answer, by which its check ends.
-use Rattle.std.proofs.Common.{◌≡◌, ℕ, suc, ◌<◌, ◌≤◌, nat_lt, if◌then◌else◌, Bool, true, false, ◌⊎◌, left, right, List, Option, Some, None, Result, Ok, Err, refl, ap, subst, sym, ◌∙◌, arith, nat_tests}
+use Rattle.std.proofs.Common.{◌≡◌, ℕ, suc, ◌<◌, ◌≤◌, nat_lt, if◌then◌else◌, Bool, true, false, ◌⊎◌, inl, inr, List, Option, Some, None, Result, Ok, Err, refl, ap, subst, sym, ◌∙◌, arith}
+use Rattle.std.proofs.lemmas.Bool.Decides.{nat_tests}
 use Rattle.std.specs.Str.{chars}
 use Rattle.silq_io.specs.declared.fault.What.{What}
 use Rattle.silq_io.specs.declared.limit.LimitKind.{LimitKind}
@@ -20,7 +21,7 @@ use Rattle.silqc.specs.Program.{first_file_fault}
 use Rattle.silqc.specs.Typed.{Answers, most}
 
 module _ (job : CheckJob) (bytes : List ℕ) where
-  check_of : Program → Result Accepted Fault
+  abbrev check_of : Program → Result Accepted Fault
   check_of p =
       check_named (record { words = words_of (names_of (tokens_of (chars bytes)).items); funs = program_tree p })
       (number_of_name (names_of (tokens_of (chars bytes)).items) job.entry) job.statics
@@ -33,7 +34,7 @@ module _ (job : CheckJob) (bytes : List ℕ) where
 
   module _ (answer : Result Accepted Fault) (a : Answers job bytes answer) where
     by_answer : (other : Result Accepted Fault) (status : Status) → Answers job bytes other → status ≡ status_of other → EndsBy (status_of answer) status
-    by_answer other status b e = left (e ∙ ap {B = Status} status_of (one_answer other answer b a))
+    by_answer other status b e = inl (e ∙ ap {B = Status} status_of (one_answer other answer b a))
 
     at_rule : (n line col : ℕ) (small : Bool) → nat_lt 2 n ≡ small
         → (if small then Typing n line col else Names n line col) ≡ status_of (Err (rule n (record { line = line; col = col })))
@@ -43,7 +44,7 @@ module _ (job : CheckJob) (bytes : List ℕ) where
     pub told_exactly : (status : Status) → EndsCheck status → Tells job bytes status → EndsBy (status_of answer) status
     told_exactly Done ends told = by_answer (Ok told.0) Done told.1 refl
     told_exactly Words ends told = absurd told
-    told_exactly ReadFault ends told = right (left refl)
+    told_exactly ReadFault ends told = inr (inl refl)
     told_exactly (Syntax cause line col) ends told = absurd (let no : None ≡ Some (record { cause = cause; line = line; col = col }) = sym a.no_fault ∙ told in cc)
     told_exactly (Names n line col) ends told = by_answer (Err (rule n (record { line = line; col = col }))) (Names n line col) told (at_rule n line col false (low ends))
       where
@@ -57,5 +58,5 @@ module _ (job : CheckJob) (bytes : List ℕ) where
     told_exactly (Limit which count) ends told = by_answer (Err (over which)) (Limit which count) told.0 (ap {B = Status} (Limit which) told.1)
     told_exactly (OverBudget least budget) ends told = absurd told
     told_exactly WriteFault ends told = absurd told
-    told_exactly Memory ends told = right (right refl)
+    told_exactly Memory ends told = inr (inr refl)
     told_exactly Unbuilt ends told = absurd told

@@ -1,6 +1,6 @@
 -- How a command ends, and what the end of a check tells of the file's bytes.
 use Rattle.std.specs.Prelude.{◌≡◌, ℕ, suc, ◌<◌, ◌≤◌, nat_lt, if◌then◌else◌, ◌⊎◌, List, Some, Result, Ok, Err}
-use Rattle.silq_types.specs.Rules.{Fault, rule, unsupported, over}
+use Rattle.silq_types.specs.Rules.{Fault, rule as breaks, unsupported, over}
 use Rattle.check_fun.specs.Program.{Accepted}
 use Rattle.silqc.specs.declared.status.Status.{Status}
 use Rattle.silqc.specs.declared.status.Status.TheVariants.{Done, Words, ReadFault, Syntax, Names, Typing, Unsupported, Limit, OverBudget, WriteFault, Memory, Unbuilt}
@@ -41,7 +41,7 @@ Tells job bytes Unbuilt = ⊥
 -- the status of a check with this answer; rules 1 and 2 are those of names
 abbrev pub status_of : Result Accepted Fault → Status
 status_of (Ok a) = Done
-status_of (Err (rule n at)) = if nat_lt 2 n then Typing n at.line at.col else Names n at.line at.col
+status_of (Err (breaks n at)) = if nat_lt 2 n then Typing n at.line at.col else Names n at.line at.col
 status_of (Err (unsupported what at)) = Unsupported what at.line at.col
 status_of (Err (over which)) = Limit which (suc (most which))
 
