@@ -104,7 +104,7 @@ run_rearranges o (a >> b) waiting ts us h =
     let m : (vs : List Term) × (run o waiting a ts ≡ Ok vs) × (run o waiting b vs ≡ Ok us) = and_then_ok (run o waiting a ts) (run o waiting b) us h in
     in_turn (run_rearranges o b waiting m.0 us m.2)
     (subst (λ u. Rearranged (flat_map (follow o b) m.0) u) (flat_map-twice (follow o a) (follow o b) ts) (flat_map-rearranged (follow o b) (run_rearranges o a waiting ts m.0 m.1)))
-run_rearranges o statement waiting ts us h = same_list (sym (ok_inj ts us h) ∙ sym (flat_map-unit ts))
+run_rearranges o (statement line e) waiting ts us h = run_rearranges o e waiting ts us h
 run_rearranges o (step s) waiting ts us h = same_list (sym (ok_inj (map (after s) ts) us h) ∙ sym (flat_map-single (after s) ts))
 run_rearranges o mix waiting ts us h = same_list (sym (within-ok waiting _ us h))
 run_rearranges o measure waiting ts us h = same_list (sym (ok_inj _ us h))
@@ -179,7 +179,7 @@ run_holds o (a >> b) waiting ts us h =
     let m : (vs : List Term) × (run o waiting a ts ≡ Ok vs) × (run o waiting b vs ≡ Ok us) = and_then_ok (run o waiting a ts) (run o waiting b) us h in
     each_both (Holds o a) (λ t. Each (Holds o b) (follow o a t)) ts (run_holds o a waiting ts m.0 m.1)
     (each_flat_map (Holds o b) (follow o a) ts (each_rearranged (Holds o b) (run_rearranges o a waiting ts m.0 m.1) (run_holds o b waiting m.0 us m.2)))
-run_holds o statement waiting ts us h = each_unit ts
+run_holds o (statement line e) waiting ts us h = run_holds o e waiting ts us h
 run_holds o (step s) waiting ts us h = each_unit ts
 run_holds o mix waiting ts us h = each_unit ts
 run_holds o measure waiting ts us h = each_unit ts
@@ -254,7 +254,7 @@ run_no_false o (a >> b) waiting ts line p h = go (and_then_err (run o waiting a 
         → (run o waiting a ts ≡ Err (ForgetFalse line) → ⊥) → ((vs : List Term) → run o waiting a ts ≡ Ok vs → run o waiting b vs ≡ Err (ForgetFalse line) → ⊥) → ⊥
     go (inl k) f g = f k
     go (inr k) f g = g k.0 k.1 k.2
-run_no_false o statement waiting ts line p h = grind (arith, h)
+run_no_false o (statement l e) waiting ts line p h = run_no_false o e waiting ts line p h
 run_no_false o (step s) waiting ts line p h = grind (arith, h)
 run_no_false o mix waiting ts line p h = go (Rattle.std.specs.Prelude.nat_lt most_terms (waiting + length (flat_map (follow o mix) ts))) h
   where

@@ -9,8 +9,22 @@ use Rattle.silq_types.specs.declared.types.Ty.{Ty}
 use Rattle.silq_types.specs.Rules.{and_then}
 use Rattle.silq_types.specs.Types.{bool_eq}
 use Rattle.check_scope.specs.declared.need.Need.{Need}
-use Rattle.silq_mean.specs.Value.{whole, typed, part, is_one, of_one, of_two, repeated, flipped, bits_of}
-use Rattle.silq_mean.specs.Term.{Term, value_of, push, last, on_last, on_last_two, drop_last, turn, hadamard, assign_part, assign_all, update_part, take_out, equals_last, open_block, close_block, enter, leave, type_results, names_of, shapes_of}
+use Rattle.silq_mean.specs.Value.{Value, whole, typed, typed_as, part, is_one, of_one, of_two, repeated, flipped, bits_of}
+use Rattle.silq_mean.specs.Term.{Term, value_of, push, last, on_last, on_last_two, drop_last, turn, hadamard, assign_part, assign_all, update_part, take_out, equals_last, open_block, close_block, enter, leave}
+
+-- what takes a value over: a variable by `:=`, a parameter, a result of a called function, or one of the entry
+pub data Receiver : Type 0 where
+  variable : Receiver
+  parameter : Need → Ty → Receiver
+  result : Ty → Receiver
+  output : Ty → Receiver
+
+-- a static value takes the type of what takes it over
+abbrev pub received : Receiver → Value → Value
+received variable v = v
+received (parameter need t) v = typed_as t.shape v
+received (result t) v = typed_as t.shape v
+received (output t) v = typed_as t.shape v
 
 -- a step that leaves one term for each term
 pub data Step : Type 0 where
@@ -26,6 +40,8 @@ pub data Step : Type 0 where
   -- w^k where the last value is 1, and else w^l
   turn_by : ℕ → ℕ → Step
   turn_all : ℕ → Step
+  -- the last value is taken over
+  receive : Receiver → Step
   assign_to : NameId → List ℤ → Step
   assign_in_turn : List NameId → Step
   update_to : NameId → List ℤ → UpdateOp → Step
@@ -34,18 +50,17 @@ pub data Step : Type 0 where
   end_compared : NameId → Step
   enter_block : Step
   leave_block : Step
-  -- the parameters with their uses and types
-  enter_body : List (NameId × Need × Ty) → Step
+  -- the last values become the parameters
+  enter_body : List NameId → Step
   leave_body : Step
-  type_returned : List Ty → Step
 
 infixl 20 ◌>>◌
 pub data Effect : Type 0 where
   nothing : Effect
   -- the first and then the second
   ◌>>◌ : Effect → Effect → Effect
-  -- a statement begins
-  statement : Effect
+  -- a statement on this line
+  statement : ℕ → Effect → Effect
   step : Step → Effect
   -- H on the last value
   mix : Effect
@@ -68,6 +83,7 @@ after repeat_last t = on_last_two repeated t
 after flip_last t = on_last flipped t
 after (turn_by k l) t = turn (if is_one (last t) then k else l) t
 after (turn_all k) t = turn k t
+after (receive r) t = on_last (received r) t
 after (assign_to x is) t = assign_part x is t
 after (assign_in_turn xs) t = assign_all xs t
 after (update_to x is op) t = update_part x is op t
@@ -75,9 +91,8 @@ after (end_name x) t = take_out x t
 after (end_compared x) t = drop_last (take_out x t)
 after enter_block t = open_block t
 after leave_block t = close_block t
-after (enter_body ps) t = enter (names_of ps) (shapes_of ps) t
+after (enter_body xs) t = enter xs t
 after leave_body t = leave t
-after (type_returned ts) t = type_results (map (λ (y : Ty). y.shape) ts) t
 
 -- outcome number i is o i
 abbrev pub Outcome : Type 0
@@ -95,7 +110,7 @@ told bs t = record t { measured = t.measured + length bs }
 abbrev pub follow : Outcome → Effect → Term → List Term
 follow o nothing t = t ∷ []
 follow o (a >> b) t = flat_map (follow o b) (follow o a t)
-follow o statement t = t ∷ []
+follow o (statement line e) t = follow o e t
 follow o (step s) t = after s t ∷ []
 follow o mix t = hadamard false t ∷ hadamard true t ∷ []
 follow o measure t = if agrees o t.measured (bits_of (last t)) then (told (bits_of (last t)) t ∷ []) else []
@@ -110,6 +125,7 @@ Each Q (t ∷ ts) = Q t × Each Q ts
 
 abbrev pub Holds : Outcome → Effect → Term → Type 0
 Holds o (a >> b) t = Holds o a t × Each (Holds o b) (follow o a t)
+Holds o (statement line e) t = Holds o e t
 Holds o (claim line x) t = equals_last x t ≡ true
 Holds o (choice a b) t = (is_one (last t) ≡ true → Holds o a (drop_last t)) × (is_one (last t) ≡ false → Holds o b (drop_last t))
 Holds o e t = Unit {0}
@@ -133,7 +149,7 @@ within_limit waiting ts = if nat_lt most_terms (waiting + length ts) then Err To
 abbrev pub run : Outcome → ℕ → Effect → List Term → Result (List Term) RunFault
 run o waiting nothing ts = Ok ts
 run o waiting (a >> b) ts = and_then (run o waiting a ts) (run o waiting b)
-run o waiting statement ts = Ok ts
+run o waiting (statement line e) ts = run o waiting e ts
 run o waiting (step s) ts = Ok (map (after s) ts)
 run o waiting mix ts = within_limit waiting (flat_map (λ t. hadamard false t ∷ hadamard true t ∷ []) ts)
 run o waiting measure ts = Ok (flat_map (follow o measure) ts)
@@ -162,7 +178,7 @@ most_splits = 50
 -- the counts after it, or the first that is too high
 abbrev pub counts : Effect → Counts → Result Counts CountFault
 counts (a >> b) c = and_then (counts a c) (counts b)
-counts statement c = if nat_lt c.statements most_inlined then Ok (record c { statements = suc c.statements }) else Err Inlined
+counts (statement line e) c = if nat_lt c.statements most_inlined then counts e (record c { statements = suc c.statements }) else Err Inlined
 counts mix c = if nat_lt c.splits most_splits then Ok (record c { splits = suc c.splits }) else Err HGates
 counts (choice a b) c = and_then (counts a c) (counts b)
 counts e c = Ok c
@@ -170,6 +186,7 @@ counts e c = Ok c
 -- the first of the terms that would follow were every outcome to come
 abbrev pub sample : Effect → Term → Term
 sample (a >> b) t = sample b (sample a t)
+sample (statement line e) t = sample e t
 sample (step s) t = after s t
 sample mix t = hadamard false t
 sample measure t = told (bits_of (last t)) t

@@ -11,7 +11,7 @@ use Rattle.amp_core.specs.Amplitude.{one, times}
 use Rattle.sum_laws.specs.Terms.{amplitude}
 use Rattle.sum_laws.specs.Table.{TableOf}
 use Rattle.silq_mean.specs.Value.{Value, bits_of, value_of_bits}
-use Rattle.silq_mean.specs.Term.{Term, shapes_of}
+use Rattle.silq_mean.specs.Term.{Term}
 use Rattle.silq_mean.specs.Effect.{Effect, nothing, Outcome, follow, Holds, run, RunFault, counts, CountFault, outcomes}
 use Rattle.silq_mean.specs.Meaning.{params_of, entry}
 
@@ -34,7 +34,7 @@ job_of program statics None = record { effect = nothing; shapes = [] }
 job_of program statics (Some f) =
     record {
       effect = entry program.words (earlier_than f.number (reverse program.funs)) f.fun (paired f.fun.statics statics);
-      shapes = shapes_of (params_of f.fun (paired f.fun.statics statics));
+      shapes = map (λ p. p.2.shape) (params_of f.fun (paired f.fun.statics statics));
     }
 
 abbrev pub job : Program → NameId → List ℤ → Job

@@ -1,12 +1,9 @@
 -- Terms: an environment with a factor.
-use Rattle.std.specs.Prelude.{ℕ, ◌+◌, Bool, ◌&&◌, if◌then◌else◌, List, [], ◌∷◌, ◌++◌, length, map, reverse, take, drop, ℤ}
+use Rattle.std.specs.Prelude.{ℕ, ◌+◌, Bool, ◌&&◌, if◌then◌else◌, List, [], ◌∷◌, ◌++◌, length, reverse, take, drop, ℤ}
 use Rattle.silq_tree.specs.declared.node.NameId.{NameId}
 use Rattle.silq_tree.specs.declared.node.UpdateOp.{UpdateOp}
-use Rattle.silq_types.specs.declared.types.Shape.{Shape}
-use Rattle.silq_types.specs.declared.types.Ty.{Ty}
-use Rattle.check_scope.specs.declared.need.Need.{Need}
 use Rattle.silq_mean.specs.Env.{Block, Env, found, bound}
-use Rattle.silq_mean.specs.Value.{Value, gone, typed_as, is_one, part, with_part, updated, equal_values, truth_value}
+use Rattle.silq_mean.specs.Value.{Value, gone, is_one, part, with_part, updated, equal_values, truth_value}
 
 pub record Caller : Type 0 where
   pub env : Env Value
@@ -107,26 +104,15 @@ equals_last x t = equal_values (value_of t.env x) (last t)
 
 -- ---- calls
 
--- static values take the types in turn
-abbrev pub all_typed_as : List Shape → List Value → List Value
-all_typed_as (s ∷ ss) (v ∷ vs) = typed_as s v ∷ all_typed_as ss vs
-all_typed_as ss vs = vs
-
 abbrev pub paired : List NameId → List Value → Block Value
 paired (x ∷ xs) (v ∷ vs) = (x, v) ∷ paired xs vs
 paired xs vs = []
 
-abbrev pub names_of : List (NameId × Need × Ty) → List NameId
-names_of ps = map (λ p. p.0) ps
-
-abbrev pub shapes_of : List (NameId × Need × Ty) → List Shape
-shapes_of ps = map (λ p. p.2.shape) ps
-
 -- the arguments are the last values; they become the environment
-abbrev pub enter : List NameId → List Shape → Term → Term
-enter xs ss t =
+abbrev pub enter : List NameId → Term → Term
+enter xs t =
     record t {
-      env = paired xs (all_typed_as ss (reverse (take (length xs) t.values))) ∷ [];
+      env = paired xs (reverse (take (length xs) t.values)) ∷ [];
       values = [];
       callers = record { env = t.env; values = drop (length xs) t.values } ∷ t.callers;
     }
@@ -138,6 +124,3 @@ back_to t (c ∷ cs) = record t { env = c.env; values = t.values ++ c.values; ca
 -- the returned values go to the caller
 abbrev pub leave : Term → Term
 leave t = back_to t t.callers
-
-abbrev pub type_results : List Shape → Term → Term
-type_results ss t = record t { values = reverse (all_typed_as ss (reverse t.values)) }
