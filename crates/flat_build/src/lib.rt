@@ -1,0 +1,2 @@
+#![tactic(auto)]
+//! The flat form of a program.
