@@ -1,2 +1,3 @@
 pub mod Readings
-mod Samples
+pub mod Spelled
+pub mod Samples

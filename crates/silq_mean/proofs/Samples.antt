@@ -1,174 +1,17 @@
 -- What the definition says of small programs, by computing.
 use Rattle.std.specs.Prelude.{◌≡◌, refl, ℕ, zero, suc, Bool, true, false, List, [], ◌∷◌, map, Some, None, Result, Ok, Err, ℤ, pos}
-use Rattle.silq_tree.specs.declared.node.NameId.{NameId}
-use Rattle.silq_tree.specs.declared.node.Spot.{Spot}
 use Rattle.silq_tree.specs.declared.node.Mark.TheVariants as marks
-use Rattle.silq_tree.specs.declared.node.BinaryOp.{BinaryOp}
 use Rattle.silq_tree.specs.declared.node.BinaryOp.TheVariants.{Add as Plus, Sub, Eq, Lt, Div}
 use Rattle.silq_tree.specs.declared.node.UpdateOp.TheVariants.{Add}
-use Rattle.silq_tree.specs.Syntax.{Expression, Expressions, number, typed_number, pi, place, called as call_of, tuple, binary, none, more, ScalarType, bit, uint, int, whole, part, Statement, assign, spread, update, forget, forget_value, phase, choice as condition, loop, return_nothing, return_value, Block, block, else_block, Statements, done, next, WrittenType, scalar, array, Parameter, Function}
+use Rattle.silq_tree.specs.Syntax.{typed_number, pi, called as call_of, tuple, none, bit, uint, whole, part, assign, spread, update, forget, forget_value, phase, loop, return_nothing, array}
 use Rattle.static_num.specs.Static.{is_static, value, in_range}
 use Rattle.static_num.specs.Angle.{is_turn, fraction, divisor}
-use Rattle.check_scope.specs.declared.words.BuiltIn.{BuiltIn}
-use Rattle.check_scope.specs.declared.words.BuiltIn.TheVariants.{HGate, XGate, YGate, ZGate, Dup, Measure, Vector}
 use Rattle.amp_core.specs.declared.Amp.{Amp}
 use Rattle.amp_core.specs.Amplitude.{Same, plus, add, scaled, times, times_w, times_root_two, over_root_two, numerator, one as amp_one}
 use Rattle.sum_laws.specs.Terms.{amplitude}
-use Rattle.silq_mean.specs.Effect.{ForgetFalse, Outcome}
+use Rattle.silq_mean.specs.Effect.{ForgetFalse}
 use Rattle.silq_mean.specs.Table.{Job, job, meaning, mean, run_job, outcome_of, Bits, Stopped}
-
--- ---- short spellings
-
-abbrev s : Spot
-s = record { line = 1; col = 1 }
-
-abbrev main : NameId
-main = record { number = 0 }
-
-abbrev a : NameId
-a = record { number = 1 }
-
-abbrev b : NameId
-b = record { number = 2 }
-
-abbrev c : NameId
-c = record { number = 3 }
-
-abbrev x : NameId
-x = record { number = 4 }
-
-abbrev y : NameId
-y = record { number = 5 }
-
-abbrev n : NameId
-n = record { number = 7 }
-
-abbrev m : NameId
-m = record { number = 8 }
-
-abbrev f : NameId
-f = record { number = 10 }
-
-abbrev g : NameId
-g = record { number = 11 }
-
-abbrev i : NameId
-i = record { number = 12 }
-
-abbrev j : NameId
-j = record { number = 13 }
-
-abbrev h_gate : NameId
-h_gate = record { number = 20 }
-
-abbrev x_gate : NameId
-x_gate = record { number = 21 }
-
-abbrev y_gate : NameId
-y_gate = record { number = 22 }
-
-abbrev z_gate : NameId
-z_gate = record { number = 23 }
-
-abbrev dup_name : NameId
-dup_name = record { number = 24 }
-
-abbrev measure_name : NameId
-measure_name = record { number = 25 }
-
-abbrev vector_name : NameId
-vector_name = record { number = 26 }
-
-abbrev q : NameId
-q = record { number = 30 }
-
-abbrev words : List (NameId × BuiltIn)
-words = (h_gate, HGate) ∷ (x_gate, XGate) ∷ (y_gate, YGate) ∷ (z_gate, ZGate) ∷ (dup_name, Dup) ∷ (measure_name, Measure) ∷ (vector_name, Vector) ∷ []
-
-abbrev v : NameId → Expression
-v w = place (whole w) s
-
-abbrev item : NameId → Expression → Expression
-item w e = place (part w e) s
-
-abbrev num : ℕ → Expression
-num k = number (pos k) s
-
-abbrev one : Expression → Expressions
-one e = more e none
-
-abbrev two : Expression → Expression → Expressions
-two d e = more d (more e none)
-
-abbrev bin : BinaryOp → Expression → Expression → Expression
-bin op d e = binary op d e s
-
-abbrev hd : Expression → Expression
-hd e = call_of h_gate none (one e) s
-
-abbrev xg : Expression → Expression
-xg e = call_of x_gate none (one e) s
-
-abbrev yg : Expression → Expression
-yg e = call_of y_gate none (one e) s
-
-abbrev zg : Expression → Expression
-zg e = call_of z_gate none (one e) s
-
-abbrev dup : Expression → Expression
-dup e = call_of dup_name none (one e) s
-
-abbrev measure : Expression → Expression
-measure e = call_of measure_name none (one e) s
-
-abbrev body : List Statement → Statements
-body [] = done
-body (st ∷ ss) = next st (body ss)
-
-abbrev within : List Statement → Block
-within ss = block (body ss) s
-
-abbrev let' : NameId → Expression → Statement
-let' w e = assign (whole w) e s
-
-abbrev when : Expression → List Statement → Statement
-when e ss = condition e (within ss) (else_block (within [])) s
-
-abbrev back : Expression → Statement
-back e = return_value e s
-
-abbrev type : ScalarType → WrittenType
-type k = scalar false k s
-
-abbrev b1 : WrittenType
-b1 = type bit
-
-abbrev u : ℕ → WrittenType
-u k = type (uint (num k))
-
-abbrev i2 : WrittenType
-i2 = type (int (num 2))
-
-abbrev param : NameId → WrittenType → Parameter
-param w k = record { held = false; name = w; ty = k; at = s }
-
-abbrev const : NameId → WrittenType → Parameter
-const w k = record { held = true; name = w; ty = k; at = s }
-
-abbrev fun : NameId → List Parameter → List WrittenType → List Statement → Function
-fun w ps rs ss = record { name = w; statics = []; params = ps; mark = marks.Plain; results = rs; body = within ss; at = s }
-
-abbrev alone : List Parameter → List WrittenType → List Statement → Job
-alone ps rs ss = job (record { words = words; funs = fun main ps rs ss ∷ [] }) main []
-
-abbrev O : Bool
-O = false
-
-abbrev I : Bool
-I = true
-
-abbrev none' : Outcome
-none' k = false
+use Rattle.silq_mean.proofs.Spelled.{s, main, a, b, c, x, y, n, m, f, g, i, j, vector_name, q, words, v, item, num, one, two, bin, hd, xg, zg, dup, measure, within, let', when, back, type, b1, u, i2, param, const, fun, alone, O, I, none'}
 
 abbrev root : ℤ → ℕ → Amp
 root q k = record { a = q; b = pos 0; c = pos 0; d = pos 0; k = k }
@@ -204,7 +47,7 @@ too_few_bits = refl
 abbrev flips : Job
 flips = alone (param x b1 ∷ []) (b1 ∷ []) (let' x (hd (v x)) ∷ when (v x) (phase (pi s) s ∷ []) ∷ back (v x) ∷ [])
 
-abbrev twice : Job
+abbrev pub twice : Job
 twice = alone (const c b1 ∷ param x b1 ∷ []) (b1 ∷ []) (when (v c) (let' x (hd (v x)) ∷ let' x (hd (v x)) ∷ []) ∷ back (v x) ∷ [])
 
 twice_is_nothing : Same (mean twice (I ∷ O ∷ []) none' (O ∷ I ∷ [])) amp_one
@@ -216,7 +59,7 @@ unfolding amplitude plus add scaled times_root_two times times_w over_root_two n
 twice_leaves_no_other = refl
 
 -- teleportation
-abbrev teleport : Job
+abbrev pub teleport : Job
 teleport = alone (param q b1 ∷ []) (b1 ∷ [])
     (let' a (hd (typed_number (pos 0) bit s)) ∷ let' b (dup (v a)) ∷ when (v q) (let' a (xg (v a)) ∷ []) ∷ let' q (hd (v q)) ∷ let' m (measure (v q)) ∷ let' n (measure (v a))
     ∷ when (v n) (let' b (xg (v b)) ∷ []) ∷ when (v m) (let' b (zg (v b)) ∷ []) ∷ back (v b) ∷ [])
@@ -258,7 +101,7 @@ unfolding is_static value in_range is_turn fraction divisor
 element = refl
 
 -- def f(const a:B, b:B):B { if a { b := X(b); } return b; } def main(x:B, const y:B):B { x := f(y, X(x)); return x; }
-abbrev calling_job : Job
+abbrev pub calling_job : Job
 calling_job = job (record {
   words = words;
   funs =
@@ -275,12 +118,12 @@ forgotten : map (λ r. r.0) (meaning (alone [] (b1 ∷ []) (let' x (typed_number
 unfolding is_static value in_range is_turn fraction divisor
 forgotten = refl
 
--- Grover's search
-abbrev grover : Job
-grover = job (record {
+-- Grover's search for the number x of so many bits with x + summand = total, in so many rounds
+abbrev pub search : ℕ → ℕ → ℕ → ℕ → Job
+search bits rounds summand total = job (record {
   words = words;
   funs =
-      record { name = f; statics = n ∷ []; params = const x (type (uint (v n))) ∷ []; mark = marks.Lifted; results = b1 ∷ []; body = within (back (bin Eq (bin Plus (v x) (num 1)) (num 4)) ∷ []); at = s }
+      record { name = f; statics = n ∷ []; params = const x (type (uint (v n))) ∷ []; mark = marks.Lifted; results = b1 ∷ []; body = within (back (bin Eq (bin Plus (v x) (num summand)) (num total)) ∷ []); at = s }
       ∷ record {
         name = g;
         statics = n ∷ [];
@@ -302,7 +145,10 @@ grover = job (record {
             ∷ back (measure (v x)) ∷ []);
         at = s;
       } ∷ [];
-}) main (pos 2 ∷ pos 1 ∷ [])
+}) main (pos bits ∷ pos rounds ∷ [])
+
+abbrev grover : Job
+grover = search 2 1 1 4
 
 -- two bits, one round: 3 is found with amplitude of size 1
 grover_finds : Same (mean grover [] (outcome_of (I ∷ I ∷ [])) (I ∷ I ∷ [])) (root (Rattle.std.specs.Prelude.negsuc 0) 0)
