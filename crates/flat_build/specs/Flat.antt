@@ -29,7 +29,7 @@ use Rattle.bit_arith.specs.declared.operand.Operand.{Operand}
 use Rattle.bit_arith.specs.declared.operand.Operand.TheVariants.{Const, Literal}
 use Rattle.bit_arith.specs.Built.{Built, Setting, Given, begun, or_later, new_wire, next_wire, wires_from, made, all_made, negated, read}
 use Rattle.bit_arith.specs.Rows.{flip, turn, had, measure, copy, flip_each, sum, difference, product, add_into, sub_into, both, either, equal, less}
-use Rattle.flat_build.specs.State.{Shown, Known, static, shown, absent, Caller, Flattening, push, first, last, drop_last, wires_so_far, build, operands_of, is_signed, typed, typed_as, typed_like, part_shape, part_of, with_part, as_they_are, copied, taken, kept, wires_in, only_wire, only_operand}
+use Rattle.flat_build.specs.State.{Shown, Known, static, shown, lent, absent, Caller, Flattening, push, first, last, drop_last, wires_so_far, build, operands_of, is_signed, typed, typed_as, typed_like, part_shape, part_start, part_of, with_part, as_they_are, copied, taken, kept, wires_in, only_wire, only_operand}
 
 -- ---- operators
 
@@ -181,24 +181,30 @@ bind x k s = record s { env = bound s.env x k }
 abbrev pub known_in : Flattening → NameId → Known
 known_in s x = found absent s.env x
 
--- a quantum variable in a consumed use is moved
-abbrev pub moved : Need → Known → Known
-moved need (shown v) = cond (is_consumed need && not v.classical) absent (shown v)
-moved need k = k
+abbrev pub part_used : ℕ → Need → List ℤ → Shown → Known
+part_used n need is v =
+    shown (record { classical = v.classical; shape = part_shape v.shape is; operands = part_of v.shape is v.operands; own = is_consumed need && not v.classical; began = n })
 
 abbrev pub use_part : ℕ → Need → List ℤ → Known → Known
-use_part n need is (shown v) = shown (record { classical = v.classical; shape = part_shape v.shape is; operands = part_of v.shape is v.operands; own = is_consumed need && not v.classical; began = n })
+use_part n need is (shown v) = part_used n need is v
+use_part n need is (lent start size v) = part_used n need is v
 use_part n need is k = k
 
+-- a quantum variable in a consumed use is moved, a part of one is lent
+abbrev pub moved : List ℤ → Shown → Known
+moved [] v = absent
+moved (i ∷ is) v = lent (part_start v.shape (i ∷ is)) (shape_bits (part_shape v.shape (i ∷ is))) v
+
 abbrev pub after_use : Need → List ℤ → Known → Known
-after_use need [] k = moved need k
-after_use need (i ∷ is) k = k
+after_use need is (shown v) = cond (is_consumed need && not v.classical) (moved is v) (shown v)
+after_use need is k = k
 
 abbrev pub use_variable : Need → NameId → List ℤ → Flattening → Flattening
 use_variable need x is s = push (use_part (wires_so_far s) need is (known_in s x)) (record s { env = in_its_block s.env x (after_use need is (known_in s x)) })
 
 abbrev pub assigned : List ℤ → Known → Known → Known
 assigned [] old new = new
+assigned (i ∷ is) (lent start size v) new = shown (record v { operands = with_part v.shape (i ∷ is) v.operands (operands_of new) })
 assigned (i ∷ is) (shown v) new = shown (record v { operands = with_part v.shape (i ∷ is) v.operands (operands_of new) })
 assigned (i ∷ is) old new = old
 
@@ -300,6 +306,17 @@ entered at c b = entered_under at.condition
 abbrev pub enter_branch : Operand → Flattening → Flattening
 enter_branch c s = let e = entered s.setting c s.built in under e.answer (build e.built s)
 
+-- the condition of a choice, which is its last value
+abbrev pub chosen_by : Flattening → Operand
+chosen_by s = only_operand (operands_of (last s))
+
+-- where the first branch begins, and the second, which goes on with the steps of the first
+abbrev pub first_branch : Flattening → Flattening
+first_branch s = enter_branch (chosen_by s) (drop_last s)
+
+abbrev pub second_branch : Flattening → Flattening → Flattening
+second_branch one s = enter_branch (negated (chosen_by s)) (record (drop_last s) { built = one.built; statements = one.statements })
+
 abbrev pub flat : Effect → Flattening → Flattening
 flat nothing s = s
 flat (a >> b) s = flat b (flat a s)
@@ -308,12 +325,7 @@ flat (step st) s = flat_step st s
 flat mix s = on_last_wire had s
 flat measured s = measure_value (last s) (drop_last s)
 flat (claim line x) s = zero_variable (known_in s x) (last s) s
-flat (choice a b) s =
-    let c = only_operand (operands_of (last s)) in
-    let before = drop_last s in
-    let one = flat a (enter_branch c before) in
-    let other = flat b (enter_branch (negated c) (record before { built = one.built; statements = one.statements })) in
-    under s.setting.condition other
+flat (choice a b) s = under s.setting.condition (flat b (second_branch (flat a (first_branch s)) s))
 
 -- ---- whole programs
 

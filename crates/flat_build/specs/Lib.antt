@@ -1,2 +1,5 @@
 pub mod State
 pub mod Flat
+pub mod Names
+pub mod Good
+pub mod Fine

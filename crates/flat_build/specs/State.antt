@@ -27,10 +27,15 @@ pub record Shown : Type 0 where
   -- the number of the next wire when its expression began
   pub began : ℕ
 
--- the value of a static expression, a value with a type, or what a name shows whose variable was moved or taken out
+-- what a value or a name shows
 pub data Known : Type 0 where
+  -- the value of a static expression
   static : ℤ → Known
+  -- a value with a type
   shown : Shown → Known
+  -- a variable whose bits from a place on, so many, are under way in the right side of an assignment to them
+  lent : ℕ → ℕ → Shown → Known
+  -- a variable that was moved or taken out
   absent : Known
 
 pub record Caller : Type 0 where
@@ -71,6 +76,10 @@ abbrev pub build : Built → Flattening → Flattening
 build b s = record s { built = b }
 
 -- ---- types
+
+-- the bits but those from a place on, so many
+abbrev pub outside : {A : Type 0} → ℕ → ℕ → List A → List A
+outside start size xs = take start xs ++ drop (start + size) xs
 
 abbrev pub operands_of : Known → List Operand
 operands_of (shown v) = v.operands
