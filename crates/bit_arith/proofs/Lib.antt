@@ -1,0 +1,4 @@
+pub mod Steps
+pub mod Doing
+pub mod Gathered
+pub mod Tidying
