@@ -51,10 +51,15 @@ pub record Does (at : Setting) (d e : DraftForm) (T : Targets) (Q : Row → Row 
 abbrev pub NoneNew : DraftForm → Targets → Type 0
 NoneNew d T = (w : WireId) → length d.wires ≤ w.number → T w ≡ false
 
--- wires that were made from d to e, and differ
+-- wires that were made from d to e
 abbrev pub AllNew : DraftForm → DraftForm → List WireId → Type 0
 AllNew d e [] = ⊤
 AllNew d e (w ∷ ws) = (length d.wires ≤ w.number) × (w.number < length e.wires) × AllNew d e ws
+
+-- some of the first n wires
+abbrev pub Below : ℕ → List WireId → Type 0
+Below n [] = ⊤
+Below n (w ∷ ws) = (w.number < n) × Below n ws
 
 abbrev pub Different : List WireId → Type 0
 Different [] = ⊤
