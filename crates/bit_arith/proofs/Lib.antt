@@ -6,3 +6,7 @@ pub mod Listed
 pub mod Making
 pub mod Adder
 pub mod Carrying
+pub mod Orders
+pub mod Tests
+pub mod Multiples
+pub mod Phases
