@@ -200,7 +200,7 @@ pub bits_negated : (v : Row) (ps : List Operand) → bits_at v (all_negated ps) 
 bits_negated v [] = refl
 bits_negated v (p ∷ ps) = ap₂ ◌∷◌ (negated_bit v p) (bits_negated v ps)
 
-past : (n : ℕ) (ws : List WireId) (k : WireId) → n ≤ k.number → Below n ws → among ws k ≡ false
+pub past : (n : ℕ) (ws : List WireId) (k : WireId) → n ≤ k.number → Below n ws → among ws k ≡ false
 past n [] k le b = refl
 past n (x ∷ ws) k le b = let lt = b.0 in nor (same_wire k x) (among ws k) (apart_below x.number k.number (omega (arith, lt, le))) (past n ws k le b.1)
   where

@@ -147,7 +147,7 @@ read_safe d n T (Literal l) s = pick (blank d l.wire)
     pick true = tt
     pick false = s
 
-reads_safe : (d : DraftForm) (n : ℕ) (T : Targets) (ps : List Operand) → AllSafe n T ps → AllSafe n T (map (read d) ps)
+pub reads_safe : (d : DraftForm) (n : ℕ) (T : Targets) (ps : List Operand) → AllSafe n T ps → AllSafe n T (map (read d) ps)
 reads_safe d n T [] s = tt
 reads_safe d n T (p ∷ ps) s = (read_safe d n T p s.0, reads_safe d n T ps s.1)
 
@@ -163,7 +163,7 @@ first_false v l (Some []) h k = absurd k
 first_false v l (Some (a ∷ ls)) h k = ap (λ (x : Lit). holds v (Some x)) k ∙ h
 
 -- where the condition in force is false, the first literal is
-guard_false : (d : DraftForm) (v : Row) (c : Option Operand) (ps : List Operand) → Clean d v → all_hold v (under_condition c []) ≡ false → IfList (literals d (under_condition c ps)) (FirstFalse v)
+pub guard_false : (d : DraftForm) (v : Row) (c : Option Operand) (ps : List Operand) → Clean d v → all_hold v (under_condition c []) ≡ false → IfList (literals d (under_condition c ps)) (FirstFalse v)
 guard_false d v None ps c off = cc
 guard_false d v (Some p) ps c off =
     front (read d p) (sym (and_one (bit_of v (read d p))) ∙ (ap (λ x. x && true) (read_bit d v p c) ∙ off))

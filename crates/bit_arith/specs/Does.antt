@@ -1,5 +1,5 @@
 -- What the steps of a row do to the values of wires.
-use Rattle.std.specs.Prelude.{◌≡◌, ℕ, zero, suc, ◌<◌, ◌≤◌, Bool, true, false, List, [], ◌∷◌, ◌++◌, length, ⊤}
+use Rattle.std.specs.Prelude.{◌≡◌, ℕ, zero, suc, ◌+◌, ◌%◌, ◌<◌, ◌≤◌, Bool, true, false, cond, ◌&&◌, List, [], ◌∷◌, ◌++◌, length, ⊤}
 use Rattle.flat_core.specs.declared.step.Step.{Step}
 use Rattle.flat_core.specs.declared.step.WireId.{WireId}
 use Rattle.flat_core.specs.declared.step.End.TheVariants.{Dropped}
@@ -7,10 +7,11 @@ use Rattle.flat_core.specs.Form.{DraftForm, WireForm}
 use Rattle.flat_core.specs.Label.{label_after}
 use Rattle.flat_core.specs.Sound.{is_x}
 use Rattle.flat_mean.specs.Row.{Row, next}
+use Rattle.flat_mean.specs.Terms.{Term, do_steps}
 use Rattle.bit_arith.specs.declared.operand.Operand.{Operand}
 use Rattle.bit_arith.specs.Built.{Built, Setting, Given}
 use Rattle.bit_arith.specs.Calls.{Targets, Safe, AllSafe, among, no_target}
-use Rattle.bit_arith.specs.Values.{Clean, forced, bit_of, bits_at}
+use Rattle.bit_arith.specs.Values.{Clean, forced, bit_of, bits_at, all_hold}
 
 -- the row after steps, none of which is an H
 abbrev pub after : List Step → Row → Row
@@ -78,3 +79,26 @@ pub record Answers (at : Setting) (d : DraftForm) (of : List Operand) (row : Giv
 pub record Tells (at : Setting) (d : DraftForm) (of : List Operand) (row : Given Operand) (f : Row → Bool) : Type 0 where
   pub does : Does at d row.built.draft no_target (λ v u. bit_of u row.answer ≡ f v)
   pub safe : (T : Targets) → NoneNew d T → AllSafe (length d.wires) T of → Safe (length row.built.draft.wires) T row.answer
+
+-- ---- phases and conjunctions
+
+-- steps that turn a term by k eighths where the condition in force and the operands hold, and change no old wire
+pub record Turns (at : Setting) (k : ℕ) (ps : List Operand) (d e : DraftForm) : Type 0 where
+  pub new : List Step
+  pub grows : Grows d e no_target new
+  pub still : (v : Row) → Clean d v → forced at v ≡ false → after new v ≡ v
+  pub gives : (outcome : ℕ → Bool) (t : Term) → Clean d t.row → do_steps outcome new (t ∷ []) ≡ record { row = after new t.row; halvings = t.halvings; eighths = t.eighths + cond (forced at t.row && all_hold t.row ps) (k % 8) 0 } ∷ []
+
+-- the first of some operands holds, if there is one
+abbrev pub front_holds : Row → List Operand → Bool
+front_holds v [] = true
+front_holds v (p ∷ ps) = bit_of v p
+
+-- X steps that put a conjunction into the answer whether or not the condition in force holds, and that change nothing where the first operand does not hold
+pub record Conjoins (ps : List Operand) (d : DraftForm) (row : Given Operand) : Type 0 where
+  pub new : List Step
+  pub grows : Grows d row.built.draft no_target new
+  pub all_x : AllX new
+  pub still : (v : Row) → Clean d v → front_holds v ps ≡ false → after new v ≡ v
+  pub gives : (v : Row) → Clean d v → bit_of (after new v) row.answer ≡ all_hold v ps
+  pub safe : (T : Targets) → NoneNew d T → AllSafe (length d.wires) T ps → Safe (length row.built.draft.wires) T row.answer
