@@ -1,3 +1,6 @@
 pub mod Built
 pub mod Rows
 pub mod Calls
+pub mod Values
+pub mod Numbers
+pub mod Does
