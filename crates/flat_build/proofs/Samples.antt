@@ -1,22 +1,21 @@
 -- Flat forms of small programs, by computing.
-use Rattle.std.specs.Prelude.{◌≡◌, refl, ℕ, Bool, true, false, List, [], ◌∷◌, length, map, Option, Some, None, pos}
+use Rattle.std.specs.Prelude.{◌≡◌, refl, ℕ, true, List, [], ◌∷◌, length, map, Option, Some, None}
 use Rattle.silq_tree.specs.declared.node.BinaryOp.TheVariants.{And, Add as Plus}
 use Rattle.silq_tree.specs.declared.node.UpdateOp.TheVariants.{Add}
-use Rattle.silq_tree.specs.Syntax.{bit, uint, whole, part, typed_number, update, forget_value, phase, pi, called as call_of, none}
-use Rattle.silq_tree.specs.declared.node.BinaryOp.TheVariants.{Div}
+use Rattle.silq_tree.specs.Syntax.{whole, update, forget_value}
 use Rattle.static_num.specs.Static.{is_static, value, in_range}
 use Rattle.static_num.specs.Angle.{is_turn, fraction, divisor}
-use Rattle.silq_mean.specs.Table.{Job, job}
-use Rattle.silq_mean.proofs.Spelled.{s, main, a, b, c, x, y, q, v, num, bin, hd, xg, dup, measure, let', when, back, b1, u, param, const, alone}
+use Rattle.silq_mean.specs.Table.{Job}
+use Rattle.silq_mean.proofs.Spelled.{s, a, b, c, x, y, v, bin, xg, let', when, back, b1, u, param, const, alone}
 use Rattle.silq_mean.proofs.Samples.{teleport, search, twice}
 use Rattle.flat_core.specs.declared.step.WireId.{WireId}
 use Rattle.flat_core.specs.declared.step.Lit.{Lit}
 use Rattle.flat_core.specs.declared.step.Step.{Step}
 use Rattle.flat_core.specs.declared.step.Step.TheVariants.{X, H, P, M}
 use Rattle.flat_core.specs.declared.step.End.{End}
-use Rattle.flat_core.specs.declared.step.End.TheVariants.{Output, Dropped, Measured, Zeroed}
+use Rattle.flat_core.specs.declared.step.End.TheVariants.{Output, Dropped, Zeroed}
 use Rattle.flat_core.specs.Label.{wire_id}
-use Rattle.bit_arith.specs.Rows.{flip, turn, had, measure as measured, copy, flip_each, carry, sum, difference, add_into, sub_into, product, both, either, equal, less}
+use Rattle.bit_arith.specs.Rows.{flip, turn, had, measure as measured, copy, flip_each, carry, sum, add_into, both, equal}
 use Rattle.flat_build.specs.Flat.{flattened}
 
 -- ---- short spellings

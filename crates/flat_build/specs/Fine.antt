@@ -1,5 +1,5 @@
 -- What flattening needs of a program, step by step: the rules of typing give it.
-use Rattle.std.specs.Prelude.{◌≡◌, ℕ, ◌+◌, ◌≤◌, Bool, true, false, ◌||◌, List, [], ◌∷◌, length, take, reverse, Option, None, ℤ, ◌⊎◌, ⊤}
+use Rattle.std.specs.Prelude.{◌≡◌, ℕ, ◌+◌, ◌≤◌, true, false, ◌||◌, List, [], ◌∷◌, length, take, reverse, None, ℤ, ◌⊎◌, ⊤}
 use Rattle.silq_tree.specs.declared.node.NameId.{NameId}
 use Rattle.silq_tree.specs.declared.node.UnaryOp.{UnaryOp}
 use Rattle.silq_tree.specs.declared.node.UnaryOp.TheVariants.{Not, Neg}
@@ -13,11 +13,13 @@ use Rattle.silq_types.specs.Types.{shape_bits, is_number, is_scalar}
 use Rattle.silq_mean.specs.Env.{in_its_block}
 use Rattle.silq_mean.specs.Effect.{Effect, nothing, ◌>>◌, statement, step, mix, measure, claim, choice, Step, give_static, give_typed, give_part, one_operand, two_operands, copy_last, repeat_last, flip_last, turn_by, turn_all, receive, assign_to, assign_in_turn, update_to, end_name, end_compared, enter_block, leave_block, enter_body, leave_body}
 use Rattle.flat_core.specs.declared.step.WireId.{WireId}
+use Rattle.flat_core.specs.Label.{label_after}
+use Rattle.bit_arith.specs.declared.operand.Operand.{Operand}
 use Rattle.bit_arith.specs.Built.{under}
-use Rattle.bit_arith.specs.Calls.{Targets, among, AllSafe, AreTargets}
-use Rattle.flat_build.specs.State.{Shown, Known, static, shown, lent, absent, Flattening, last, drop_last, operands_of, typed_as, typed_like, part_shape, part_start, part_of, are_wires, are_new, wires_in}
-use Rattle.flat_build.specs.Flat.{as_operand, shape_for, known_in, count_statement, on_line, first_branch, second_branch, flat}
-use Rattle.flat_build.specs.Names.{AllOf, AllKnown, Spares}
+use Rattle.bit_arith.specs.Calls.{among, AllSafe, AreTargets}
+use Rattle.flat_build.specs.State.{Shown, Known, static, shown, lent, absent, Flattening, last, drop_last, typed_as, typed_like, part_shape, part_start, part_of, are_wires, are_new, wires_in}
+use Rattle.flat_build.specs.Flat.{as_operand, shape_for, known_in, count_statement, on_line, chosen_by, first_branch, second_branch, flat}
+use Rattle.flat_build.specs.Names.{AllOf, AllKnown, named_by, Spares}
 
 abbrev pub Distinct : List WireId → Type 0
 Distinct [] = ⊤
@@ -164,6 +166,15 @@ pub record SameEnd (s u : Flattening) : Type 0 where
   pub values : s.values ≡ u.values
   pub callers : s.callers ≡ u.callers
 
+-- no step between two states changes the wire of an operand
+abbrev pub Keeps : Operand → Flattening → Flattening → Type 0
+Keeps p s u = (w : WireId) → named_by w p ≡ true → label_after u.built.draft.steps w ≡ label_after s.built.draft.steps w
+
+-- the second branch finds the condition as the first one found it, and both leave the same
+pub record FineEnds (c : Operand) (first one other : Flattening) : Type 0 where
+  pub kept : Keeps c first one
+  pub same : SameEnd one other
+
 abbrev pub Fine : Effect → Flattening → Type 0
 Fine nothing s = ⊤
 Fine (a >> b) s = Fine a s × Fine b (flat a s)
@@ -173,4 +184,6 @@ Fine mix s = MayTurn s
 Fine measure s = MayMeasure s
 Fine (claim line x) s = MayClaim x s
 Fine (choice a b) s =
-    IsBit (last s) × Fine a (first_branch s) × Fine b (second_branch (flat a (first_branch s)) s) × SameEnd (flat a (first_branch s)) (flat b (second_branch (flat a (first_branch s)) s))
+    let first = first_branch s in
+    let second = second_branch (flat a first) s in
+    IsBit (last s) × Fine a first × Fine b second × FineEnds (chosen_by s) first (flat a first) (flat b second)

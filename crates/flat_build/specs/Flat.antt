@@ -9,9 +9,8 @@ use Rattle.silq_tree.specs.declared.node.UpdateOp.{UpdateOp}
 use Rattle.silq_tree.specs.declared.node.UpdateOp.TheVariants as updates
 use Rattle.silq_types.specs.declared.types.Shape.{Shape}
 use Rattle.silq_types.specs.declared.types.Shape.TheVariants.{Bit, UInt, Int, Array}
-use Rattle.silq_types.specs.declared.types.Scalar.{Scalar}
 use Rattle.silq_types.specs.declared.types.Scalar.TheVariants as scalars
-use Rattle.silq_types.specs.Types.{single_shape, shape_bits}
+use Rattle.silq_types.specs.Types.{shape_bits}
 use Rattle.check_scope.specs.declared.need.Need.{Need}
 use Rattle.check_scope.specs.Uses.{is_consumed}
 use Rattle.silq_io.specs.declared.limit.OverLimit.{OverLimit}
@@ -23,13 +22,12 @@ use Rattle.flat_core.specs.declared.step.WireId.{WireId}
 use Rattle.flat_core.specs.declared.step.End.{End}
 use Rattle.flat_core.specs.declared.step.End.TheVariants.{Output, Measured, Zeroed}
 use Rattle.flat_core.specs.Form.{FlatForm}
-use Rattle.flat_core.specs.Label.{wire_id}
 use Rattle.flat_core.specs.Drafts.{empty_draft, with_wire, with_end, finished, over_by_wire}
 use Rattle.bit_arith.specs.declared.operand.Operand.{Operand}
 use Rattle.bit_arith.specs.declared.operand.Operand.TheVariants.{Const, Literal}
 use Rattle.bit_arith.specs.Built.{Built, Setting, Given, begun, or_later, new_wire, next_wire, wires_from, made, all_made, negated, read}
-use Rattle.bit_arith.specs.Rows.{flip, turn, had, measure, copy, flip_each, sum, difference, product, add_into, sub_into, both, either, equal, less}
-use Rattle.flat_build.specs.State.{Shown, Known, static, shown, lent, absent, Caller, Flattening, push, first, last, drop_last, wires_so_far, build, operands_of, is_signed, typed, typed_as, typed_like, part_shape, part_start, part_of, with_part, as_they_are, copied, taken, kept, wires_in, only_wire, only_operand}
+use Rattle.bit_arith.specs.Rows.{flip, turn, had, measure, flip_each, sum, difference, product, add_into, sub_into, both, either, equal, less}
+use Rattle.flat_build.specs.State.{Shown, Known, static, shown, lent, absent, Caller, Flattening, push, last, drop_last, wires_so_far, build, operands_of, is_signed, typed, typed_as, typed_like, part_shape, part_start, part_of, with_part, as_they_are, copied, taken, kept, wires_in, only_wire, only_operand}
 
 -- ---- operators
 
@@ -170,7 +168,7 @@ class_for (result t) v = t.classical
 class_for (output t) v = t.classical
 
 abbrev pub receive_value : Receiver → Known → Flattening → Flattening
-receive_value r (shown v) s = give (class_for r v) v.shape true v.began (taken_for r s.setting v s.built) s
+receive_value r (shown v) s = give (class_for r v) v.shape true 0 (taken_for r s.setting v s.built) s
 receive_value r k s = push k s
 
 -- ---- variables
@@ -340,7 +338,7 @@ inputs [] b = record { answer = []; built = b }
 inputs (s ∷ ss) b =
     let n = length b.draft.wires in
     let rest = inputs ss (input_wires (shape_bits s) b) in
-    record { answer = shown (record { classical = false; shape = s; operands = all_made (wires_from n (shape_bits s)); own = true; began = n }) ∷ rest.answer; built = rest.built }
+    record { answer = shown (record { classical = false; shape = s; operands = all_made (wires_from n (shape_bits s)); own = true; began = 0 }) ∷ rest.answer; built = rest.built }
 
 abbrev pub begin : List Shape → Flattening
 begin ss =

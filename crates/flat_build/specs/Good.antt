@@ -1,13 +1,9 @@
 -- What holds of each state of flattening.
-use Rattle.std.specs.Prelude.{◌≡◌, ℕ, ◌<◌, ◌≤◌, Bool, true, false, List, [], ◌∷◌, length, Option, Some, None, ⊤}
+use Rattle.std.specs.Prelude.{◌≡◌, ℕ, true, [], length, ⊤}
 use Rattle.silq_types.specs.Types.{shape_bits}
-use Rattle.flat_core.specs.declared.step.WireId.{WireId}
-use Rattle.flat_core.specs.Form.{DraftForm}
-use Rattle.flat_core.specs.Drafts.{IsDraft}
-use Rattle.bit_arith.specs.declared.operand.Operand.{Operand}
-use Rattle.bit_arith.specs.declared.operand.Operand.TheVariants.{Const, Literal}
 use Rattle.bit_arith.specs.Built.{under}
 use Rattle.bit_arith.specs.Calls.{AllSafe, no_target, WasRead}
+use Rattle.bit_arith.specs.Does.{Fresh}
 use Rattle.flat_build.specs.State.{Shown, Known, static, shown, lent, absent, Flattening, are_wires}
 use Rattle.flat_build.specs.Names.{AllKnown}
 
@@ -24,7 +20,7 @@ IsKnown n (lent start size v) = IsShown n v
 IsKnown n absent = ⊤
 
 pub record Good (s : Flattening) : Type 0 where
-  pub draft : IsDraft s.built.draft
+  pub fresh : Fresh s.built.draft
   pub known : AllKnown (IsKnown (length s.built.draft.wires)) s
   pub condition : AllSafe (length s.built.draft.wires) no_target (under s.setting [])
   pub read : WasRead s.built.draft s.setting.condition

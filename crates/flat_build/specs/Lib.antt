@@ -3,3 +3,5 @@ pub mod Flat
 pub mod Names
 pub mod Good
 pub mod Fine
+pub mod Shows
+pub mod Laws

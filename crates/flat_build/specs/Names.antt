@@ -1,5 +1,5 @@
 -- Which wires a state of flattening names.
-use Rattle.std.specs.Prelude.{◌≡◌, ℕ, Bool, true, false, List, [], ◌∷◌, drop}
+use Rattle.std.specs.Prelude.{◌≡◌, Bool, true, false, List, [], ◌∷◌}
 use Rattle.std.specs.List.{list_any}
 use Rattle.silq_mean.specs.Env.{Env}
 use Rattle.flat_core.specs.declared.step.WireId.{WireId}
