@@ -1,13 +1,14 @@
 -- Calls of a builder, one after another.
-use Rattle.std.proofs.Common.{◌≡◌, ℕ, suc, List, [], ◌∷◌, ◌++◌, length, Option, Some, None, sym, ap, ◌∙◌, subst, append_assoc}
+use Rattle.std.proofs.Common.{◌≡◌, ℕ, suc, List, [], ◌∷◌, ◌++◌, length, Option, Some, None, Result, Ok, Err, IfOk, arith, false, sym, ap, ◌∙◌, subst, append_assoc}
 use Rattle.silq_io.specs.declared.limit.OverLimit.{OverLimit}
 use Rattle.silq_io.specs.declared.limit.LimitFault.{LimitFault}
 use Rattle.silq_io.specs.declared.limit.LimitFault.TheVariants.{Memory, Limit}
 use Rattle.flat_core.specs.declared.step.WireId.{WireId}
 use Rattle.flat_core.specs.Form.{DraftForm}
+use Rattle.flat_core.specs.Drafts.{with_wire, IsDraft}
 use Rattle.bit_arith.specs.Built.{Built, begun, new_wire, next_wire, next_wires, wires_from}
 use Rattle.bit_arith.specs.Calls.{Building, IsTarget, AreTargets, Went, Refused}
-use Rattle.bit_arith.proofs.Grows.{Grows, length-new_wire, new_wire_x, targets_more}
+use Rattle.bit_arith.proofs.Grows.{Grows, length-new_wire, new_wire_x, targets_more, fresh_target, fresh_unmeasured}
 
 -- what a call that went well built is where the next one begins
 pub built_by : {old new : Building} {row : Built} → Went old new row → row ≡ begun new.draft
@@ -28,6 +29,15 @@ refused_later Memory g h = tt
 refused_later (Limit over) g h = g.stays over h
 
 -- ---- several wires
+
+-- a wire that was just made is a target
+pub made_target : (old new : Building) (r : Result WireId LimitFault)
+    → IsDraft old.draft
+    → IfOk r (λ w. (w.number ≡ length old.draft.wires) × (new ≡ record { draft = with_wire old.draft false; setting = old.setting }))
+    → IfOk r (λ w. IsTarget new.draft w)
+made_target old new (Err e) ok h = tt
+made_target old new (Ok w) ok h =
+    rw h.1 (let t = fresh_target (begun old.draft) ok in (rw h.0 t.0, fresh_unmeasured old.draft ok w (omega (arith, h.0))))
 
 pub targets_append : (d : DraftForm) (ws : List WireId) (w : WireId) → AreTargets d ws → IsTarget d w → AreTargets d (ws ++ w ∷ [])
 targets_append d [] w h t = (t, tt)
