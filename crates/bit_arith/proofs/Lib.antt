@@ -1,3 +1,4 @@
 pub mod Grows
 pub mod Chained
 pub mod Fits
+pub mod Gathers
