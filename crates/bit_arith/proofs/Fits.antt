@@ -240,3 +240,35 @@ tidy_fits d T (Literal l ∷ ps) kept o k =
 
 pub literals_fit : (d : DraftForm) (T : Targets) (ps : List Operand) → AllSafe (length d.wires) T ps → IfSome (literals d ps) (LitsFit d T)
 literals_fit d T ps s = tidy_fits d T (map (read d) ps) [] (reads_fit d T ps s) tt
+
+-- ---- parts of a list of literals
+
+among_front : (ls ms : List Lit) (w : WireId) → among (wires_in (ls ++ ms)) w ≡ false → among (wires_in ls) w ≡ false
+among_front [] ms w h = refl
+among_front (l ∷ ls) ms w h =
+    let (a, c) = or_parts (same_wire w l.wire) (among (wires_in (ls ++ ms)) w) h in
+    or_from (same_wire w l.wire) (among (wires_in ls) w) a (among_front ls ms w c)
+
+pub fits_front : (d : DraftForm) (T : Targets) (ls ms : List Lit) → LitsFit d T (ls ++ ms) → LitsFit d T ls
+fits_front d T [] ms h = tt
+fits_front d T (l ∷ ls) ms h = (h.0, among_front ls ms l.wire h.1, fits_front d T ls ms h.2)
+
+-- they may control steps that have no target
+pub fits_untargeted : (d : DraftForm) (T : Targets) (ls : List Lit) → LitsFit d T ls → LitsFit d no_target ls
+fits_untargeted d T [] h = tt
+fits_untargeted d T (l ∷ ls) h = (((h.0.0.0, refl), h.0.1), h.1, fits_untargeted d T ls h.2)
+
+last_is : (c l : Lit) (cs : List Lit) → last_of c (cs ++ l ∷ []) ≡ l
+last_is c l [] = refl
+last_is c l (d ∷ ds) = last_is d l ds
+
+front_is : (c l : Lit) (cs : List Lit) → all_but_last c (cs ++ l ∷ []) ≡ c ∷ cs
+front_is c l [] = refl
+front_is c l (d ∷ ds) = ap (λ (ls : List Lit). c ∷ ls) (front_is d l ds)
+
+-- a flip under all but the last, gathered, and the last
+pub flip_lits_last : (at : Setting) (w : WireId) (a l : Lit) (cs : List Lit) (b : Built) → flip_lits at w (a ∷ (cs ++ l ∷ [])) b ≡ push at (X w (Some (gathered at a cs b).answer) (Some l)) (gathered at a cs b).built
+flip_lits_last at w a l [] b = refl
+flip_lits_last at w a l (c ∷ cs) b =
+    ap (λ (front : List Lit). push at (X w (Some (gathered at a front b).answer) (Some (last_of c (cs ++ l ∷ [])))) (gathered at a front b).built) (front_is c l cs)
+    ∙ ap (λ (last : Lit). push at (X w (Some (gathered at a (c ∷ cs) b).answer) (Some last)) (gathered at a (c ∷ cs) b).built) (last_is c l cs)

@@ -1,4 +1,5 @@
 pub mod Grows
 pub mod Chained
 pub mod Fits
+pub mod Parts
 pub mod Gathers

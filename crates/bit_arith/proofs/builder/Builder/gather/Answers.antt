@@ -5,7 +5,8 @@ use Rattle.flat_core.specs.declared.step.Lit.{Lit}
 use Rattle.bit_arith.specs.Built.{Built}
 use Rattle.bit_arith.specs.Rows.{gathered}
 use Rattle.bit_arith.specs.Calls.{Refused}
-use Rattle.bit_arith.proofs.Gathers.{no_lit, fold_refused_first, fold_refused, fold_same, fold_fit}
+use Rattle.bit_arith.proofs.Parts.{no_lit}
+use Rattle.bit_arith.proofs.Gathers.{fold_refused_first, fold_refused, fold_same, fold_fit}
 use Rattle.bit_arith.proofs.builder.Builder.gather.Goals as goal
 
 pub returns-in_err-wire-clause-refused : goal.returns-in_err-wire-clause-refused
