@@ -182,10 +182,6 @@ gathered_fits at T a (c ∷ cs) more b free h =
     (λ w l. let longer = length-new_wire b in free w (omega arith))
     (fold_fits at T b a c (cs ++ more) (free (next_wire b) (omega arith)) h)
 
-pub front_and_last : (c : Lit) (cs : List Lit) → all_but_last c cs ++ last_of c cs ∷ [] ≡ c ∷ cs
-front_and_last c [] = refl
-front_and_last c (d ∷ ds) = ap (λ (ls : List Lit). c ∷ ls) (front_and_last d ds)
-
 -- ---- operands that were read, and tidied
 
 abbrev pub OpsFit : DraftForm → Targets → List Operand → Type 0
@@ -272,3 +268,7 @@ flip_lits_last at w a l [] b = refl
 flip_lits_last at w a l (c ∷ cs) b =
     ap (λ (front : List Lit). push at (X w (Some (gathered at a front b).answer) (Some (last_of c (cs ++ l ∷ [])))) (gathered at a front b).built) (front_is c l cs)
     ∙ ap (λ (last : Lit). push at (X w (Some (gathered at a (c ∷ cs) b).answer) (Some last)) (gathered at a (c ∷ cs) b).built) (last_is c l cs)
+
+-- what was read and tidied is fit
+pub literals_at : (d : DraftForm) (T : Targets) (ps : List Operand) (ls : List Lit) → AllSafe (length d.wires) T ps → Some ls ≡ literals d ps → LitsFit d T ls
+literals_at d T ps ls s e = subst (λ (o : Option (List Lit)). IfSome o (LitsFit d T)) (sym e) (literals_fit d T ps s)
