@@ -1,10 +1,7 @@
 -- The steps of conjunctions and flips name different wires, and no blank one as a control.
-use Rattle.std.proofs.Common.{◌≡◌, ◌≢◌, ℕ, ◌+◌, ◌<◌, ◌≤◌, ◌⊎◌, Bool, true, false, cond, not, ◌&&◌, ◌||◌, ◌==◌, List, [], ◌∷◌, ◌++◌, length, map, Option, Some, None, IfSome, refl, sym, ap, ◌∙◌, subst, inl, inr, arith, eqb}
+use Rattle.std.proofs.Common.{◌≡◌, ◌≢◌, ℕ, ◌+◌, ◌<◌, ◌≤◌, ◌⊎◌, Bool, true, false, cond, not, ◌&&◌, ◌==◌, List, [], ◌∷◌, ◌++◌, length, map, Option, Some, None, IfSome, refl, sym, ap, ◌∙◌, subst, inl, inr, arith}
 use Rattle.std.specs.Bool.{beq}
-use Rattle.std.specs.List.{list_any}
-use Rattle.std.proofs.Math.Bool.{or-false}
-use Rattle.std.proofs.lemmas.Bool.{eqb-true, eqb-false, ne_eqb, or_parts, or_from, cond_both, and_right}
-use Rattle.std.proofs.lemmas.List.Folds.{list_any-append}
+use Rattle.std.proofs.lemmas.Bool.{eqb-false, ne_eqb, or_parts, or_from, cond_both, and_right}
 use Rattle.flat_core.specs.declared.step.Step.{Step}
 use Rattle.flat_core.specs.declared.step.Step.TheVariants.{X, H, P}
 use Rattle.flat_core.specs.declared.step.WireId.{WireId}
@@ -12,16 +9,16 @@ use Rattle.flat_core.specs.declared.step.Lit.{Lit}
 use Rattle.flat_core.specs.declared.step.End.TheVariants.{Dropped}
 use Rattle.flat_core.specs.Form.{WireForm, DraftForm}
 use Rattle.flat_core.specs.Label.{wire_id, same_wire, wire_in, label_after, changes}
-use Rattle.flat_core.specs.Drafts.{with_step, with_wire, is_measured, IsNextStep}
+use Rattle.flat_core.specs.Drafts.{with_step, with_wire, IsNextStep}
 use Rattle.flat_core.proofs.Labels.{label_after-push, same_wire-refl}
 use Rattle.flat_core.proofs.NextSteps.{input_with_wire}
 use Rattle.bit_arith.specs.declared.operand.Operand.{Operand}
 use Rattle.bit_arith.specs.declared.operand.Operand.TheVariants.{Const, Literal}
 use Rattle.bit_arith.specs.Built.{Built, Setting, push, new_wire, next_wire, plus, blank, read, opposite, same_lit, has, tidy, literals}
 use Rattle.bit_arith.specs.Rows.{gathered, all_but_last, last_of, flip_lits}
-use Rattle.bit_arith.specs.Calls.{Targets, SafeLit, Safe, AllSafe, among, no_target, IsTarget}
+use Rattle.bit_arith.specs.Calls.{Targets, AllSafe, among, no_target, IsTarget}
 use Rattle.bit_arith.specs.Fits.{FitsLit, wires_in, LitsFit}
-use Rattle.bit_arith.proofs.Grows.{length-new_wire, target_more, gathered_x}
+use Rattle.bit_arith.proofs.Grows.{length-new_wire}
 
 -- ---- one step
 

@@ -4,15 +4,15 @@ use Rattle.std.proofs.lemmas.Bool.{ne_eqb}
 use Rattle.std.proofs.lemmas.List.{append-nil}
 use Rattle.silq_io.specs.declared.limit.LimitFault.{LimitFault}
 use Rattle.flat_core.specs.declared.step.Step.{Step}
-use Rattle.flat_core.specs.declared.step.Step.TheVariants.{X, P}
+use Rattle.flat_core.specs.declared.step.Step.TheVariants.{X}
 use Rattle.flat_core.specs.declared.step.WireId.{WireId}
 use Rattle.flat_core.specs.declared.step.Lit.{Lit}
 use Rattle.flat_core.specs.Form.{DraftForm}
 use Rattle.flat_core.specs.Label.{same_wire}
 use Rattle.flat_core.specs.Drafts.{IsNextStep}
-use Rattle.bit_arith.specs.Built.{Built, Setting, begun, push, new_wire, next_wire, plus}
-use Rattle.bit_arith.specs.Rows.{gathered, flip_lits, turn_lits}
-use Rattle.bit_arith.specs.Calls.{Building, Targets, no_target, IsTarget, Went, Refused}
+use Rattle.bit_arith.specs.Built.{Setting, begun, push, new_wire, next_wire, plus}
+use Rattle.bit_arith.specs.Rows.{gathered, flip_lits}
+use Rattle.bit_arith.specs.Calls.{Building, no_target, IsTarget, Went, Refused}
 use Rattle.bit_arith.specs.Fits.{FitsLit, LitsFit}
 use Rattle.bit_arith.proofs.Grows.{x_then, push_x, push_grows, gathered_x, target_more}
 use Rattle.bit_arith.proofs.Chained.{built_by, went_then, refused_then, refused_later}
@@ -60,7 +60,6 @@ module _ (a c : Lit) (cs ls : List Lit) (split : ls ≡ c ∷ cs) where
       subst (λ (d : DraftForm). LitsFit d no_target (plus w ∷ cs)) (sym whole.built)
       (subst (λ (v : WireId). LitsFit (push old.setting (X v (Some a) (Some c)) (new_wire b)).draft no_target (plus v ∷ cs)) (sym is)
       (fold_fits old.setting no_target b a c cs refl (subst (λ (xs : List Lit). LitsFit old.draft no_target (a ∷ xs)) split fit)))
-
 
 -- a call on a wire under literals: once they are gathered, its step is the next one
 pub record Flips (old mid : Building) (w : WireId) (ls : List Lit) (first second : Option Lit) : Type 0 where

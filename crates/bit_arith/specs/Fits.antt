@@ -1,5 +1,5 @@
 -- Literals that may control a step.
-use Rattle.std.specs.Prelude.{◌≡◌, Bool, false, List, [], ◌∷◌, length, map, ⊤}
+use Rattle.std.specs.Prelude.{◌≡◌, false, List, [], ◌∷◌, length, map, ⊤}
 use Rattle.flat_core.specs.declared.step.WireId.{WireId}
 use Rattle.flat_core.specs.declared.step.Lit.{Lit}
 use Rattle.flat_core.specs.Form.{DraftForm}

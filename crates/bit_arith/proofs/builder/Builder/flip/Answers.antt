@@ -1,4 +1,4 @@
-use Rattle.std.proofs.Common.{length, refl, sym, ap, subst}
+use Rattle.std.proofs.Common.{length, refl, sym, subst}
 use Rattle.flat_core.specs.Label.{same_wire}
 use Rattle.bit_arith.specs.Built.{under_condition}
 use Rattle.bit_arith.specs.Calls.{Building, AllSafe, no_target}

@@ -1,7 +1,5 @@
 use Rattle.std.proofs.Common.{◌-◌, length, get_or, take, drop}
 use Rattle.std.proofs.lemmas.Result.{err_from_is_err_and}
-use Rattle.flat_core.specs.declared.step.Lit.{Lit}
-use Rattle.bit_arith.specs.Calls.{Building}
 use Rattle.bit_arith.proofs.Parts.{no_lit, none_left, only_one, first_and_last}
 use Rattle.bit_arith.proofs.Gathers.{gather_fits, gather_refused, flips_none, flips_one, flips_more, flips_ok, flips_refused, Flips}
 use Rattle.bit_arith.proofs.builder.Builder.flip_under.Goals as goal

@@ -1,9 +1,6 @@
-use Rattle.std.proofs.Common.{◌≡◌, ◌+◌, ◌<◌, ◌∷◌, length, get_or, drop, false, ap, ◌∙◌, sym, subst, arith, add-one, drop-cons}
+use Rattle.std.proofs.Common.{◌+◌, get_or, drop, ◌∙◌, subst, arith}
 use Rattle.std.proofs.lemmas.List.{drop_more}
 use Rattle.std.proofs.lemmas.Result.{err_from_is_err_and}
-use Rattle.flat_core.specs.declared.step.Lit.{Lit}
-use Rattle.bit_arith.specs.Built.{Built}
-use Rattle.bit_arith.specs.Rows.{gathered}
 use Rattle.bit_arith.specs.Calls.{Refused}
 use Rattle.bit_arith.proofs.Parts.{no_lit}
 use Rattle.bit_arith.proofs.Gathers.{fold_refused_first, fold_refused, fold_same, fold_fit}

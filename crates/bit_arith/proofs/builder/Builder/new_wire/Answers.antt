@@ -1,5 +1,4 @@
-use Rattle.std.proofs.Common.{ap, sym, subst}
-use Rattle.flat_core.specs.Form.{DraftForm}
+use Rattle.std.proofs.Common.{ap, subst}
 use Rattle.flat_core.specs.Drafts.{IsDraft}
 use Rattle.bit_arith.specs.Calls.{Building}
 use Rattle.bit_arith.proofs.Chained.{made_target}
