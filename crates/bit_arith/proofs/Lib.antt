@@ -10,3 +10,8 @@ pub mod Orders
 pub mod Tests
 pub mod Multiples
 pub mod Phases
+pub mod Grows
+pub mod Chained
+pub mod Fits
+pub mod Parts
+pub mod Gathers
