@@ -10,3 +10,4 @@ pub mod Orders
 pub mod Tests
 pub mod Multiples
 pub mod Phases
+pub mod Published

@@ -4,3 +4,4 @@ pub mod Calls
 pub mod Values
 pub mod Numbers
 pub mod Does
+pub mod Laws
