@@ -1,23 +1,23 @@
 -- The rows that carry, add and subtract.
-use Rattle.std.proofs.Common.{◌≡◌, ℕ, zero, suc, ◌+◌, ◌-◌, ◌*◌, ◌^◌, ◌%◌, ◌≤◌, ◌<◌, Bool, true, false, not, ◌&&◌, ◌||◌, List, [], ◌∷◌, map, length, refl, sym, ap, ap₂, ◌∙◌, arith}
+use Rattle.std.proofs.Common.{◌≡◌, ℕ, suc, ◌+◌, ◌-◌, ◌^◌, ◌%◌, ◌≤◌, ◌<◌, Bool, true, false, ◌&&◌, ◌||◌, List, [], ◌∷◌, length, refl, sym, ap, ap₂, ◌∙◌, subst, arith}
 use Rattle.std.proofs.lemmas.List.{length-map}
 use Rattle.flat_core.specs.declared.step.WireId.{WireId}
 use Rattle.flat_core.specs.Form.{DraftForm}
 use Rattle.flat_core.specs.Label.{wire_id, same_wire}
 use Rattle.flat_mean.specs.Row.{Row, flipped}
 use Rattle.bit_arith.specs.declared.operand.Operand.{Operand}
-use Rattle.bit_arith.specs.declared.operand.Operand.TheVariants.{Const, Literal}
-use Rattle.bit_arith.specs.Built.{Built, Setting, Given, new_wire, new_wires, next_wire, next_wires, wires_from, made, all_made, negated, all_negated, under}
-use Rattle.bit_arith.specs.Rows.{flip_by, flip_up, flip_down, pairs, triples, carry_bit, carries, carry, sum_by, sum, difference, into_by, add_into, sub_into}
+use Rattle.bit_arith.specs.declared.operand.Operand.TheVariants.{Const}
+use Rattle.bit_arith.specs.Built.{Built, Setting, Given, new_wire, new_wires, next_wire, wires_from, made, all_made, negated, all_negated, under}
+use Rattle.bit_arith.specs.Rows.{flip_up, flip_down, pairs, triples, carry_bit, carries, carry, sum_by, sum, difference, into_by, add_into, sub_into}
 use Rattle.bit_arith.specs.Calls.{Targets, no_target, Safe, AllSafe, among}
-use Rattle.bit_arith.specs.Values.{bit_of, all_hold, bits_at, values_at, forced, Clean}
+use Rattle.bit_arith.specs.Values.{bit_of, bits_at, values_at}
 use Rattle.bit_arith.specs.Numbers.{number}
-use Rattle.bit_arith.specs.Does.{Fresh, Does, NoneNew, AllNew, Below, Different, StaySafe, Answers, Tells}
+use Rattle.bit_arith.specs.Does.{Fresh, Does, Below, Different, StaySafe, OwnWires, GivesNumber, Answers, Tells}
 use Rattle.bit_arith.proofs.Steps.{and_one, apart_below, Agree, bit_same, bits_same}
-use Rattle.bit_arith.proofs.Doing.{Guards, does_fresh, does_grown, does_none, does_weak, does_then, Then, clean_above}
+use Rattle.bit_arith.proofs.Doing.{Guards, does_fresh, does_grown, does_none, does_weak, does_then, clean_above}
 use Rattle.bit_arith.proofs.Gathered.{beq_one, length-wire}
-use Rattle.bit_arith.proofs.Listed.{safe_one, safe_more, below_more, toggles, toggle_all, each_holds, places_hold, ConjunctionsSafe, PlacesSafe, AllOff, values_same, all_off_none, by_does, up_does, down_does}
-use Rattle.bit_arith.proofs.Making.{length-wires, does_wires, does_made, fresh_wires, length-from, among_from, among_past, different_from, below_from, new_from, safe_new, zeros, values_zero, safe_from, safe_next, bits_made, length-bits, length-values, negated_bit, negated_safe}
+use Rattle.bit_arith.proofs.Listed.{safe_one, safe_more, below_more, toggles, toggle_all, each_holds, places_hold, PlacesSafe, AllOff, values_same, all_off_none, by_does, up_does, down_does}
+use Rattle.bit_arith.proofs.Making.{length-wires, does_made, fresh_wires, length-from, among_from, among_past, different_from, below_from, new_from, safe_new, zeros, values_zero, safe_from, safe_next, bits_made, length-bits, length-values, negated_bit, negated_safe}
 use Rattle.bit_arith.proofs.Adder.{majority, carry_bits, sum_bits, nots, sum_number, difference_number}
 
 -- ---- carries
@@ -147,7 +147,21 @@ sum_same a b c = cc
 
 -- ---- sums on new wires
 
-pub sum_by_does : (at : Setting) (carriers ps qs : List Operand) (b : Built) → Fresh b.draft → length carriers ≡ length ps → length ps ≡ length qs → Guards at (length b.draft.wires) no_target → AllSafe (length b.draft.wires) no_target carriers → AllSafe (length b.draft.wires) no_target ps → AllSafe (length b.draft.wires) no_target qs → Answers at b.draft [] (sum_by at carriers ps qs b) (λ v bs. bs ≡ sum_bits (bits_at v ps) (bits_at v qs) (carry_bits false (bits_at v carriers) (bits_at v qs)))
+-- a row that answers new wires, which show f of the row before
+pub record Sums (at : Setting) (d : DraftForm) (row : Given (List Operand)) (f : Row → List Bool) : Type 0 where
+  pub does : Does at d row.built.draft no_target (λ v u. bits_at u row.answer ≡ f v)
+  pub own : OwnWires d row.built.draft row.answer
+
+pub own_from : (d e : DraftForm) (w n : ℕ) → length d.wires ≤ w → w + n ≤ length e.wires → OwnWires d e (all_made (wires_from w n))
+own_from d e w n le h = record { wires = wires_from w n; answer_is = refl; new = new_from d e w n le h; different = different_from w n }
+
+pub own_safe : (d e : DraftForm) (answer : List Operand) → OwnWires d e answer → StaySafe d e [] answer
+own_safe d e answer o T none s = subst (λ ps. AllSafe (length e.wires) T ps) (sym o.answer_is) (safe_new d e o.wires T o.new none)
+
+pub length-own : (w n : ℕ) → length (all_made (wires_from w n)) ≡ n
+length-own w n = length-map (wires_from w n) made ∙ length-from w n
+
+pub sum_by_does : (at : Setting) (carriers ps qs : List Operand) (b : Built) → Fresh b.draft → length carriers ≡ length ps → length ps ≡ length qs → Guards at (length b.draft.wires) no_target → AllSafe (length b.draft.wires) no_target carriers → AllSafe (length b.draft.wires) no_target ps → AllSafe (length b.draft.wires) no_target qs → Sums at b.draft (sum_by at carriers ps qs b) (λ v. sum_bits (bits_at v ps) (bits_at v qs) (carry_bits false (bits_at v carriers) (bits_at v qs)))
 sum_by_does at carriers ps qs b f ec e g sc s s' =
     let n : ℕ = length b.draft.wires in
     let j : ℕ = length ps in
@@ -183,7 +197,7 @@ sum_by_does at carriers ps qs b f ec e g sc s s' =
           let ops' : bits_at t.mid qs ≡ bits_at v qs = bits_same n no_target t.mid v qs s' kept in
           let blank' : values_at t.mid ws ≡ zeros j = values_same m1 no_target t.mid v ws (below_from n j m1 (omega (arith, l))) (all_off_none ws) t.kept ∙ values_zero v n j (λ k lk. clean_above b.draft v f cl k lk) in
           bits_made u ws ∙ (t.second ∙ (ap (toggle_all (places_hold t.mid (triples ps qs cs))) blank' ∙ (added t.mid ps qs cs e lc ∙ sum_same ops ops' t.first))));
-      safe = λ T o z. safe_new b.draft (flip_up at ws (triples ps qs cs) c.built).draft ws T (new_from b.draft (flip_up at ws (triples ps qs cs) c.built).draft n j (omega arith) (omega (arith, l, up2, up3))) o;
+      own = own_from b.draft (flip_up at ws (triples ps qs cs) c.built).draft n j (omega arith) (omega (arith, l, up2, up3));
     }
 
 -- ---- sums into wires
@@ -233,17 +247,19 @@ into_by_does at carriers ws qs b f ec e be di gx sc sx =
 
 -- ---- as numbers
 
-pub sum_does : (at : Setting) (ps qs : List Operand) (b : Built) → Fresh b.draft → length ps ≡ length qs → Guards at (length b.draft.wires) no_target → AllSafe (length b.draft.wires) no_target ps → AllSafe (length b.draft.wires) no_target qs → Answers at b.draft [] (sum at ps qs b) (λ v bs. number bs ≡ (number (bits_at v ps) + number (bits_at v qs)) % 2 ^ length ps)
+pub sum_does : (at : Setting) (ps qs : List Operand) (b : Built) → Fresh b.draft → length ps ≡ length qs → Guards at (length b.draft.wires) no_target → AllSafe (length b.draft.wires) no_target ps → AllSafe (length b.draft.wires) no_target qs → GivesNumber at b.draft (length ps) (sum at ps qs b) (λ v. (number (bits_at v ps) + number (bits_at v qs)) % 2 ^ length ps)
 unfolding sum
 sum_does at ps qs b f e g s s' =
     let r = sum_by_does at ps ps qs b f refl e g s s s' in
     record {
       does = does_weak r.does (λ v u cl on ag cl' t.
           ap number t ∙ (sum_number (bits_at v ps) (bits_at v qs) (length-bits v ps ∙ (e ∙ sym (length-bits v qs))) ∙ ap (λ i. (number (bits_at v ps) + number (bits_at v qs)) % 2 ^ i) (length-bits v ps)));
-      safe = r.safe;
+      count = length-own (length b.draft.wires) (length ps);
+      own = r.own;
+      safe = own_safe b.draft _ _ r.own;
     }
 
-pub difference_does : (at : Setting) (ps qs : List Operand) (b : Built) → Fresh b.draft → length ps ≡ length qs → Guards at (length b.draft.wires) no_target → AllSafe (length b.draft.wires) no_target ps → AllSafe (length b.draft.wires) no_target qs → Answers at b.draft [] (difference at ps qs b) (λ v bs. number bs ≡ (number (bits_at v ps) + (2 ^ length ps - number (bits_at v qs))) % 2 ^ length ps)
+pub difference_does : (at : Setting) (ps qs : List Operand) (b : Built) → Fresh b.draft → length ps ≡ length qs → Guards at (length b.draft.wires) no_target → AllSafe (length b.draft.wires) no_target ps → AllSafe (length b.draft.wires) no_target qs → GivesNumber at b.draft (length ps) (difference at ps qs b) (λ v. (number (bits_at v ps) + (2 ^ length ps - number (bits_at v qs))) % 2 ^ length ps)
 unfolding difference
 difference_does at ps qs b f e g s s' =
     let r = sum_by_does at (all_negated ps) ps qs b f (length-map ps negated) e g (safe_negated (length b.draft.wires) no_target ps s) s s' in
@@ -251,7 +267,9 @@ difference_does at ps qs b f e g s s' =
       does = does_weak r.does (λ v u cl on ag cl' t.
           ap number t ∙ (ap (λ xs. number (sum_bits (bits_at v ps) (bits_at v qs) (carry_bits false xs (bits_at v qs)))) (bits_negated v ps)
           ∙ (difference_number (bits_at v ps) (bits_at v qs) (length-bits v ps ∙ (e ∙ sym (length-bits v qs))) ∙ ap (λ i. (number (bits_at v ps) + (2 ^ i - number (bits_at v qs))) % 2 ^ i) (length-bits v ps))));
-      safe = r.safe;
+      count = length-own (length b.draft.wires) (length ps);
+      own = r.own;
+      safe = own_safe b.draft _ _ r.own;
     }
 
 pub add_into_does : (at : Setting) (ws : List WireId) (qs : List Operand) (b : Built) → Fresh b.draft → length ws ≡ length qs → Below (length b.draft.wires) ws → Different ws → Guards at (length b.draft.wires) (among ws) → AllSafe (length b.draft.wires) (among ws) qs → Does at b.draft (add_into at ws qs b).draft (among ws) (λ v u. number (values_at u ws) ≡ (number (values_at v ws) + number (bits_at v qs)) % 2 ^ length ws)

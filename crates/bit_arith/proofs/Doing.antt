@@ -1,5 +1,5 @@
 -- What rows do, one after another.
-use Rattle.std.proofs.Common.{◌≡◌, ℕ, zero, suc, ◌+◌, ◌≤◌, ◌<◌, ◌==◌, Bool, true, false, cond, not, ◌&&◌, ◌||◌, List, [], ◌∷◌, ◌++◌, length, get_or, refl, sym, ap, ap₂, ◌∙◌, subst, arith, append_assoc, append-nil, length-append, inl, inr, ◌⊎◌}
+use Rattle.std.proofs.Common.{◌≡◌, ℕ, zero, suc, ◌+◌, ◌≤◌, ◌<◌, ◌==◌, Bool, true, false, not, ◌&&◌, List, [], ◌∷◌, ◌++◌, length, get_or, refl, sym, ap, ap₂, ◌∙◌, subst, arith, append_assoc, append-nil, length-append, inl, inr}
 use Rattle.std.proofs.lemmas.Bool.{eqb-true, eq-eqb, cases_lt}
 use Rattle.std.proofs.lemmas.List.{get_or_past, get_or_append_left}
 use Rattle.flat_core.specs.declared.step.Step.{Step}
@@ -8,11 +8,11 @@ use Rattle.flat_core.specs.declared.step.End.TheVariants.{Dropped}
 use Rattle.flat_core.specs.Form.{DraftForm, WireForm}
 use Rattle.flat_core.specs.Label.{label_after, wire_in, no_wire}
 use Rattle.flat_mean.specs.Row.{Row}
-use Rattle.bit_arith.specs.Built.{Built, Setting, Given, blank, under, new_wire}
+use Rattle.bit_arith.specs.Built.{Setting, blank, under}
 use Rattle.bit_arith.specs.Calls.{Targets, AllSafe}
 use Rattle.bit_arith.specs.Values.{forced, Clean}
-use Rattle.bit_arith.specs.Does.{after, AllX, dropped_wires, Fresh, Grows, Does}
-use Rattle.bit_arith.proofs.Steps.{AllX-append, after-append, after_kept, label-none, label-left, label-right, Agree, all_same, and_true}
+use Rattle.bit_arith.specs.Does.{after, dropped_wires, Fresh, Grows, Does}
+use Rattle.bit_arith.proofs.Steps.{AllX-append, after-append, after_kept, label-none, label-left, label-right, Agree, all_same}
 
 -- ---- wires and steps that come
 

@@ -1,5 +1,5 @@
 -- Literals gathered on one wire, and flips under literals.
-use Rattle.std.proofs.Common.{◌≡◌, ℕ, suc, ◌+◌, ◌≤◌, ◌<◌, Bool, true, false, not, ◌&&◌, List, [], ◌∷◌, ◌++◌, length, Some, None, refl, sym, ap, ap₂, ◌∙◌, subst, arith, eqb, length-append, append_assoc, append-nil, Option}
+use Rattle.std.proofs.Common.{◌≡◌, ℕ, suc, ◌≤◌, ◌<◌, Bool, true, false, ◌&&◌, List, [], ◌∷◌, ◌++◌, length, Some, None, refl, sym, ap, ap₂, ◌∙◌, subst, arith, length-append, append-nil, Option}
 use Rattle.std.specs.Bool.{beq}
 use Rattle.flat_core.specs.declared.step.Lit.{Lit}
 use Rattle.flat_core.specs.declared.step.Step.{Step}
@@ -10,12 +10,12 @@ use Rattle.flat_core.specs.Form.{DraftForm}
 use Rattle.flat_core.specs.Label.{same_wire, wire_id}
 use Rattle.flat_core.specs.Drafts.{with_wire, with_step}
 use Rattle.flat_mean.specs.Row.{Row, flipped, holds, next}
-use Rattle.bit_arith.specs.Built.{Built, Setting, push, new_wire, next_wire, plus}
+use Rattle.bit_arith.specs.Built.{Built, Setting, push, new_wire, plus}
 use Rattle.bit_arith.specs.Rows.{gathered, all_but_last, last_of, flip_lits}
 use Rattle.bit_arith.specs.Calls.{Targets, no_target, SafeLit}
 use Rattle.bit_arith.specs.Values.{Clean}
 use Rattle.bit_arith.specs.Does.{after, AllX, Fresh, Grows, NoneNew}
-use Rattle.bit_arith.proofs.Steps.{set_wire, set_same, set_other, set_idem, AllX-append, after-append, after_kept, label-not, and_false, and_assoc, and_one, apart_below, apart_above, Agree, lits_hold, SafeLits, lit_same, lits_same}
+use Rattle.bit_arith.proofs.Steps.{set_wire, set_same, set_idem, AllX-append, after-append, label-not, and_false, and_assoc, and_one, apart_below, apart_above, Agree, lits_hold, SafeLits, lit_same, lits_same}
 use Rattle.bit_arith.proofs.Doing.{grown, grows_none, grows_then, grows_fresh, grows_clean, grows_agree, clean_above}
 
 -- ---- one wire, one step

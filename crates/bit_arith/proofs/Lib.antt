@@ -15,3 +15,4 @@ pub mod Chained
 pub mod Fits
 pub mod Parts
 pub mod Gathers
+pub mod Published

@@ -1,9 +1,8 @@
 -- Several flips of one wire, and flips of lists of wires.
-use Rattle.std.proofs.Common.{◌≡◌, ℕ, ◌≤◌, ◌<◌, Bool, true, false, ◌&&◌, ◌||◌, List, [], ◌∷◌, map, length, Option, Some, None, refl, sym, ap, ap₂, ◌∙◌, arith, eqb}
+use Rattle.std.proofs.Common.{◌≡◌, ℕ, ◌≤◌, ◌<◌, Bool, true, false, List, [], ◌∷◌, map, length, Option, Some, None, refl, sym, ap, ap₂, ◌∙◌, arith}
 use Rattle.std.proofs.lemmas.Bool.{eqb-true, eq-eqb, cases_Bool}
 use Rattle.std.proofs.Common.{inl, inr}
 use Rattle.flat_core.specs.declared.step.WireId.{WireId}
-use Rattle.flat_core.specs.Form.{DraftForm}
 use Rattle.flat_core.specs.Label.{same_wire}
 use Rattle.flat_mean.specs.Row.{Row, flipped}
 use Rattle.bit_arith.specs.declared.operand.Operand.{Operand}
@@ -11,10 +10,10 @@ use Rattle.bit_arith.specs.declared.operand.Operand.TheVariants.{Const, Literal}
 use Rattle.bit_arith.specs.Built.{Built, Setting, under, under_condition}
 use Rattle.bit_arith.specs.Rows.{flip, flip_by, flip_up, flip_down}
 use Rattle.bit_arith.specs.Calls.{Targets, Safe, AllSafe, among}
-use Rattle.bit_arith.specs.Values.{bit_of, all_hold, bits_at, values_at, forced, Clean}
+use Rattle.bit_arith.specs.Values.{all_hold, values_at}
 use Rattle.bit_arith.specs.Does.{Fresh, Does, Below, Different}
-use Rattle.bit_arith.proofs.Steps.{or_false, Agree, bit_same, all_same, bits_same}
-use Rattle.bit_arith.proofs.Doing.{Guards, does_fresh, does_grown, does_none, does_weak, does_then, Then}
+use Rattle.bit_arith.proofs.Steps.{or_false, Agree, all_same}
+use Rattle.bit_arith.proofs.Doing.{Guards, does_fresh, does_grown, does_none, does_weak, does_then}
 use Rattle.bit_arith.proofs.Tidying.{flip_does, FlipIf}
 
 -- ---- safe operands stay safe

@@ -1,26 +1,24 @@
 -- New wires, and the rows that copy and flip.
-use Rattle.std.proofs.Common.{◌≡◌, ℕ, zero, suc, ◌+◌, ◌≤◌, ◌<◌, Bool, true, false, not, ◌&&◌, ◌||◌, List, [], ◌∷◌, ◌++◌, map, length, Option, Some, None, refl, sym, ap, ap₂, ◌∙◌, subst, arith, eqb, length-append, append_assoc, append-nil}
+use Rattle.std.proofs.Common.{◌≡◌, ℕ, zero, suc, ◌+◌, ◌≤◌, ◌<◌, Bool, true, false, not, ◌&&◌, ◌||◌, List, [], ◌∷◌, ◌++◌, length, None, refl, sym, ap, ap₂, ◌∙◌, subst, arith, length-append, append_assoc, append-nil}
 use Rattle.std.proofs.lemmas.List.{length-map}
 use Rattle.std.specs.Bool.{beq}
 use Rattle.flat_core.specs.declared.step.WireId.{WireId}
-use Rattle.flat_core.specs.declared.step.Lit.{Lit}
 use Rattle.flat_core.specs.declared.step.End.TheVariants.{Dropped}
-use Rattle.flat_core.specs.Form.{DraftForm, WireForm}
+use Rattle.flat_core.specs.Form.{DraftForm}
 use Rattle.flat_core.specs.Label.{wire_id, same_wire}
-use Rattle.flat_core.specs.Drafts.{with_wire}
-use Rattle.flat_mean.specs.Row.{Row, flipped, holds}
+use Rattle.flat_mean.specs.Row.{Row, flipped}
 use Rattle.bit_arith.specs.declared.operand.Operand.{Operand}
 use Rattle.bit_arith.specs.declared.operand.Operand.TheVariants.{Const, Literal}
-use Rattle.bit_arith.specs.Built.{Built, Setting, Given, new_wire, new_wires, next_wire, next_wires, wires_from, plus, made, all_made, negated, all_negated, under}
-use Rattle.bit_arith.specs.Rows.{flip, flip_by, flip_up, flip_down, singles, copy, flip_each, both, either}
+use Rattle.bit_arith.specs.Built.{Built, Setting, Given, new_wire, new_wires, next_wire, wires_from, made, all_made, negated, under}
+use Rattle.bit_arith.specs.Rows.{flip, flip_up, singles, copy, flip_each, both, either}
 use Rattle.bit_arith.specs.Calls.{Targets, no_target, Safe, AllSafe, among}
-use Rattle.bit_arith.specs.Values.{bit_of, all_hold, bits_at, values_at, forced, Clean}
-use Rattle.bit_arith.specs.Does.{dropped_wires, Fresh, Grows, Does, NoneNew, AllNew, Below, Different, StaySafe, Answers, Tells}
-use Rattle.bit_arith.proofs.Steps.{or_false, and_one, apart_below, apart_above, Agree, bit_same, all_same, bits_same}
-use Rattle.bit_arith.proofs.Doing.{Guards, dropped-append, length-dropped, does_fresh, does_grown, does_none, does_weak, does_then, Then, clean_above}
+use Rattle.bit_arith.specs.Values.{bit_of, all_hold, bits_at, values_at, flip_bits}
+use Rattle.bit_arith.specs.Does.{dropped_wires, Fresh, Grows, Does, NoneNew, AllNew, Below, Different, Copies, Tells}
+use Rattle.bit_arith.proofs.Steps.{and_one, apart_below, apart_above}
+use Rattle.bit_arith.proofs.Doing.{Guards, length-dropped, does_fresh, does_grown, does_weak, does_then, clean_above}
 use Rattle.bit_arith.proofs.Gathered.{beq_one, flipped_zero, length-wire}
 use Rattle.bit_arith.proofs.Tidying.{flip_does, FlipIf}
-use Rattle.bit_arith.proofs.Listed.{safe_one, safe_more, safe_under, toggles, toggle_all, each_holds, places_hold, ConjunctionsSafe, PlacesSafe, AllOff, up_does, by_does}
+use Rattle.bit_arith.proofs.Listed.{safe_more, safe_under, toggle_all, places_hold, PlacesSafe, up_does}
 
 -- ---- new wires
 
@@ -123,11 +121,6 @@ places_singles n T (p ∷ ps) s = (((s.0, tt), tt), places_singles n T ps s.1)
 pub length-singles : (ps : List Operand) → length (singles ps) ≡ length ps
 length-singles ps = length-map ps (λ p. (p ∷ []) ∷ [])
 
--- each bit flipped by another
-abbrev pub flip_bits : List Bool → List Bool → List Bool
-flip_bits (x ∷ xs) (y ∷ ys) = flipped x y ∷ flip_bits xs ys
-flip_bits _ _ = []
-
 flip_zeros : (ys : List Bool) → flip_bits (zeros (length ys)) ys ≡ ys
 flip_zeros [] = refl
 flip_zeros (y ∷ ys) = ap₂ ◌∷◌ (flipped_zero false y refl) (flip_zeros ys)
@@ -155,12 +148,6 @@ flip_each_does at ws ps b f e be di g s = each_does at ws ps b f e be di g s
 
 -- ---- copies
 
--- new wires, with what they show
-pub record Copies (at : Setting) (d : DraftForm) (row : Given (List WireId)) (f : Row → List Bool) : Type 0 where
-  pub does : Does at d row.built.draft no_target (λ v u. values_at u row.answer ≡ f v)
-  pub new : AllNew d row.built.draft row.answer
-  pub different : Different row.answer
-
 pub copy_does : (at : Setting) (ps : List Operand) (b : Built) → Fresh b.draft → Guards at (length b.draft.wires) no_target → AllSafe (length b.draft.wires) no_target ps → Copies at b.draft (copy at ps b) (λ v. bits_at v ps)
 unfolding copy
 copy_does at ps b f g s =
@@ -181,6 +168,7 @@ copy_does at ps b f g s =
           t ∙ (ap (λ xs. flip_bits xs (bits_at v ps)) (values_zero v n j (λ k le. clean_above b.draft v f c k le) ∙ ap zeros (sym (length-bits v ps))) ∙ flip_zeros (bits_at v ps)));
       new = new_from b.draft (flip_up at ws (singles ps) b1).draft n j (omega arith) (omega (arith, l, up));
       different = different_from n j;
+      safe = λ T o z. safe_new b.draft (flip_up at ws (singles ps) b1).draft ws T (new_from b.draft (flip_up at ws (singles ps) b1).draft n j (omega arith) (omega (arith, l, up))) o;
     }
 
 -- ---- conjunctions on new wires

@@ -1,24 +1,22 @@
 -- The row that multiplies, by adding multiples.
-use Rattle.std.proofs.Common.{◌≡◌, ℕ, zero, suc, ◌+◌, ◌*◌, ◌^◌, ◌%◌, ◌/◌, ◌≤◌, ◌<◌, Bool, true, false, ◌&&◌, List, [], ◌∷◌, map, length, refl, sym, ap, ap₂, ◌∙◌, subst, arith, pow-suc, mod-lt, pow_pos}
+use Rattle.std.proofs.Common.{◌≡◌, ℕ, zero, suc, ◌+◌, ◌*◌, ◌^◌, ◌%◌, ◌/◌, ◌≤◌, ◌<◌, Bool, true, false, ◌&&◌, List, [], ◌∷◌, map, length, refl, sym, ap, ap₂, ◌∙◌, subst, arith, pow-suc}
 use Rattle.std.proofs.lemmas.List.{length-map}
 use Rattle.std.proofs.Math.Nat.{mod-add-div}
 use Rattle.flat_core.specs.declared.step.WireId.{WireId}
-use Rattle.flat_core.specs.Form.{DraftForm}
-use Rattle.flat_core.specs.Label.{wire_id, same_wire}
-use Rattle.flat_mean.specs.Row.{Row, flipped}
+use Rattle.flat_mean.specs.Row.{Row}
 use Rattle.bit_arith.specs.declared.operand.Operand.{Operand}
-use Rattle.bit_arith.specs.Built.{Built, Setting, Given, new_wires, next_wires, wires_from, made, all_made, under}
+use Rattle.bit_arith.specs.Built.{Built, Setting, new_wires, next_wires, wires_from, made, all_made, under}
 use Rattle.bit_arith.specs.Rows.{flip_up, products, add_into, lower, product_into, product}
 use Rattle.bit_arith.specs.Calls.{Targets, no_target, AllSafe, among}
-use Rattle.bit_arith.specs.Values.{bit_of, all_hold, bits_at, values_at, forced, Clean}
+use Rattle.bit_arith.specs.Values.{bit_of, bits_at, values_at}
 use Rattle.bit_arith.specs.Numbers.{number}
-use Rattle.bit_arith.specs.Does.{Fresh, Does, AllNew, Below, Different, Answers}
-use Rattle.bit_arith.proofs.Steps.{and_one, Agree, bit_same, bits_same}
-use Rattle.bit_arith.proofs.Doing.{Guards, does_fresh, does_grown, does_none, does_weak, does_then, Then, clean_above}
+use Rattle.bit_arith.specs.Does.{Fresh, Does, AllNew, Below, Different, OwnWires, GivesNumber}
+use Rattle.bit_arith.proofs.Steps.{and_one, bits_same}
+use Rattle.bit_arith.proofs.Doing.{Guards, does_fresh, does_grown, does_none, does_weak, does_then, clean_above}
 use Rattle.bit_arith.proofs.Gathered.{flipped_zero}
 use Rattle.bit_arith.proofs.Listed.{safe_more, below_more, toggle_all, places_hold, PlacesSafe, values_same, all_off_none, off_rest, up_does}
-use Rattle.bit_arith.proofs.Making.{length-wires, does_made, fresh_wires, length-from, among_from, among_past, different_from, below_from, new_from, safe_new, zeros, values_zero, safe_from, bits_made, length-bits, length-values}
-use Rattle.bit_arith.proofs.Carrying.{add_into_does, past}
+use Rattle.bit_arith.proofs.Making.{length-wires, does_made, fresh_wires, length-from, among_from, different_from, below_from, new_from, safe_new, zeros, values_zero, safe_from, bits_made, length-bits, length-values}
+use Rattle.bit_arith.proofs.Carrying.{add_into_does, past, own_from, own_safe, length-own}
 use Rattle.bit_arith.proofs.Adder.{bit, number_below, mod_of_sum}
 
 -- ---- one multiple
@@ -183,7 +181,7 @@ product_into_does at (w ∷ ws) (p ∷ ps) qs b f e e' be di g sp sq =
     ∙ multiply (length ws) (bit_of v p) (t.mid w.number) (bits_at v ps) (bits_at v qs) (values_at v (w ∷ ws)) (values_at t.mid ws) (values_at u ws)
     (length-bits v qs ∙ le_qs) (length-values u ws) added later)
 
-pub product_does : (at : Setting) (ps qs : List Operand) (b : Built) → Fresh b.draft → length ps ≡ length qs → Guards at (length b.draft.wires) no_target → AllSafe (length b.draft.wires) no_target ps → AllSafe (length b.draft.wires) no_target qs → Answers at b.draft [] (product at ps qs b) (λ v bs. number bs ≡ (number (bits_at v ps) * number (bits_at v qs)) % 2 ^ length ps)
+pub product_does : (at : Setting) (ps qs : List Operand) (b : Built) → Fresh b.draft → length ps ≡ length qs → Guards at (length b.draft.wires) no_target → AllSafe (length b.draft.wires) no_target ps → AllSafe (length b.draft.wires) no_target qs → GivesNumber at b.draft (length ps) (product at ps qs b) (λ v. (number (bits_at v ps) * number (bits_at v qs)) % 2 ^ length ps)
 unfolding product
 product_does at ps qs b f e g s s' =
     let n : ℕ = length b.draft.wires in
@@ -198,12 +196,15 @@ product_does at ps qs b f e g s s' =
     product_into_does at ws ps qs b1 (fresh_wires j b f) lw (lw ∙ e) (below_from n j m (omega (arith, l))) (different_from n j)
     (safe_from n n m j (under at []) (omega arith) le g) (safe_from n n m j ps (omega arith) le s) (safe_from n n m j qs (omega arith) le s') in
     let up : m ≤ length (product_into at ws ps qs b1).draft.wires = does_grown r in
+    let own : OwnWires b.draft (product_into at ws ps qs b1).draft (all_made ws) = own_from b.draft (product_into at ws ps qs b1).draft n j (omega arith) (omega (arith, l, up)) in
     record {
       does = does_weak (does_made j b r g (λ k lt. among_from n j k lt))
           (λ v u c on ag cl t.
           let none : number (values_at v ws) ≡ 0 = ap number (values_zero v n j (λ k lk. clean_above b.draft v f c k lk)) ∙ number_zeros j in
           ap number (bits_made u ws) ∙ (t ∙ ap₂ (λ x i. (x + number (bits_at v ps) * number (bits_at v qs)) % 2 ^ i) none lw ∙ no_more (number (bits_at v ps) * number (bits_at v qs)) (2 ^ j)));
-      safe = λ T o z. safe_new b.draft (product_into at ws ps qs b1).draft ws T (new_from b.draft (product_into at ws ps qs b1).draft n j (omega arith) (omega (arith, l, up))) o;
+      count = length-own n j;
+      own = own;
+      safe = own_safe b.draft (product_into at ws ps qs b1).draft (all_made ws) own;
     }
   where
     number_zeros : (k : ℕ) → number (zeros k) ≡ 0

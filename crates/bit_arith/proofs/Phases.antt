@@ -1,28 +1,25 @@
 -- Steps on one term, phases, and conjunctions without the condition in force.
-use Rattle.std.proofs.Common.{◌≡◌, ℕ, zero, suc, ◌+◌, ◌%◌, ◌≤◌, ◌<◌, ◌==◌, Bool, true, false, cond, not, ◌&&◌, List, [], ◌∷◌, ◌++◌, map, length, Option, Some, None, refl, sym, ap, ap₂, ◌∙◌, subst, arith, append-nil, append_assoc, add-zero}
-use Rattle.std.specs.Bool.{beq}
+use Rattle.std.proofs.Common.{◌≡◌, ℕ, ◌+◌, ◌%◌, ◌==◌, Bool, true, false, cond, ◌&&◌, List, [], ◌∷◌, ◌++◌, map, length, Option, Some, None, refl, sym, ap, ap₂, ◌∙◌, arith, append-nil, add-zero}
 use Rattle.std.proofs.lemmas.Bool.{eqb-true}
 use Rattle.flat_core.specs.declared.step.Lit.{Lit}
 use Rattle.flat_core.specs.declared.step.Step.{Step}
 use Rattle.flat_core.specs.declared.step.Step.TheVariants.{X, H, P, M}
 use Rattle.flat_core.specs.declared.step.WireId.{WireId}
 use Rattle.flat_core.specs.Form.{DraftForm}
-use Rattle.flat_core.specs.Label.{wire_id, label_after}
+use Rattle.flat_core.specs.Label.{wire_id}
 use Rattle.flat_core.specs.Drafts.{with_step}
-use Rattle.flat_core.specs.Sound.{is_x}
 use Rattle.flat_mean.specs.Row.{Row, flipped, holds, next}
 use Rattle.flat_mean.specs.Terms.{Term, each, do_step, do_steps}
 use Rattle.bit_arith.specs.declared.operand.Operand.{Operand}
-use Rattle.bit_arith.specs.declared.operand.Operand.TheVariants.{Const, Literal}
-use Rattle.bit_arith.specs.Built.{Built, Setting, Given, push, new_wire, next_wire, plus, read, literals, tidy, under, under_condition}
+use Rattle.bit_arith.specs.Built.{Built, Setting, push, new_wire, plus, read, literals, under}
 use Rattle.bit_arith.specs.Rows.{gathered, conjunction, conjunction_of, turn, turn_lits}
-use Rattle.bit_arith.specs.Calls.{Targets, no_target, Safe, AllSafe}
-use Rattle.bit_arith.specs.Values.{bit_of, all_hold, forced, Clean}
-use Rattle.bit_arith.specs.Does.{after, AllX, Fresh, Grows, NoneNew, Turns, Conjoins, front_holds}
-use Rattle.bit_arith.proofs.Steps.{set_same, AllX-append, after-append, label-not, clash, and_one, and_false, lits_hold, SafeLits}
-use Rattle.bit_arith.proofs.Doing.{grown, grows_none, grows_then, grows_fresh, clean_above}
-use Rattle.bit_arith.proofs.Gathered.{FirstFalse, Gathers, gathers, grows_new, beq_one, flipped_zero, safe_lits_more}
-use Rattle.bit_arith.proofs.Tidying.{tidied, IfList, tidy_holds, tidy_safe, read_bit, reads_hold, reads_safe, guard_false, Reads, reads}
+use Rattle.bit_arith.specs.Calls.{Targets, no_target, AllSafe}
+use Rattle.bit_arith.specs.Values.{all_hold, forced, Clean}
+use Rattle.bit_arith.specs.Does.{after, AllX, Fresh, Grows, Turns, Conjoins, front_holds}
+use Rattle.bit_arith.proofs.Steps.{set_same, after-append, label-not, clash, and_false, lits_hold, SafeLits}
+use Rattle.bit_arith.proofs.Doing.{grows_none, grows_then, clean_above}
+use Rattle.bit_arith.proofs.Gathered.{FirstFalse, Gathers, gathers, grows_new, beq_one, flipped_zero}
+use Rattle.bit_arith.proofs.Tidying.{tidied, IfList, tidy_holds, tidy_safe, reads_hold, reads_safe, guard_false, Reads, reads}
 
 -- ---- steps on one term
 

@@ -1,20 +1,18 @@
 -- What X steps do to rows of values.
-use Rattle.std.proofs.Common.{◌≡◌, ℕ, ◌+◌, ◌≤◌, ◌<◌, Bool, true, false, cond, not, ◌&&◌, ◌||◌, List, [], ◌∷◌, ◌++◌, length, Some, refl, sym, ap, ap₂, ◌∙◌, subst, arith, eqb}
+use Rattle.std.proofs.Common.{◌≡◌, ℕ, ◌+◌, ◌<◌, Bool, true, false, cond, ◌&&◌, ◌||◌, List, [], ◌∷◌, ◌++◌, Some, refl, sym, ap, ap₂, ◌∙◌, arith, eqb}
 use Rattle.std.specs.Bool.{beq}
 use Rattle.std.proofs.Math.Path.{fun_ext}
 use Rattle.std.proofs.lemmas.Bool.{eqb-true, eq-eqb, ne_eqb}
 use Rattle.std.proofs.lemmas.List.Sums.{sum_by-append}
 use Rattle.flat_core.specs.declared.step.Step.{Step}
-use Rattle.flat_core.specs.declared.step.Step.TheVariants.{X, H, P, M}
 use Rattle.flat_core.specs.declared.step.WireId.{WireId}
 use Rattle.flat_core.specs.declared.step.Lit.{Lit}
-use Rattle.flat_core.specs.Label.{wire_id, same_wire, changes, label_after}
-use Rattle.flat_mean.specs.Row.{Row, flipped, holds, next, new_value}
+use Rattle.flat_core.specs.Label.{changes, label_after}
+use Rattle.flat_mean.specs.Row.{Row, holds, next, new_value}
 use Rattle.bit_arith.specs.declared.operand.Operand.{Operand}
 use Rattle.bit_arith.specs.declared.operand.Operand.TheVariants.{Const, Literal}
-use Rattle.bit_arith.specs.Built.{Setting, under}
 use Rattle.bit_arith.specs.Calls.{Targets, SafeLit, Safe, AllSafe}
-use Rattle.bit_arith.specs.Values.{bit_of, all_hold, forced, Clean, bits_at, values_at}
+use Rattle.bit_arith.specs.Values.{bit_of, all_hold, bits_at}
 use Rattle.bit_arith.specs.Does.{after, AllX}
 
 -- ---- the value of one wire set

@@ -1,21 +1,20 @@
 -- The rows that compare.
-use Rattle.std.proofs.Common.{◌≡◌, ℕ, zero, suc, ◌+◌, ◌≤◌, ◌<◌, Bool, true, false, cond, not, ◌&&◌, List, [], ◌∷◌, ◌++◌, map, length, refl, sym, ap, ap₂, ◌∙◌, arith}
-use Rattle.std.specs.Prelude.{nat_lt, int_lt}
+use Rattle.std.proofs.Common.{◌≡◌, ℕ, suc, ◌≤◌, ◌<◌, Bool, true, false, not, ◌&&◌, List, [], ◌∷◌, ◌++◌, length, refl, sym, ap, ap₂, ◌∙◌, arith}
+use Rattle.std.specs.Prelude.{int_lt}
 use Rattle.sum_laws.specs.Terms.{same_bit, same_bits}
 use Rattle.flat_core.specs.declared.step.WireId.{WireId}
-use Rattle.flat_core.specs.Form.{DraftForm}
 use Rattle.flat_core.specs.Label.{wire_id, same_wire}
 use Rattle.flat_mean.specs.Row.{Row, flipped}
 use Rattle.bit_arith.specs.declared.operand.Operand.{Operand}
 use Rattle.bit_arith.specs.declared.operand.Operand.TheVariants.{Const, Literal}
 use Rattle.bit_arith.specs.Built.{Built, Setting, Given, new_wire, next_wire, made, negated, top_negated, read, under}
-use Rattle.bit_arith.specs.Rows.{flip, flip_by, alone, carry_bit, signed, differ_as, differ, matches, all_of, equal, borrow, less}
+use Rattle.bit_arith.specs.Rows.{flip_by, alone, carry_bit, signed, differ_as, differ, matches, all_of, equal, borrow, less}
 use Rattle.bit_arith.specs.Calls.{Targets, no_target, Safe, AllSafe}
-use Rattle.bit_arith.specs.Values.{bit_of, all_hold, bits_at, forced, Clean}
-use Rattle.bit_arith.specs.Numbers.{number, signed_value}
-use Rattle.bit_arith.specs.Does.{Fresh, Does, NoneNew, Answers, Tells}
-use Rattle.bit_arith.proofs.Steps.{and_one, apart_below, Agree, bit_same, bits_same}
-use Rattle.bit_arith.proofs.Doing.{Guards, does_fresh, does_grown, does_none, does_weak, does_then, Then, clean_above}
+use Rattle.bit_arith.specs.Values.{bit_of, all_hold, bits_at, Clean}
+use Rattle.bit_arith.specs.Numbers.{number, signed_value, is_below}
+use Rattle.bit_arith.specs.Does.{Fresh, Does, Answers, Tells}
+use Rattle.bit_arith.proofs.Steps.{and_one, apart_below, bit_same, bits_same}
+use Rattle.bit_arith.proofs.Doing.{Guards, does_fresh, does_grown, does_none, does_weak, does_then, clean_above}
 use Rattle.bit_arith.proofs.Gathered.{beq_one, length-wire}
 use Rattle.bit_arith.proofs.Tidying.{read_bit}
 use Rattle.bit_arith.proofs.Listed.{safe_one, safe_more, toggles, each_holds, by_does}
@@ -133,8 +132,7 @@ matches_do at (p ∷ ps) (q ∷ qs) b f e g s t =
           ap₂ ◌∷◌ (negated_bit u here.answer ∙ ap not (bit_same m no_target u r.mid here.answer op_safe r.stays ∙ r.first)) (r.second ∙ ap₂ same_places ops ops'));
       safe = λ U o z.
           let x : AllSafe n U (p ∷ ps) = safe_left n U (p ∷ ps) (q ∷ qs) z in
-          let y : AllSafe n U (q ∷ qs) = safe_right n U (p ∷ ps) (q ∷ qs) z in
-          (
+          let y : AllSafe n U (q ∷ qs) = safe_right n U (p ∷ ps) (q ∷ qs) z in (
             safe_one m (length rest.built.draft.wires) U U (negated here.answer) up2 (λ k lt i. i) (negated_safe m U here.answer (h.safe U o (x.0, (y.0, tt)))),
             ih.safe U (λ k le. o k (omega (arith, up, le))) (safe_append m U ps qs (safe_more n m U U ps up (stay U) x.1) (safe_more n m U U qs up (stay U) y.1)),
           );
@@ -209,11 +207,6 @@ length-top_negated : (ps : List Operand) → length (top_negated ps) ≡ length 
 length-top_negated [] = refl
 length-top_negated (p ∷ []) = refl
 length-top_negated (p ∷ q ∷ ps) = ap suc (length-top_negated (q ∷ ps))
-
--- the order of numbers of n bits, with or without a sign
-abbrev pub is_below : Bool → ℕ → ℕ → ℕ → Bool
-is_below true n a b = int_lt (signed_value n a) (signed_value n b)
-is_below false n a b = nat_lt a b
 
 pub less_does : (at : Setting) (with_sign : Bool) (ps qs : List Operand) (b : Built) → Fresh b.draft → length ps ≡ length qs → Guards at (length b.draft.wires) no_target → AllSafe (length b.draft.wires) no_target ps → AllSafe (length b.draft.wires) no_target qs → Tells at b.draft [] (less at with_sign ps qs b) (λ v. is_below with_sign (length ps) (number (bits_at v ps)) (number (bits_at v qs)))
 unfolding less

@@ -1,5 +1,5 @@
 -- `flip` flips its target where the condition in force and all operands hold.
-use Rattle.std.proofs.Common.{◌≡◌, ℕ, ◌≤◌, ◌<◌, Bool, true, false, cond, not, ◌&&◌, ◌||◌, List, [], ◌∷◌, ◌++◌, length, map, Option, Some, None, refl, sym, ap, ap₂, ◌∙◌, subst, arith, ◌⊎◌, inl, inr}
+use Rattle.std.proofs.Common.{◌≡◌, ℕ, ◌<◌, Bool, true, false, cond, not, ◌&&◌, ◌||◌, List, [], ◌∷◌, ◌++◌, length, map, Option, Some, None, refl, sym, ap, ap₂, ◌∙◌, ◌⊎◌, inl, inr}
 use Rattle.std.specs.Bool.{beq}
 use Rattle.flat_core.specs.declared.step.Lit.{Lit}
 use Rattle.flat_core.specs.declared.step.WireId.{WireId}
@@ -13,7 +13,7 @@ use Rattle.bit_arith.specs.Built.{Built, Setting, blank, read, opposite, same_li
 use Rattle.bit_arith.specs.Rows.{flip, flip_if_any, flip_lits}
 use Rattle.bit_arith.specs.Calls.{Targets, SafeLit, Safe, AllSafe}
 use Rattle.bit_arith.specs.Values.{bit_of, all_hold, forced, Clean}
-use Rattle.bit_arith.specs.Does.{after, Fresh, Does}
+use Rattle.bit_arith.specs.Does.{Fresh, Does}
 use Rattle.bit_arith.proofs.Steps.{and_true, and_assoc, and_one, and_zero, lits_hold, SafeLits}
 use Rattle.bit_arith.proofs.Doing.{does_none, does_weak}
 use Rattle.bit_arith.proofs.Gathered.{FirstFalse, FlipsLits, flips_lits}

@@ -9,9 +9,10 @@ use Rattle.flat_core.specs.Sound.{is_x}
 use Rattle.flat_mean.specs.Row.{Row, next}
 use Rattle.flat_mean.specs.Terms.{Term, do_steps}
 use Rattle.bit_arith.specs.declared.operand.Operand.{Operand}
-use Rattle.bit_arith.specs.Built.{Built, Setting, Given}
+use Rattle.bit_arith.specs.Built.{Setting, Given, all_made}
 use Rattle.bit_arith.specs.Calls.{Targets, Safe, AllSafe, among, no_target}
-use Rattle.bit_arith.specs.Values.{Clean, forced, bit_of, bits_at, all_hold}
+use Rattle.bit_arith.specs.Values.{Clean, forced, bit_of, bits_at, values_at, all_hold}
+use Rattle.bit_arith.specs.Numbers.{number}
 
 -- the row after steps, none of which is an H
 abbrev pub after : List Step → Row → Row
@@ -69,6 +70,27 @@ Different (w ∷ ws) = (among ws w ≡ false) × Different ws
 -- an answer is safe from each set of old wires from which the operands are safe that it is made of
 abbrev pub StaySafe : DraftForm → DraftForm → List Operand → List Operand → Type 0
 StaySafe d e of answer = (T : Targets) → NoneNew d T → AllSafe (length d.wires) T of → AllSafe (length e.wires) T answer
+
+-- new wires of its own, which differ, are an answer
+pub record OwnWires (d e : DraftForm) (answer : List Operand) : Type 0 where
+  pub wires : List WireId
+  pub answer_is : answer ≡ all_made wires
+  pub new : AllNew d e wires
+  pub different : Different wires
+
+-- a row that answers new wires, which show f of the row before, and changes no old wire
+pub record Copies (at : Setting) (d : DraftForm) (row : Given (List WireId)) (f : Row → List Bool) : Type 0 where
+  pub does : Does at d row.built.draft no_target (λ v u. values_at u row.answer ≡ f v)
+  pub new : AllNew d row.built.draft row.answer
+  pub different : Different row.answer
+  pub safe : StaySafe d row.built.draft [] (all_made row.answer)
+
+-- a row that answers a number of n bits, which is f of the row before, and changes no old wire
+pub record GivesNumber (at : Setting) (d : DraftForm) (n : ℕ) (row : Given (List Operand)) (f : Row → ℕ) : Type 0 where
+  pub does : Does at d row.built.draft no_target (λ v u. number (bits_at u row.answer) ≡ f v)
+  pub count : length row.answer ≡ n
+  pub own : OwnWires d row.built.draft row.answer
+  pub safe : StaySafe d row.built.draft [] row.answer
 
 -- a row that answers operands, of whose bits Q tells, and changes no old wire
 pub record Answers (at : Setting) (d : DraftForm) (of : List Operand) (row : Given (List Operand)) (Q : Row → List Bool → Type 0) : Type 0 where

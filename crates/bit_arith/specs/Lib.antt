@@ -5,3 +5,4 @@ pub mod Values
 pub mod Numbers
 pub mod Does
 pub mod Fits
+pub mod Laws

@@ -1,5 +1,5 @@
 -- Numbers and their bits, low bit first.
-use Rattle.std.specs.Prelude.{ℕ, zero, suc, ◌+◌, ◌-◌, ◌*◌, ◌^◌, ◌/◌, ◌%◌, Bool, cond, ◌==◌, if◌then◌else◌, nat_lt, List, [], ◌∷◌, ℤ, pos, ◌-ℤ◌}
+use Rattle.std.specs.Prelude.{ℕ, zero, suc, ◌+◌, ◌-◌, ◌*◌, ◌^◌, ◌/◌, ◌%◌, Bool, true, false, ◌==◌, if◌then◌else◌, nat_lt, int_lt, List, [], ◌∷◌, ℤ, pos, ◌-ℤ◌}
 
 -- the number of a list of bits
 abbrev pub number : List Bool → ℕ
@@ -14,3 +14,8 @@ low_bits (suc n) a = (a % 2 == 1) ∷ low_bits n (a / 2)
 -- the value by two's complement of a number of n bits
 abbrev pub signed_value : ℕ → ℕ → ℤ
 signed_value n a = if nat_lt a (2 ^ (n - 1)) then pos a else (pos a -ℤ pos (2 ^ n))
+
+-- whether a is below b, as numbers of n bits with or without a sign
+abbrev pub is_below : Bool → ℕ → ℕ → ℕ → Bool
+is_below true n a b = int_lt (signed_value n a) (signed_value n b)
+is_below false n a b = nat_lt a b

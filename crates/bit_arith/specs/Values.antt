@@ -1,8 +1,8 @@
 -- What operands and wires show in a row of values.
-use Rattle.std.specs.Prelude.{◌≡◌, ℕ, Bool, true, false, ◌&&◌, List, [], ◌∷◌, map, Some}
+use Rattle.std.specs.Prelude.{◌≡◌, Bool, true, false, ◌&&◌, List, [], ◌∷◌, map, Some}
 use Rattle.flat_core.specs.Form.{DraftForm}
 use Rattle.flat_core.specs.declared.step.WireId.{WireId}
-use Rattle.flat_mean.specs.Row.{Row, holds}
+use Rattle.flat_mean.specs.Row.{Row, flipped, holds}
 use Rattle.bit_arith.specs.declared.operand.Operand.{Operand}
 use Rattle.bit_arith.specs.declared.operand.Operand.TheVariants.{Const, Literal}
 use Rattle.bit_arith.specs.Built.{Setting, blank, under}
@@ -27,6 +27,11 @@ forced at v = all_hold v (under at [])
 -- the values of wires
 abbrev pub values_at : Row → List WireId → List Bool
 values_at v ws = map (λ w. v w.number) ws
+
+-- each bit of a list flipped where the other list's is 1
+abbrev pub flip_bits : List Bool → List Bool → List Bool
+flip_bits (x ∷ xs) (y ∷ ys) = flipped x y ∷ flip_bits xs ys
+flip_bits _ _ = []
 
 -- blank wires are 0
 abbrev pub Clean : DraftForm → Row → Type 0
