@@ -1,6 +1,7 @@
 #!/bin/sh
-# Times the command `check` of the proved program on three families of programs: one statement in N rounds of a loop, N statements in a
-# row on several variables, and N instances of one function. Prints the seconds and the peak memory in megabytes.
+# Times the command `check` of the proved program on five families of programs: one statement in N rounds of a loop, N statements in a
+# row on several variables, N instances of one function, N functions of which one in ten is called, and N variables. Prints the seconds and
+# the peak memory in megabytes.
 # Usage: bench/check.sh
 top=$(cd "$(dirname "$0")/.." && pwd) || exit 1
 "$top/silqc" compile "$top/examples/one.slq" main --budget 1 >/dev/null || exit 1
@@ -31,5 +32,22 @@ for n in 500 1000 2000 4000; do
         printf "def main(x:B):B { for i in [0..%d) { x := f[i](x); } return x; }\n", n
     }' >"$file"
     measure "instances $n"
+done
+for n in 2500 5000 10000 20000; do
+    awk -v n="$n" 'BEGIN {
+        for (i = 0; i < n; i++) printf "def f%d(x:B):B{return x;}\n", i
+        printf "def main(x:B):B {"
+        for (i = 0; i < n; i += 10) printf "x := f%d(x);\n", i
+        print "return x; }"
+    }' >"$file"
+    measure "functions $n"
+done
+for n in 5000 10000 20000 40000; do
+    awk -v n="$n" 'BEGIN {
+        printf "def main(x:B):B {"
+        for (i = 0; i < n; i++) printf "y%d := dup(x);\n", i
+        print "return x; }"
+    }' >"$file"
+    measure "variables $n"
 done
 rm -f "$file" "$file.time"
