@@ -10,4 +10,5 @@ pub mod Orders
 pub mod Tests
 pub mod Multiples
 pub mod Phases
+pub mod Halves
 pub mod Published
