@@ -12,3 +12,4 @@ pub mod Multiples
 pub mod Phases
 pub mod Halves
 pub mod Published
+mod Examples
