@@ -1,8 +1,10 @@
 -- The carries and sums of two lists of bits, as numbers.
-use Rattle.std.proofs.Common.{◌≡◌, ℕ, zero, suc, ◌+◌, ◌*◌, ◌^◌, ◌%◌, ◌/◌, ◌-◌, ◌<◌, Bool, true, false, not, ◌&&◌, List, [], ◌∷◌, length, map, refl, sym, ap, ap₂, ◌∙◌, subst, arith, pow-suc, mod-eq_of_lt, mod-lt}
-use Rattle.std.specs.Prelude.{if◌then◌else◌, ◌==◌}
+use Rattle.std.proofs.Common.{◌≡◌, ℕ, zero, suc, ◌+◌, ◌*◌, ◌^◌, ◌%◌, ◌/◌, ◌-◌, ◌<◌, Bool, true, false, not, ◌&&◌, List, [], ◌∷◌, length, map, refl, sym, ap, ap₂, ◌∙◌, subst, arith, pow-suc, mod-eq_of_lt, mod-lt, pow_pos}
+use Rattle.std.specs.Prelude.{get_or, nat_le, ◌≤◌, if◌then◌else◌, ◌==◌}
 use Rattle.std.proofs.lemmas.List.{length-map}
-use Rattle.std.proofs.Math.Nat.{mul-add-mod_self_left}
+use Rattle.std.proofs.Math.Nat.{mul-add-mod_self_left, mod-add-div}
+use Rattle.std.proofs.lemmas.Bool.{leb-true, le-leb, lt-leb}
+use Rattle.std.proofs.lemmas.Bool.Decides.{same_from_decides}
 use Rattle.flat_mean.specs.Row.{flipped}
 use Rattle.bit_arith.specs.Numbers.{number, low_bits}
 
@@ -95,6 +97,49 @@ sum_number xs ys e =
     let l : length s ≡ length xs = length-sum xs ys (carry_bits false xs ys) e (sym (length-carries false xs ys e)) in
     let lt : number s < 2 ^ length xs = subst (λ n. number s < 2 ^ n) l (number_below s) in
     mod_of_sum (2 ^ length xs) (number s) (bit (carry_out false xs ys)) (number xs + number ys) lt (omega (arith, o, f))
+
+-- ---- the carry into each place
+
+bit_le : (x : Bool) → bit x ≤ 1
+bit_le true = omega arith
+bit_le false = omega arith
+
+mod_double : (x : Bool) (m k : ℕ) → 0 < k → (bit x + 2 * m) % (2 * k) ≡ bit x + 2 * (m % k)
+mod_double x m k pos =
+    let d : m % k + k * (m / k) ≡ m = mod-add-div m k in
+    let lt : m % k < k = mod-lt m {m = k} pos in
+    let b : bit x ≤ 1 = bit_le x in
+    sym (mod_of_sum (2 * k) (bit x + 2 * (m % k)) (m / k) (bit x + 2 * m) (omega (arith, lt, b)) (twice (bit x) m (m % k) k (m / k) d))
+  where
+    twice : (b m r k q : ℕ) → r + k * q ≡ m → 2 * k * q + (b + 2 * r) ≡ b + 2 * m
+    twice b m r k q e = omega (arith, e)
+
+half_le : (k m s : ℕ) → s ≤ 1 → nat_le k m ≡ nat_le (2 * k) (s + 2 * m)
+half_le k m s le = same_from_decides (nat_le k m) (nat_le (2 * k) (s + 2 * m)) (leb-true k m, le-leb k m)
+    (λ h. (let z = leb-true (2 * k) (s + 2 * m) h in omega (arith, z, le)), λ h. le-leb (2 * k) (s + 2 * m) (omega (arith, h)))
+
+first : (c : Bool) (m n : ℕ) → c ≡ nat_le (2 ^ 0) (m % 2 ^ 0 + n % 2 ^ 0 + bit c)
+first true m n = sym (le-leb (2 ^ 0) (m % 2 ^ 0 + n % 2 ^ 0 + 1) (omega arith))
+first false m n = sym (lt-leb (2 ^ 0) (m % 2 ^ 0 + n % 2 ^ 0 + 0) (omega arith))
+
+-- with a carry into the lowest place
+pub carry_at : (c : Bool) (xs ys : List Bool) (i : ℕ) → length xs ≡ length ys → i < length xs → get_or (carry_bits c xs ys) i false ≡ nat_le (2 ^ i) (number xs % 2 ^ i + number ys % 2 ^ i + bit c)
+carry_at c [] ys i e h = absurd (omega (arith, h))
+carry_at c (x ∷ []) ys zero e h = first c (number (x ∷ [])) (number ys)
+carry_at c (x ∷ []) ys (suc i) e h = absurd (omega (arith, h))
+carry_at c (x ∷ x' ∷ xs) [] i e h = cc
+carry_at c (x ∷ x' ∷ xs) (y ∷ ys) zero e h = first c (number (x ∷ x' ∷ xs)) (number (y ∷ ys))
+carry_at c (x ∷ x' ∷ xs) (y ∷ ys) (suc i) e h =
+    let k : ℕ = 2 ^ i in
+    let d : 2 ^ suc i ≡ 2 * k = rw pow-suc (omega arith) in
+    let pos : 0 < k = pow_pos i in
+    let p : bit (flipped (flipped x y) c) + 2 * bit (majority x y c) ≡ bit x + bit y + bit c = place x y c in
+    let mx : number (x ∷ x' ∷ xs) % (2 * k) ≡ bit x + 2 * (number (x' ∷ xs) % k) = mod_double x (number (x' ∷ xs)) k pos in
+    let my : number (y ∷ ys) % (2 * k) ≡ bit y + 2 * (number ys % k) = mod_double y (number ys) k pos in
+    let total : bit (flipped (flipped x y) c) + 2 * (number (x' ∷ xs) % k + number ys % k + bit (majority x y c)) ≡ number (x ∷ x' ∷ xs) % (2 * k) + number (y ∷ ys) % (2 * k) + bit c = omega (arith, p, mx, my) in
+    carry_at (majority x y c) (x' ∷ xs) ys i (omega (arith, e)) (omega (arith, h))
+    ∙ (half_le k (number (x' ∷ xs) % k + number ys % k + bit (majority x y c)) (bit (flipped (flipped x y) c)) (bit_le (flipped (flipped x y) c))
+    ∙ (ap (λ m. nat_le (2 * k) m) total ∙ ap (λ m. nat_le m (number (x ∷ x' ∷ xs) % m + number (y ∷ ys) % m + bit c)) (sym d)))
 
 -- ---- bits of one length with one number are the same
 

@@ -1,6 +1,7 @@
 -- The rows that carry, add and subtract.
-use Rattle.std.proofs.Common.{◌≡◌, ℕ, suc, ◌+◌, ◌-◌, ◌^◌, ◌%◌, ◌≤◌, ◌<◌, Bool, true, false, ◌&&◌, ◌||◌, List, [], ◌∷◌, length, refl, sym, ap, ap₂, ◌∙◌, subst, arith}
+use Rattle.std.proofs.Common.{◌≡◌, ℕ, suc, ◌+◌, ◌-◌, ◌^◌, ◌%◌, ◌≤◌, ◌<◌, Bool, true, false, ◌&&◌, ◌||◌, List, [], ◌∷◌, length, get_or, add-zero, refl, sym, ap, ap₂, ◌∙◌, subst, arith}
 use Rattle.std.proofs.lemmas.List.{length-map}
+use Rattle.std.specs.Prelude.{nat_le}
 use Rattle.flat_core.specs.declared.step.WireId.{WireId}
 use Rattle.flat_core.specs.Form.{DraftForm}
 use Rattle.flat_core.specs.Label.{wire_id, same_wire}
@@ -11,14 +12,14 @@ use Rattle.bit_arith.specs.Built.{Built, Setting, Given, new_wire, new_wires, ne
 use Rattle.bit_arith.specs.Rows.{flip_up, flip_down, pairs, triples, carry_bit, carries, carry, sum_by, sum, difference, into_by, add_into, sub_into}
 use Rattle.bit_arith.specs.Calls.{Targets, no_target, Safe, AllSafe, among}
 use Rattle.bit_arith.specs.Values.{bit_of, bits_at, values_at}
-use Rattle.bit_arith.specs.Numbers.{number}
-use Rattle.bit_arith.specs.Does.{Fresh, Does, Below, Different, StaySafe, OwnWires, GivesNumber, Answers, Tells}
+use Rattle.bit_arith.specs.Numbers.{number, carries_into}
+use Rattle.bit_arith.specs.Does.{Fresh, Does, Below, Different, StaySafe, OwnWires, GivesNumber, GivesBits, Tells}
 use Rattle.bit_arith.proofs.Steps.{and_one, apart_below, Agree, bit_same, bits_same}
 use Rattle.bit_arith.proofs.Doing.{Guards, does_fresh, does_grown, does_none, does_weak, does_then, clean_above}
 use Rattle.bit_arith.proofs.Gathered.{beq_one, length-wire}
 use Rattle.bit_arith.proofs.Listed.{safe_one, safe_more, below_more, toggles, toggle_all, each_holds, places_hold, PlacesSafe, AllOff, values_same, all_off_none, by_does, up_does, down_does}
-use Rattle.bit_arith.proofs.Making.{length-wires, does_made, fresh_wires, length-from, among_from, among_past, different_from, below_from, new_from, safe_new, zeros, values_zero, safe_from, safe_next, bits_made, length-bits, length-values, negated_bit, negated_safe}
-use Rattle.bit_arith.proofs.Adder.{majority, carry_bits, sum_bits, nots, sum_number, difference_number}
+use Rattle.bit_arith.proofs.Making.{Answers, length-wires, does_made, fresh_wires, length-from, among_from, among_past, different_from, below_from, new_from, safe_new, zeros, values_zero, safe_from, safe_next, bits_made, length-bits, length-values, negated_bit, negated_safe}
+use Rattle.bit_arith.proofs.Adder.{majority, carry_bits, carry_at, sum_bits, nots, sum_number, difference_number}
 
 -- ---- carries
 
@@ -94,6 +95,19 @@ length-carries at c (p ∷ p' ∷ ps) (q ∷ qs) b e = ap suc (length-carries at
 pub length-carry : (at : Setting) (ps qs : List Operand) (b : Built) → length ps ≡ length qs → length (carry at ps qs b).answer ≡ length ps
 unfolding carry
 length-carry at ps qs b e = length-carries at (Const false) ps qs b e
+
+pub carry_bits_do : (at : Setting) (ps qs : List Operand) (b : Built) → Fresh b.draft → length ps ≡ length qs → Guards at (length b.draft.wires) no_target → AllSafe (length b.draft.wires) no_target ps → AllSafe (length b.draft.wires) no_target qs → GivesBits at b.draft (length ps) (carry at ps qs b) (λ i v. carries_into i (number (bits_at v ps)) (number (bits_at v qs)))
+carry_bits_do at ps qs b f e g sp sq =
+    let r = carry_does at ps qs b f e g sp sq in
+    record {
+      does = does_weak r.does (λ v u cl on ag cl' t i lt.
+          let h : i < length (bits_at v ps) = subst (λ n. i < n) (sym (length-bits v ps)) lt in
+          ap (λ bs. get_or bs i false) t
+          ∙ (carry_at false (bits_at v ps) (bits_at v qs) i (length-bits v ps ∙ (e ∙ sym (length-bits v qs))) h
+          ∙ ap (λ m. nat_le (2 ^ i) m) (add-zero (number (bits_at v ps) % 2 ^ i + number (bits_at v qs) % 2 ^ i))));
+      count = length-carry at ps qs b e;
+      safe = r.safe;
+    }
 
 -- ---- flips by two and by three operands
 

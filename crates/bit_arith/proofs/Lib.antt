@@ -15,4 +15,6 @@ pub mod Chained
 pub mod Fits
 pub mod Parts
 pub mod Gathers
+pub mod Halves
 pub mod Published
+mod Examples

@@ -13,12 +13,17 @@ use Rattle.bit_arith.specs.Built.{Built, Setting, Given, new_wire, new_wires, ne
 use Rattle.bit_arith.specs.Rows.{flip, flip_up, singles, copy, flip_each, both, either}
 use Rattle.bit_arith.specs.Calls.{Targets, no_target, Safe, AllSafe, among}
 use Rattle.bit_arith.specs.Values.{bit_of, all_hold, bits_at, values_at, flip_bits}
-use Rattle.bit_arith.specs.Does.{dropped_wires, Fresh, Grows, Does, NoneNew, AllNew, Below, Different, Copies, Tells}
+use Rattle.bit_arith.specs.Does.{dropped_wires, Fresh, Grows, Does, NoneNew, AllNew, Below, Different, StaySafe, Copies, Tells}
 use Rattle.bit_arith.proofs.Steps.{and_one, apart_below, apart_above}
 use Rattle.bit_arith.proofs.Doing.{Guards, length-dropped, does_fresh, does_grown, does_weak, does_then, clean_above}
 use Rattle.bit_arith.proofs.Gathered.{beq_one, flipped_zero, length-wire}
 use Rattle.bit_arith.proofs.Tidying.{flip_does, FlipIf}
 use Rattle.bit_arith.proofs.Listed.{safe_more, safe_under, toggle_all, places_hold, PlacesSafe, up_does}
+
+-- a row that answers operands, of whose bits Q tells, and changes no old wire
+pub record Answers (at : Setting) (d : DraftForm) (of : List Operand) (row : Given (List Operand)) (Q : Row → List Bool → Type 0) : Type 0 where
+  pub does : Does at d row.built.draft no_target (λ v u. Q v (bits_at u row.answer))
+  pub safe : StaySafe d row.built.draft of row.answer
 
 -- ---- new wires
 

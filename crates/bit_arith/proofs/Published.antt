@@ -4,18 +4,19 @@ use Rattle.flat_core.proofs.Labels.{label_after-none}
 use Rattle.bit_arith.specs.declared.operand.Operand.{Operand}
 use Rattle.bit_arith.specs.Built.{Built, Setting}
 use Rattle.bit_arith.specs.Calls.{Targets, AllSafe, no_target}
-use Rattle.bit_arith.specs.Laws.{CanRead, FlipsWhereAllHold, CopiesBits, FlipsEach, BothIsAnd, EitherIsOr, EqualTellsSame, LessTellsOrder, SumAdds, DifferenceSubtracts, ProductMultiplies, AddIntoAdds, SubIntoSubtracts, TurnTurns, ConjunctionTellsAll, FlipsKeepOneTerm, GrowthKeeps, DraftsAreFresh, NumbersTell}
+use Rattle.bit_arith.specs.Laws.{CanRead, FlipsWhereAllHold, CopiesBits, FlipsEach, BothIsAnd, EitherIsOr, EqualTellsSame, LessTellsOrder, CarryCarries, SumAdds, DifferenceSubtracts, ProductMultiplies, AddIntoAdds, SubIntoSubtracts, TurnTurns, ConjunctionTellsAll, HadSplits, MeasureMeasures, FlipsKeepOneTerm, GrowthKeeps, DraftsAreFresh, NumbersTell}
 use Rattle.bit_arith.proofs.Steps.{after_kept}
 use Rattle.bit_arith.proofs.Doing.{Guards, grows_fresh, grows_clean}
 use Rattle.bit_arith.proofs.Tidying.{flip_does}
 use Rattle.bit_arith.proofs.Listed.{guards_under, rest_under}
 use Rattle.bit_arith.proofs.Making.{copy_does, flip_each_does, both_does, either_does}
-use Rattle.bit_arith.proofs.Carrying.{sum_does, difference_does, add_into_does, sub_into_does}
+use Rattle.bit_arith.proofs.Carrying.{carry_bits_do, sum_does, difference_does, add_into_does, sub_into_does}
 use Rattle.bit_arith.proofs.Orders.{same_bits_numbers}
 use Rattle.bit_arith.proofs.Adder.{number_below, low_number, number_low}
 use Rattle.bit_arith.proofs.Tests.{safe_left, safe_right, equal_does, less_does}
 use Rattle.bit_arith.proofs.Multiples.{product_does}
 use Rattle.bit_arith.proofs.Phases.{flips_one, turn_does, conjunction_is}
+use Rattle.bit_arith.proofs.Halves.{had_does, measure_does}
 
 module _ {at : Setting} {b : Built} {T : Targets} {ps : List Operand} (r : CanRead at b T ps) where
   guards : Guards at (length b.draft.wires) T
@@ -51,6 +52,9 @@ equal_tells_same at ps qs b r e = equal_does at ps qs b r.fresh e (guards r) (le
 pub less_tells_order : LessTellsOrder
 less_tells_order at with_sign ps qs b r e = less_does at with_sign ps qs b r.fresh e (guards r) (left ps qs r) (right ps qs r)
 
+pub carry_carries : CarryCarries
+carry_carries at ps qs b r e = carry_bits_do at ps qs b r.fresh e (guards r) (left ps qs r) (right ps qs r)
+
 pub sum_adds : SumAdds
 sum_adds at ps qs b r e = sum_does at ps qs b r.fresh e (guards r) (left ps qs r) (right ps qs r)
 
@@ -71,6 +75,12 @@ turn_turns at k ps b r = turn_does at k ps b r.fresh r.safe
 
 pub conjunction_tells_all : ConjunctionTellsAll
 conjunction_tells_all at ps b f s = conjunction_is at ps b f s
+
+pub had_splits : HadSplits
+had_splits at w b lt = had_does at w b lt
+
+pub measure_measures : MeasureMeasures
+measure_measures at w b = measure_does at w b
 
 pub flips_keep_one_term : FlipsKeepOneTerm
 flips_keep_one_term outcome steps t h = flips_one outcome steps t h

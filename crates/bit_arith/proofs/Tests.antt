@@ -12,13 +12,13 @@ use Rattle.bit_arith.specs.Rows.{flip_by, alone, carry_bit, signed, differ_as, d
 use Rattle.bit_arith.specs.Calls.{Targets, no_target, Safe, AllSafe}
 use Rattle.bit_arith.specs.Values.{bit_of, all_hold, bits_at, Clean}
 use Rattle.bit_arith.specs.Numbers.{number, signed_value, is_below}
-use Rattle.bit_arith.specs.Does.{Fresh, Does, Answers, Tells}
+use Rattle.bit_arith.specs.Does.{Fresh, Does, Tells}
 use Rattle.bit_arith.proofs.Steps.{and_one, apart_below, bit_same, bits_same}
 use Rattle.bit_arith.proofs.Doing.{Guards, does_fresh, does_grown, does_none, does_weak, does_then, clean_above}
 use Rattle.bit_arith.proofs.Gathered.{beq_one, length-wire}
 use Rattle.bit_arith.proofs.Tidying.{read_bit}
 use Rattle.bit_arith.proofs.Listed.{safe_one, safe_more, toggles, each_holds, by_does}
-use Rattle.bit_arith.proofs.Making.{does_made, fresh_wires, safe_next, length-bits, negated_bit, negated_safe, conjunction_does}
+use Rattle.bit_arith.proofs.Making.{Answers, does_made, fresh_wires, safe_next, length-bits, negated_bit, negated_safe, conjunction_does}
 use Rattle.bit_arith.proofs.Adder.{majority, carry_out, nots}
 use Rattle.bit_arith.proofs.Carrying.{carry_bit_does}
 use Rattle.bit_arith.proofs.Orders.{below_is, top_not, length-top, signed_below}

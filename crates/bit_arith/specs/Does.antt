@@ -1,12 +1,13 @@
 -- What the steps of a row do to the values of wires.
-use Rattle.std.specs.Prelude.{◌≡◌, ℕ, zero, suc, ◌+◌, ◌%◌, ◌<◌, ◌≤◌, Bool, true, false, cond, ◌&&◌, List, [], ◌∷◌, ◌++◌, length, ⊤}
+use Rattle.std.specs.Prelude.{◌≡◌, ℕ, zero, suc, ◌+◌, ◌%◌, ◌<◌, ◌≤◌, Bool, true, false, cond, ◌&&◌, List, [], ◌∷◌, ◌++◌, length, get_or, ⊤}
+use Rattle.std.specs.Bool.{beq}
 use Rattle.flat_core.specs.declared.step.Step.{Step}
 use Rattle.flat_core.specs.declared.step.WireId.{WireId}
 use Rattle.flat_core.specs.declared.step.End.TheVariants.{Dropped}
 use Rattle.flat_core.specs.Form.{DraftForm, WireForm}
-use Rattle.flat_core.specs.Label.{label_after}
+use Rattle.flat_core.specs.Label.{same_wire, label_after}
 use Rattle.flat_core.specs.Sound.{is_x}
-use Rattle.flat_mean.specs.Row.{Row, next}
+use Rattle.flat_mean.specs.Row.{Row, put, next}
 use Rattle.flat_mean.specs.Terms.{Term, do_steps}
 use Rattle.bit_arith.specs.declared.operand.Operand.{Operand}
 use Rattle.bit_arith.specs.Built.{Setting, Given, all_made}
@@ -92,17 +93,18 @@ pub record GivesNumber (at : Setting) (d : DraftForm) (n : ℕ) (row : Given (Li
   pub own : OwnWires d row.built.draft row.answer
   pub safe : StaySafe d row.built.draft [] row.answer
 
--- a row that answers operands, of whose bits Q tells, and changes no old wire
-pub record Answers (at : Setting) (d : DraftForm) (of : List Operand) (row : Given (List Operand)) (Q : Row → List Bool → Type 0) : Type 0 where
-  pub does : Does at d row.built.draft no_target (λ v u. Q v (bits_at u row.answer))
-  pub safe : StaySafe d row.built.draft of row.answer
+-- a row that answers n operands, of which operand i shows f i of the row before, and changes no old wire
+pub record GivesBits (at : Setting) (d : DraftForm) (n : ℕ) (row : Given (List Operand)) (f : ℕ → Row → Bool) : Type 0 where
+  pub does : Does at d row.built.draft no_target (λ v u. (i : ℕ) → i < n → get_or (bits_at u row.answer) i false ≡ f i v)
+  pub count : length row.answer ≡ n
+  pub safe : StaySafe d row.built.draft [] row.answer
 
 -- a row that answers one operand, whose bit is f of the row before, and changes no old wire
 pub record Tells (at : Setting) (d : DraftForm) (of : List Operand) (row : Given Operand) (f : Row → Bool) : Type 0 where
   pub does : Does at d row.built.draft no_target (λ v u. bit_of u row.answer ≡ f v)
   pub safe : (T : Targets) → NoneNew d T → AllSafe (length d.wires) T of → Safe (length row.built.draft.wires) T row.answer
 
--- ---- phases and conjunctions
+-- ---- phases, conjunctions, Hadamard gates and measures
 
 -- steps that turn a term by k eighths where the condition in force and the operands hold, and change no old wire
 pub record Turns (at : Setting) (k : ℕ) (ps : List Operand) (d e : DraftForm) : Type 0 where
@@ -124,3 +126,20 @@ pub record Conjoins (ps : List Operand) (d : DraftForm) (row : Given Operand) : 
   pub still : (v : Row) → Clean d v → front_holds v ps ≡ false → after new v ≡ v
   pub gives : (v : Row) → Clean d v → bit_of (after new v) row.answer ≡ all_hold v ps
   pub safe : (T : Targets) → NoneNew d T → AllSafe (length d.wires) T ps → Safe (length row.built.draft.wires) T row.answer
+
+-- a term with a wire's value replaced, over root two; the sign turns where the value is 1 before and after
+abbrev pub half : Term → WireId → Bool → Term
+half t w k = record { row = put w.number k t.row; halvings = t.halvings + 1; eighths = t.eighths + cond (t.row w.number && k) 4 0 }
+
+-- steps that split a term in two where the condition in force holds, and else leave it as it is
+pub record Splits (at : Setting) (w : WireId) (d e : DraftForm) : Type 0 where
+  pub new : List Step
+  pub grows : Grows d e (same_wire w) new
+  pub still : (outcome : ℕ → Bool) (t : Term) → forced at t.row ≡ false → do_steps outcome new (t ∷ []) ≡ t ∷ []
+  pub gives : (outcome : ℕ → Bool) (t : Term) → forced at t.row ≡ true → do_steps outcome new (t ∷ []) ≡ half t w false ∷ half t w true ∷ []
+
+-- steps that keep a term where a wire's value is outcome bit n, and else drop it
+pub record Measures (w : WireId) (n : ℕ) (d e : DraftForm) : Type 0 where
+  pub new : List Step
+  pub grows : Grows d e no_target new
+  pub gives : (outcome : ℕ → Bool) (t : Term) → do_steps outcome new (t ∷ []) ≡ cond (beq (t.row w.number) (outcome n)) (t ∷ []) []

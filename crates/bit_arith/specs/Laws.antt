@@ -5,16 +5,17 @@ use Rattle.flat_core.specs.declared.step.Step.{Step}
 use Rattle.flat_core.specs.declared.step.WireId.{WireId}
 use Rattle.flat_core.specs.Form.{DraftForm}
 use Rattle.flat_core.specs.Label.{same_wire, label_after}
+use Rattle.flat_core.specs.Sound.{count_measures}
 use Rattle.flat_core.specs.Drafts.{IsDraft}
 use Rattle.flat_mean.specs.Row.{Row, flipped}
 use Rattle.flat_mean.specs.Terms.{Term, do_steps}
 use Rattle.bit_arith.specs.declared.operand.Operand.{Operand}
 use Rattle.bit_arith.specs.Built.{Built, Setting, under}
-use Rattle.bit_arith.specs.Rows.{flip, conjunction, turn, copy, flip_each, sum, difference, add_into, sub_into, product, both, either, equal, less}
+use Rattle.bit_arith.specs.Rows.{flip, conjunction, turn, had, measure, copy, flip_each, carry, sum, difference, add_into, sub_into, product, both, either, equal, less}
 use Rattle.bit_arith.specs.Calls.{Targets, AllSafe, among, no_target}
 use Rattle.bit_arith.specs.Values.{bit_of, bits_at, values_at, flip_bits, all_hold, Clean}
-use Rattle.bit_arith.specs.Numbers.{number, low_bits, is_below}
-use Rattle.bit_arith.specs.Does.{after, AllX, Fresh, Grows, Does, Below, Different, Copies, GivesNumber, Tells, Turns, Conjoins}
+use Rattle.bit_arith.specs.Numbers.{number, low_bits, carries_into, is_below}
+use Rattle.bit_arith.specs.Does.{after, AllX, Fresh, Grows, Does, Below, Different, Copies, GivesNumber, GivesBits, Tells, Turns, Conjoins, Splits, Measures}
 
 -- ---- what the laws ask for
 
@@ -75,6 +76,11 @@ LessTellsOrder =
 
 -- ---- sums, differences and products modulo 2^n
 
+abbrev pub CarryCarries : Type 0
+CarryCarries =
+    (at : Setting) (ps qs : List Operand) (b : Built) → CanRead at b no_target (ps ++ qs) → length ps ≡ length qs
+    → GivesBits at b.draft (length ps) (carry at ps qs b) (λ i v. carries_into i (number (bits_at v ps)) (number (bits_at v qs)))
+
 abbrev pub SumAdds : Type 0
 SumAdds =
     (at : Setting) (ps qs : List Operand) (b : Built) → CanRead at b no_target (ps ++ qs) → length ps ≡ length qs
@@ -112,6 +118,15 @@ abbrev pub ConjunctionTellsAll : Type 0
 ConjunctionTellsAll =
     (at : Setting) (ps : List Operand) (b : Built) → Fresh b.draft → AllSafe (length b.draft.wires) no_target ps
     → Conjoins ps b.draft (conjunction at ps b)
+
+-- ---- Hadamard gates and measures
+
+abbrev pub HadSplits : Type 0
+HadSplits = (at : Setting) (w : WireId) (b : Built) → w.number < length b.draft.wires → Splits at w b.draft (had at w b).draft
+
+-- a measure has the next outcome number
+abbrev pub MeasureMeasures : Type 0
+MeasureMeasures = (at : Setting) (w : WireId) (b : Built) → Measures w (count_measures b.draft.steps) b.draft (measure at w b).draft
 
 -- ---- steps and drafts
 

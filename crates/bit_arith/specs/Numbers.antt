@@ -1,5 +1,5 @@
 -- Numbers and their bits, low bit first.
-use Rattle.std.specs.Prelude.{ℕ, zero, suc, ◌+◌, ◌-◌, ◌*◌, ◌^◌, ◌/◌, ◌%◌, Bool, true, false, ◌==◌, if◌then◌else◌, nat_lt, int_lt, List, [], ◌∷◌, ℤ, pos, ◌-ℤ◌}
+use Rattle.std.specs.Prelude.{ℕ, zero, suc, ◌+◌, ◌-◌, ◌*◌, ◌^◌, ◌/◌, ◌%◌, Bool, true, false, ◌==◌, if◌then◌else◌, nat_lt, nat_le, int_lt, List, [], ◌∷◌, ℤ, pos, ◌-ℤ◌}
 
 -- the number of a list of bits
 abbrev pub number : List Bool → ℕ
@@ -10,6 +10,10 @@ number (b ∷ bs) = (if b then 1 else 0) + 2 * number bs
 abbrev pub low_bits : ℕ → ℕ → List Bool
 low_bits zero a = []
 low_bits (suc n) a = (a % 2 == 1) ∷ low_bits n (a / 2)
+
+-- whether a + b carries into a place: the sum of the bits below it does not fit below it
+abbrev pub carries_into : ℕ → ℕ → ℕ → Bool
+carries_into place a b = nat_le (2 ^ place) (a % 2 ^ place + b % 2 ^ place)
 
 -- the value by two's complement of a number of n bits
 abbrev pub signed_value : ℕ → ℕ → ℤ

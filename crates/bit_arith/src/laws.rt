@@ -1,6 +1,6 @@
 //! What each row of steps does to the values of wires, each law a contract over the definitions alone.
 
-ghost use Rattle.bit_arith.specs.Laws.{FlipsWhereAllHold, CopiesBits, FlipsEach, BothIsAnd, EitherIsOr, EqualTellsSame, LessTellsOrder, SumAdds, DifferenceSubtracts, ProductMultiplies, AddIntoAdds, SubIntoSubtracts, TurnTurns, ConjunctionTellsAll, FlipsKeepOneTerm, GrowthKeeps, DraftsAreFresh, NumbersTell};
+ghost use Rattle.bit_arith.specs.Laws.{FlipsWhereAllHold, CopiesBits, FlipsEach, BothIsAnd, EitherIsOr, EqualTellsSame, LessTellsOrder, CarryCarries, SumAdds, DifferenceSubtracts, ProductMultiplies, AddIntoAdds, SubIntoSubtracts, TurnTurns, ConjunctionTellsAll, HadSplits, MeasureMeasures, FlipsKeepOneTerm, GrowthKeeps, DraftsAreFresh, NumbersTell};
 
 /// `flip` flips its target where the condition in force and all operands hold, and else changes nothing.
 pub fn flips_where_all_hold()
@@ -37,6 +37,11 @@ pub fn less_tells_order()
     ensures { LessTellsOrder }
 {}
 
+/// `carry` answers the carries into the places of a sum.
+pub fn carry_carries()
+    ensures { CarryCarries }
+{}
+
 /// `sum` adds modulo 2^n, on new wires.
 pub fn sum_adds()
     ensures { SumAdds }
@@ -70,6 +75,16 @@ pub fn turn_turns()
 /// `and` answers whether all operands hold, and changes nothing where the first does not.
 pub fn conjunction_tells_all()
     ensures { ConjunctionTellsAll }
+{}
+
+/// `had` makes two terms of each term where the condition in force holds.
+pub fn had_splits()
+    ensures { HadSplits }
+{}
+
+/// `measure` keeps the terms that agree with its outcome bit.
+pub fn measure_measures()
+    ensures { MeasureMeasures }
 {}
 
 /// X steps make one term of each term, with the row after them.
