@@ -1,3 +1,4 @@
 pub mod Samples
 pub mod Kept
 pub mod Later
+pub mod Giving
