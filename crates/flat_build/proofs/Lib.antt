@@ -2,3 +2,4 @@ pub mod Samples
 pub mod Kept
 pub mod Later
 pub mod Giving
+pub mod Goods

@@ -1,0 +1,297 @@
+-- What holds of each state of flattening is kept by each effect.
+use Rattle.std.proofs.Common.{◌≡◌, ℕ, zero, suc, ◌+◌, ◌*◌, ◌≤◌, ◌<◌, Bool, true, false, cond, not, ◌&&◌, ◌||◌, List, [], ◌∷◌, ◌++◌, length, take, drop, reverse, Option, Some, None, ℤ, nat_abs, refl, sym, ap, ap₂, ◌∙◌, subst, arith, ◌⊎◌, inl, inr}
+use Rattle.std.proofs.lemmas.Bool.{cases_Bool}
+use Rattle.silq_tree.specs.declared.node.NameId.{NameId}
+use Rattle.silq_tree.specs.declared.node.UnaryOp.{UnaryOp}
+use Rattle.silq_tree.specs.declared.node.BinaryOp.{BinaryOp}
+use Rattle.silq_tree.specs.declared.node.UpdateOp.{UpdateOp}
+use Rattle.silq_tree.specs.declared.node.UpdateOp.TheVariants as updates
+use Rattle.silq_types.specs.declared.types.Shape.{Shape}
+use Rattle.silq_types.specs.declared.types.Shape.TheVariants.{Bit}
+use Rattle.silq_types.specs.Types.{shape_bits, is_scalar}
+use Rattle.check_scope.specs.declared.need.Need.{Need}
+use Rattle.check_scope.specs.Uses.{is_consumed}
+use Rattle.silq_mean.specs.Env.{Env, found, in_its_block}
+use Rattle.silq_mean.specs.Effect.{Effect, nothing, ◌>>◌, statement, step, mix, measure as measured, claim, choice, Step, give_static, give_typed, give_part, one_operand, two_operands, copy_last, repeat_last, flip_last, turn_by, turn_all, receive, assign_to, assign_in_turn, update_to, end_name, end_compared, enter_block, leave_block, enter_body, leave_body, Receiver, variable, parameter, result, output}
+use Rattle.flat_core.specs.declared.step.WireId.{WireId}
+use Rattle.flat_core.specs.declared.step.End.{End}
+use Rattle.flat_core.specs.declared.step.End.TheVariants.{Measured, Zeroed}
+use Rattle.flat_core.specs.Form.{DraftForm}
+use Rattle.flat_core.specs.Label.{same_wire}
+use Rattle.bit_arith.specs.declared.operand.Operand.{Operand}
+use Rattle.bit_arith.specs.declared.operand.Operand.TheVariants.{Const, Literal}
+use Rattle.bit_arith.specs.Built.{Built, Setting, Given, new_wire, next_wire, made, negated, read, under}
+use Rattle.bit_arith.specs.Rows.{flip, turn, had, flip_each, add_into, sub_into}
+use Rattle.bit_arith.specs.Calls.{Targets, no_target, among, Safe, AllSafe, AreTargets, WasRead}
+use Rattle.bit_arith.specs.Does.{Fresh, Does, Turns, Below, Different}
+use Rattle.bit_arith.proofs.Steps.{or_false}
+use Rattle.bit_arith.proofs.Doing.{Guards}
+use Rattle.bit_arith.proofs.Listed.{safe_more, safe_under, below_more, same_wire_swap}
+use Rattle.bit_arith.proofs.Making.{flip_each_does, negated_safe, safe_next, fresh_wires, does_wires}
+use Rattle.bit_arith.proofs.Tidying.{flip_does}
+use Rattle.bit_arith.proofs.Carrying.{add_into_does, sub_into_does}
+use Rattle.bit_arith.proofs.Phases.{turn_does}
+use Rattle.flat_build.specs.State.{Shown, Known, static, shown, lent, absent, Caller, Flattening, push, first, last, drop_last, wires_so_far, build, operands_of, typed, typed_as, typed_like, part_shape, part_start, part_of, with_part, are_wires, are_new, as_they_are, copied, taken, kept, wires_in, only_wire, only_operand}
+use Rattle.flat_build.specs.Flat.{give, on_one, on_two, on_two_typed, began_at, as_operand, by_one, by_two, shape_by, shape_by_one, give_copy, give_repeated, array_of, repeated, on_wire, on_last_wire, turn_both, end_all, measure_all, measure_value, shape_for, taken_for, class_for, receive_value, bind, known_in, part_used, use_part, moved, after_use, use_variable, assigned, bind_all, paired, update_by, update_variable, zero_variable, enter, back_to, flat_step, count_statement, on_line, as_condition, entered, enter_branch, chosen_by, first_branch, second_branch, flat, under as with_condition}
+use Rattle.flat_build.specs.Names.{AllOf, AllEnv, CallerOf, AllKnown, Spares}
+use Rattle.flat_build.specs.Good.{IsShown, IsKnown, Good}
+use Rattle.flat_build.specs.Fine.{Distinct, IsOf, IsPart, MayChange, KeepsWires, MayTake, IsBit, MayTurn, MayMeasure, IsUpdated, without_part, UpdatesPart, MayUpdate, MayClaim, FitsOne, FitsTwo, MayJoin, IsStatic, IsAny, IsTaken, WasLent, IsLent, MayAssign, MayUse, FineStep, FineEnds, Fine}
+use Rattle.flat_build.proofs.Kept.{known_more, shown_more, all_map, all_take, all_drop, all_reverse, found_all, bound_all, its_all, bind_all_all, paired_all, known_last, known_name, known_push, known_drop, known_bind, known_its, known_in_turn, known_enter_block, known_leave_block, known_enter, known_back, all_known_more, safe_spared}
+use Rattle.flat_build.proofs.Later.{Later, later_same, later_then, later_does, later_grows, later_fresh, later_read, later_used, later_end_all, later_had, later_measure_all}
+use Rattle.flat_build.proofs.Giving.{Gives, gives_size, gives_copied, gives_one, gives_two, length-repeated, safe_repeated, array_bits, Takes, takes_taken, GivesWires, wires_copied, wires_taken, wires_kept, typed_known, typed_as_known, typed_like_known, typed_as_safe, typed_like_safe, as_operand_known, size_of, length-part, safe_part, wires_part, length-with, safe_with, wires_with, length-in, below_in, only_below, only_safe}
+
+-- ---- variables own their wires
+
+-- what a variable shows is on wires that it may give away
+abbrev pub IsOwned : Known → Type 0
+IsOwned (static z) = Unit {0}
+IsOwned (shown v) = v.own ≡ true
+IsOwned (lent start size v) = v.own ≡ true
+IsOwned absent = Unit {0}
+
+pub record Owned (s : Flattening) : Type 0 where
+  pub env : AllEnv IsOwned s.env
+  pub callers : AllOf (λ (c : Caller). AllEnv IsOwned c.env) s.callers
+
+-- ---- states one after the other
+
+-- a later state with the same line and condition, of which the same holds
+pub record Goes (s u : Flattening) : Type 0 where
+  pub later : Later s.built.draft u.built.draft
+  pub setting : u.setting ≡ s.setting
+  pub good : Good u
+  pub owned : Owned u
+
+pub goes_then : (s t u : Flattening) → Goes s t → Goes t u → Goes s u
+goes_then s t u a b = record {
+  later = later_then s.built.draft t.built.draft u.built.draft a.later b.later;
+  setting = b.setting ∙ a.setting;
+  good = b.good;
+  owned = b.owned;
+}
+
+-- what is built goes on, and what is then known is there
+goes_on : (s u : Flattening) → Good s → Later s.built.draft u.built.draft → u.setting ≡ s.setting → AllKnown (IsKnown (length u.built.draft.wires)) u → Owned u → Goes s u
+goes_on s u g q e k o = record {
+  later = q;
+  setting = e;
+  good = record {
+      fresh = later_fresh s.built.draft u.built.draft q g.fresh;
+      known = k;
+      condition = subst (λ (at : Setting). AllSafe (length u.built.draft.wires) no_target (under at [])) (sym e)
+          (safe_more (length s.built.draft.wires) (length u.built.draft.wires) no_target no_target (under s.setting []) q.longer (λ w lt t. t) g.condition);
+      read = subst (λ (at : Setting). WasRead u.built.draft at.condition) (sym e) (later_read s.built.draft u.built.draft q g.fresh s.setting.condition g.read);
+    };
+  owned = o;
+}
+
+-- nothing is built
+goes_still : (s u : Flattening) → Good s → u.built ≡ s.built → u.setting ≡ s.setting → AllKnown (IsKnown (length s.built.draft.wires)) u → Owned u → Goes s u
+goes_still s u g b e k o =
+    goes_on s u g (subst (λ (x : Built). Later s.built.draft x.draft) (sym b) (later_same s.built.draft)) e
+    (subst (λ (x : Built). AllKnown (IsKnown (length x.draft.wires)) u) (sym b) k) o
+
+-- other steps alone
+goes_build : (b : Built) (s : Flattening) → Good s → Owned s → Later s.built.draft b.draft → Goes s (build b s)
+goes_build b s g o q = goes_on s (build b s) g q refl k record { env = o.env; callers = o.callers }
+  where
+    more : AllKnown (IsKnown (length b.draft.wires)) s
+    more = all_known_more (length s.built.draft.wires) (length b.draft.wires) s q.longer g.known
+
+    k : AllKnown (IsKnown (length b.draft.wires)) (build b s)
+    k = record { env = more.env; values = more.values; callers = more.callers }
+
+goes_push : (k : Known) (s : Flattening) → Good s → Owned s → IsKnown (length s.built.draft.wires) k → Goes s (push k s)
+goes_push k s g o h = goes_still s (push k s) g refl refl (known_push (IsKnown (length s.built.draft.wires)) k s h g.known) (record { env = o.env; callers = o.callers })
+
+goes_drop : (s : Flattening) → Good s → Owned s → Goes s (drop_last s)
+goes_drop s g o = goes_still s (drop_last s) g refl refl (known_drop (IsKnown (length s.built.draft.wires)) s g.known) (record { env = o.env; callers = o.callers })
+
+-- a row's answer becomes the last value
+goes_give : (classical : Bool) (t : Shape) (own : Bool) (began : ℕ) (row : Given (List Operand)) (s : Flattening) → Good s → Owned s → Gives s.built.draft (shape_bits t) row → (own ≡ true → are_wires row.answer ≡ true) → Goes s (give classical t own began row s)
+goes_give classical t own began row s g o r w =
+    let q : Goes s (build row.built s) = goes_build row.built s g o r.later in
+    goes_then s (build row.built s) (give classical t own began row s) q
+    (goes_push (shown (record { classical = classical; shape = t; operands = row.answer; own = own; began = began })) (build row.built s) q.good q.owned
+    (record { size = r.size; there = r.there; wires = w }))
+
+last_known : (s : Flattening) → Good s → IsKnown (length s.built.draft.wires) (last s)
+last_known s g = known_last (IsKnown (length s.built.draft.wires)) s tt g.known
+
+name_known : (s : Flattening) (x : NameId) → Good s → IsKnown (length s.built.draft.wires) (known_in s x)
+name_known s x g = known_name (IsKnown (length s.built.draft.wires)) s x tt g.known
+
+no_own : {A : Type 0} → false ≡ true → A
+no_own e = absurd cc
+
+-- ---- operators
+
+goes_one : (op : UnaryOp) (k : Known) (s : Flattening) → Good s → Owned s → IsKnown (length s.built.draft.wires) k → IsOf (λ v. FitsOne op v.shape) k → Goes s (on_one op k s)
+goes_one op (static z) s g o h f = absurd f
+goes_one op (lent start size v) s g o h f = absurd f
+goes_one op absent s g o h f = absurd f
+goes_one op (shown v) s g o h f =
+    goes_give v.classical (shape_by_one op v.shape) false v.began (by_one op s.setting v.operands s.built) s g o (gives_one op s.setting v s.built g.fresh g.condition h f) (λ e. no_own e)
+
+goes_two_typed : (op : BinaryOp) (began : ℕ) (k l : Known) (s : Flattening) → Good s → Owned s → IsKnown (length s.built.draft.wires) k → IsKnown (length s.built.draft.wires) l → IsOf (λ v. IsOf (λ w. (v.shape ≡ w.shape) × FitsTwo op v.shape) l) k → Goes s (on_two_typed op began k l s)
+goes_two_typed op began (static z) l s g o h i f = absurd f
+goes_two_typed op began (lent start size v) l s g o h i f = absurd f
+goes_two_typed op began absent l s g o h i f = absurd f
+goes_two_typed op began (shown v) (static z) s g o h i f = absurd f
+goes_two_typed op began (shown v) (lent start size w) s g o h i f = absurd f
+goes_two_typed op began (shown v) absent s g o h i f = absurd f
+goes_two_typed op began (shown v) (shown w) s g o h i f =
+    goes_give (v.classical && w.classical) (shape_by op v.shape) false began (by_two op v.shape s.setting v.operands w.operands s.built) s g o
+    (gives_two op v.shape s.setting v.operands w.operands s.built g.fresh g.condition h.there i.there h.size (i.size ∙ sym (ap shape_bits f.0)) f.1) (λ e. no_own e)
+
+goes_two : (op : BinaryOp) (k l : Known) (s : Flattening) → Good s → Owned s → IsKnown (length s.built.draft.wires) k → IsKnown (length s.built.draft.wires) l → MayJoin op k l → Goes s (on_two op k l s)
+goes_two op k l s g o h i f =
+    goes_two_typed op (began_at k l) (as_operand l k) (as_operand k l) s g o (as_operand_known (length s.built.draft.wires) l k h) (as_operand_known (length s.built.draft.wires) k l i) f
+
+goes_copy : (k : Known) (s : Flattening) → Good s → Owned s → IsKnown (length s.built.draft.wires) k → IsAny k → Goes s (give_copy k s)
+goes_copy (static z) s g o h f = absurd f
+goes_copy (lent start size v) s g o h f = absurd f
+goes_copy absent s g o h f = absurd f
+goes_copy (shown v) s g o h f =
+    goes_give false v.shape false v.began (copied s.setting v.operands s.built) s g o
+    (gives_size s.built.draft (length v.operands) (shape_bits v.shape) (copied s.setting v.operands s.built) h.size (gives_copied s.setting v.operands s.built g.fresh g.condition h.there)) (λ e. no_own e)
+
+goes_repeated : (k l : Known) (s : Flattening) → Good s → Owned s → IsKnown (length s.built.draft.wires) l → IsStatic k × IsOf (λ v. is_scalar v.shape ≡ true) l → Goes s (give_repeated k l s)
+goes_repeated (shown v) l s g o h f = absurd f.0
+goes_repeated (lent start size v) l s g o h f = absurd f.0
+goes_repeated absent l s g o h f = absurd f.0
+goes_repeated (static z) (static y) s g o h f = absurd f.1
+goes_repeated (static z) (lent start size v) s g o h f = absurd f.1
+goes_repeated (static z) absent s g o h f = absurd f.1
+goes_repeated (static z) (shown v) s g o h f =
+    let ps : List Operand = repeated (nat_abs z) v.operands in
+    let e : length ps ≡ shape_bits (array_of v.shape (nat_abs z)) =
+    length-repeated (nat_abs z) v.operands ∙ (ap (λ m. m * nat_abs z) h.size ∙ array_bits v.shape (nat_abs z) f.1) in
+    goes_give false (array_of v.shape (nat_abs z)) false v.began (copied s.setting ps s.built) s g o
+    (gives_size s.built.draft (length ps) (shape_bits (array_of v.shape (nat_abs z))) (copied s.setting ps s.built) e
+    (gives_copied s.setting ps s.built g.fresh g.condition (safe_repeated (length s.built.draft.wires) no_target (nat_abs z) v.operands h.there))) (λ e. no_own e)
+
+-- ---- gates
+
+-- steps on one wire that the condition in force is not on
+abbrev IsGate : (Setting → WireId → Built → Built) → Type 0
+IsGate gate = (at : Setting) (w : WireId) (b : Built) → Fresh b.draft → w.number < length b.draft.wires → Guards at (length b.draft.wires) no_target → AllSafe (length b.draft.wires) (same_wire w) (under at []) → Later b.draft (gate at w b).draft
+
+-- what may be taken and changed of the last value
+takes_last : (s : Flattening) (v : Shown) → Good s → IsShown (length s.built.draft.wires) v → MayTake v s → Takes s.setting s.built.draft (length v.operands) (taken s.setting v s.built)
+takes_last s v g h m = takes_taken s.setting v s.built g.fresh g.condition h (λ k. (m k).condition)
+
+only_guard : (n : ℕ) (ps : List Operand) (cs : List Operand) → are_wires ps ≡ true → length ps ≡ 1 → AllSafe n (among (wires_in ps)) cs → AllSafe n (same_wire (only_wire ps)) cs
+only_guard n [] cs h e s = cc
+only_guard n (Const b ∷ ps) cs h e s = cc
+only_guard n (Literal l ∷ []) cs h e s = safe_more n n (among (l.wire ∷ [])) (same_wire l.wire) cs (omega arith) (λ w lt t. same_wire_swap w l.wire (or_false (same_wire w l.wire) false t).0) s
+only_guard n (Literal l ∷ p ∷ ps) cs h e s = absurd (omega (arith, e))
+
+takes_wires : {at : Setting} {d : DraftForm} {n : ℕ} {row : Given (List Operand)} → Takes at d n row → Gives d n row
+takes_wires t = t.gives
+
+goes_wire : (gate : Setting → WireId → Built → Built) → IsGate gate → (k : Known) (s t : Flattening) → t ≡ drop_last s → Good s → Owned s → IsKnown (length s.built.draft.wires) k → IsOf (λ v. (v.shape ≡ Bit) × MayTake v s) k → Goes s (on_wire gate k (drop_last s))
+goes_wire gate ok (static z) s t x g o h f = absurd f
+goes_wire gate ok (lent start size v) s t x g o h f = absurd f
+goes_wire gate ok absent s t x g o h f = absurd f
+goes_wire gate ok (shown v) s t x g o h f =
+    let n : ℕ = length s.built.draft.wires in
+    let row : Given (List Operand) = taken s.setting v s.built in
+    let r : Takes s.setting s.built.draft (length v.operands) row = takes_last s v g h f.1 in
+    let m : ℕ = length row.built.draft.wires in
+    let up : n ≤ m = r.gives.later.longer in
+    let one : length row.answer ≡ 1 = r.gives.size ∙ (h.size ∙ ap shape_bits f.0) in
+    let q : Later row.built.draft (gate s.setting (only_wire row.answer) row.built).draft =
+    ok s.setting (only_wire row.answer) row.built (later_fresh s.built.draft row.built.draft r.gives.later g.fresh)
+    (only_below m no_target row.answer r.wires one r.gives.there)
+    (safe_more n m no_target no_target (under s.setting []) up (λ w lt e. e) g.condition)
+    (only_guard m row.answer (under s.setting []) r.wires one r.guards) in
+    let d : Goes s (drop_last s) = goes_drop s g o in
+    goes_then s (drop_last s) (on_wire gate (shown v) (drop_last s)) d
+    (goes_give false v.shape true v.began (record { answer = row.answer; built = gate s.setting (only_wire row.answer) row.built }) (drop_last s) d.good d.owned
+    (record {
+      later = later_then s.built.draft row.built.draft (gate s.setting (only_wire row.answer) row.built).draft r.gives.later q;
+      size = r.gives.size ∙ h.size;
+      there = safe_more m (length (gate s.setting (only_wire row.answer) row.built).draft.wires) no_target no_target row.answer q.longer (λ w lt e. e) r.gives.there;
+    })
+    (λ e. r.wires))
+
+goes_gate : (gate : Setting → WireId → Built → Built) → IsGate gate → (s : Flattening) → Good s → Owned s → MayTurn s → Goes s (on_last_wire gate s)
+goes_gate gate ok s g o f = goes_wire gate ok (last s) s (drop_last s) refl g o (last_known s g) f
+
+later_flip : (at : Setting) (w : WireId) (b : Built) → Fresh b.draft → w.number < length b.draft.wires → AllSafe (length b.draft.wires) (same_wire w) (under at []) → Later b.draft (flip at w [] b).draft
+later_flip at w b f lt s = later_does (flip_does at w [] b f lt s)
+
+later_turn : (at : Setting) (k : ℕ) (ps : List Operand) (b : Built) → Fresh b.draft → Guards at (length b.draft.wires) no_target → AllSafe (length b.draft.wires) no_target ps → Later b.draft (turn at k ps b).draft
+later_turn at k ps b f g s =
+    let r : Turns at k ps b.draft (turn at k ps b).draft = turn_does at k ps b f (safe_under (length b.draft.wires) no_target at ps g s) in later_grows r.grows
+
+later_turn_both : (k l : ℕ) → IsGate (turn_both k l)
+later_turn_both k l at w b f lt g s =
+    let b1 : Built = turn at l (negated (made w) ∷ []) b in
+    let q : Later b.draft b1.draft = later_turn at l (negated (made w) ∷ []) b f g ((lt, refl), tt) in
+    let up : length b.draft.wires ≤ length b1.draft.wires = q.longer in
+    let lt' : w.number < length b1.draft.wires = omega (arith, lt, up) in
+    later_then b.draft b1.draft (turn_both k l at w b).draft q
+    (later_turn at k (made w ∷ []) b1 (later_fresh b.draft b1.draft q f)
+    (safe_more (length b.draft.wires) (length b1.draft.wires) no_target no_target (under at []) up (λ v lt2 e. e) g) ((lt', refl), tt))
+
+goes_turn_all : (k : ℕ) (s : Flattening) → Good s → Owned s → Goes s (build (turn s.setting k [] s.built) s)
+goes_turn_all k s g o = goes_build (turn s.setting k [] s.built) s g o (later_turn s.setting k [] s.built g.fresh g.condition tt)
+
+-- ---- measures
+
+goes_measure_value : (k : Known) (s : Flattening) → Good s → Owned s → IsKnown (length s.built.draft.wires) k → IsOf (λ v. MayTake v s) k → Goes s (measure_value k (drop_last s))
+goes_measure_value (static z) s g o h f = absurd f
+goes_measure_value (lent start size v) s g o h f = absurd f
+goes_measure_value absent s g o h f = absurd f
+goes_measure_value (shown v) s g o h f =
+    let row : Given (List Operand) = taken s.setting v s.built in
+    let r : Takes s.setting s.built.draft (length v.operands) row = takes_last s v g h f in
+    let ws : List WireId = wires_in row.answer in
+    let b1 : Built = measure_all s.setting ws row.built in
+    let b2 : Built = end_all Measured ws b1 in
+    let q1 : Later row.built.draft b1.draft = later_measure_all s.setting ws row.built in
+    let q2 : Later b1.draft b2.draft = later_end_all Measured ws b1 (below_more (length row.built.draft.wires) (length b1.draft.wires) ws q1.longer (below_in (length row.built.draft.wires) no_target row.answer r.gives.there)) in
+    let q : Later row.built.draft b2.draft = later_then row.built.draft b1.draft b2.draft q1 q2 in
+    let d : Goes s (drop_last s) = goes_drop s g o in
+    goes_then s (drop_last s) (measure_value (shown v) (drop_last s)) d
+    (goes_give true v.shape false v.began (record { answer = row.answer; built = b2 }) (drop_last s) d.good d.owned
+    (record {
+      later = later_then s.built.draft row.built.draft b2.draft r.gives.later q;
+      size = r.gives.size ∙ h.size;
+      there = safe_more (length row.built.draft.wires) (length b2.draft.wires) no_target no_target row.answer q.longer (λ w lt e. e) r.gives.there;
+    })
+    (λ e. no_own e))
+
+goes_measure : (s : Flattening) → Good s → Owned s → MayMeasure s → Goes s (measure_value (last s) (drop_last s))
+goes_measure s g o f = goes_measure_value (last s) s g o (last_known s g) f.1
+
+-- ---- what takes values over
+
+shape_for_known : (n : ℕ) (r : Receiver) (k : Known) → IsKnown n k → IsKnown n (shape_for r k)
+shape_for_known n variable k h = h
+shape_for_known n (parameter need t) k h = typed_as_known n 0 t.shape k h
+shape_for_known n (result t) k h = typed_as_known n 0 t.shape k h
+shape_for_known n (output t) k h = typed_as_known n 0 t.shape k h
+
+either_wires : (d : DraftForm) (n : ℕ) (c : Bool) (r q : Given (List Operand)) → GivesWires d n r → GivesWires d n q → GivesWires d n (cond c r q)
+either_wires d n true r q a b = a
+either_wires d n false r q a b = b
+
+wires_for : (r : Receiver) (at : Setting) (v : Shown) (b : Built) → Fresh b.draft → Guards at (length b.draft.wires) no_target → IsShown (length b.draft.wires) v → GivesWires b.draft (length v.operands) (taken_for r at v b)
+wires_for variable at v b f g k = either_wires b.draft (length v.operands) v.classical (kept at v b) (taken at v b) (wires_kept at v b f g k) (wires_taken at v b f g k)
+wires_for (parameter need t) at v b f g k =
+    either_wires b.draft (length v.operands) (not (is_consumed need) || t.classical) (kept at v b) (taken at v b) (wires_kept at v b f g k) (wires_taken at v b f g k)
+wires_for (result t) at v b f g k = wires_taken at v b f g k
+wires_for (output t) at v b f g k =
+    either_wires b.draft (length v.operands) t.classical (copied at v.operands b) (taken at v b) (wires_copied at v.operands b f g k.there) (wires_taken at v b f g k)
+
+goes_receive : (r : Receiver) (k : Known) (s : Flattening) → Good s → Owned s → IsKnown (length s.built.draft.wires) k → IsAny k → Goes s (receive_value r k s)
+goes_receive r (static z) s g o h f = absurd f
+goes_receive r (lent start size v) s g o h f = absurd f
+goes_receive r absent s g o h f = absurd f
+goes_receive r (shown v) s g o h f =
+    let w : GivesWires s.built.draft (length v.operands) (taken_for r s.setting v s.built) = wires_for r s.setting v s.built g.fresh g.condition h in
+    goes_give (class_for r v) v.shape true 0 (taken_for r s.setting v s.built) s g o
+    (gives_size s.built.draft (length v.operands) (shape_bits v.shape) (taken_for r s.setting v s.built) h.size w.gives) (λ e. w.wires)
