@@ -36,7 +36,7 @@ use Rattle.flat_build.specs.Flat.{give, on_one, on_two, on_two_typed, began_at, 
 use Rattle.flat_build.specs.Names.{AllOf, AllEnv, CallerOf, AllKnown, Spares}
 use Rattle.flat_build.specs.Good.{IsShown, IsKnown, Good}
 use Rattle.flat_build.specs.Fine.{Distinct, IsOf, IsPart, MayChange, KeepsWires, MayTake, IsBit, MayTurn, MayMeasure, IsUpdated, without_part, UpdatesPart, MayUpdate, MayClaim, FitsOne, FitsTwo, MayJoin, IsStatic, IsAny, IsTaken, WasLent, IsLent, MayAssign, MayUse, FineStep, FineEnds, Fine}
-use Rattle.flat_build.proofs.Kept.{known_more, shown_more, all_map, all_take, all_drop, all_reverse, found_all, bound_all, its_all, bind_all_all, paired_all, known_last, known_name, known_push, known_drop, known_bind, known_its, known_in_turn, known_enter_block, known_leave_block, known_enter, known_back, all_known_more, safe_spared}
+use Rattle.flat_build.proofs.Kept.{AllBlock, known_more, shown_more, all_map, all_take, all_drop, all_reverse, found_all, bound_all, its_all, bind_all_all, paired_all, known_last, known_name, known_push, known_drop, known_bind, known_its, known_in_turn, known_enter_block, known_leave_block, known_enter, known_back, all_known_more, safe_spared}
 use Rattle.flat_build.proofs.Later.{Later, later_same, later_then, later_does, later_grows, later_fresh, later_read, later_used, later_end_all, later_had, later_measure_all}
 use Rattle.flat_build.proofs.Giving.{Gives, gives_size, gives_copied, gives_one, gives_two, length-repeated, safe_repeated, array_bits, Takes, takes_taken, GivesWires, wires_copied, wires_taken, wires_kept, typed_known, typed_as_known, typed_like_known, typed_as_safe, typed_like_safe, as_operand_known, size_of, length-part, safe_part, wires_part, length-with, safe_with, wires_with, length-in, below_in, only_below, only_safe}
 
@@ -187,14 +187,11 @@ only_guard n (Const b ∷ ps) cs h e s = cc
 only_guard n (Literal l ∷ []) cs h e s = safe_more n n (among (l.wire ∷ [])) (same_wire l.wire) cs (omega arith) (λ w lt t. same_wire_swap w l.wire (or_false (same_wire w l.wire) false t).0) s
 only_guard n (Literal l ∷ p ∷ ps) cs h e s = absurd (omega (arith, e))
 
-takes_wires : {at : Setting} {d : DraftForm} {n : ℕ} {row : Given (List Operand)} → Takes at d n row → Gives d n row
-takes_wires t = t.gives
-
-goes_wire : (gate : Setting → WireId → Built → Built) → IsGate gate → (k : Known) (s t : Flattening) → t ≡ drop_last s → Good s → Owned s → IsKnown (length s.built.draft.wires) k → IsOf (λ v. (v.shape ≡ Bit) × MayTake v s) k → Goes s (on_wire gate k (drop_last s))
-goes_wire gate ok (static z) s t x g o h f = absurd f
-goes_wire gate ok (lent start size v) s t x g o h f = absurd f
-goes_wire gate ok absent s t x g o h f = absurd f
-goes_wire gate ok (shown v) s t x g o h f =
+goes_wire : (gate : Setting → WireId → Built → Built) → IsGate gate → (k : Known) (s : Flattening) → Good s → Owned s → IsKnown (length s.built.draft.wires) k → IsOf (λ v. (v.shape ≡ Bit) × MayTake v s) k → Goes s (on_wire gate k (drop_last s))
+goes_wire gate ok (static z) s g o h f = absurd f
+goes_wire gate ok (lent start size v) s g o h f = absurd f
+goes_wire gate ok absent s g o h f = absurd f
+goes_wire gate ok (shown v) s g o h f =
     let n : ℕ = length s.built.draft.wires in
     let row : Given (List Operand) = taken s.setting v s.built in
     let r : Takes s.setting s.built.draft (length v.operands) row = takes_last s v g h f.1 in
@@ -217,7 +214,7 @@ goes_wire gate ok (shown v) s t x g o h f =
     (λ e. r.wires))
 
 goes_gate : (gate : Setting → WireId → Built → Built) → IsGate gate → (s : Flattening) → Good s → Owned s → MayTurn s → Goes s (on_last_wire gate s)
-goes_gate gate ok s g o f = goes_wire gate ok (last s) s (drop_last s) refl g o (last_known s g) f
+goes_gate gate ok s g o f = goes_wire gate ok (last s) s g o (last_known s g) f
 
 later_flip : (at : Setting) (w : WireId) (b : Built) → Fresh b.draft → w.number < length b.draft.wires → AllSafe (length b.draft.wires) (same_wire w) (under at []) → Later b.draft (flip at w [] b).draft
 later_flip at w b f lt s = later_does (flip_does at w [] b f lt s)
@@ -295,3 +292,241 @@ goes_receive r (shown v) s g o h f =
     let w : GivesWires s.built.draft (length v.operands) (taken_for r s.setting v s.built) = wires_for r s.setting v s.built g.fresh g.condition h in
     goes_give (class_for r v) v.shape true 0 (taken_for r s.setting v s.built) s g o
     (gives_size s.built.draft (length v.operands) (shape_bits v.shape) (taken_for r s.setting v s.built) h.size w.gives) (λ e. w.wires)
+
+-- ---- variables
+
+goes_bind : (x : NameId) (k : Known) (s : Flattening) → Good s → Owned s → IsKnown (length s.built.draft.wires) k → IsOwned k → Goes s (bind x k s)
+goes_bind x k s g o h w =
+    goes_still s (bind x k s) g refl refl (known_bind (IsKnown (length s.built.draft.wires)) x k s h g.known) (record { env = bound_all IsOwned s.env x k w o.env; callers = o.callers })
+
+name_owned : (s : Flattening) (x : NameId) → Owned s → IsOwned (known_in s x)
+name_owned s x o = found_all IsOwned absent s.env x tt o.env
+
+part_known : (n m : ℕ) (need : Need) (is : List ℤ) (v : Shown) → IsShown n v → v.own ≡ true → IsPart v is → IsKnown n (part_used m need is v)
+part_known n m need is v h w p = record {
+  size = length-part v is p;
+  there = safe_part n no_target v is h.there;
+  wires = λ e. wires_part v is (h.wires w);
+}
+
+use_known : (n m : ℕ) (need : Need) (is : List ℤ) (k : Known) → IsKnown n k → IsOwned k → MayUse is k → IsKnown n (use_part m need is k)
+use_known n m need is (static z) h w p = absurd p
+use_known n m need is (shown v) h w p = part_known n m need is v h w p
+use_known n m need is (lent start size v) h w p = part_known n m need is v h w p.0
+use_known n m need is absent h w p = absurd p
+
+moved_known : (n : ℕ) (is : List ℤ) (v : Shown) → IsShown n v → IsKnown n (moved is v)
+moved_known n [] v h = tt
+moved_known n (i ∷ is) v h = h
+
+moved_owned : (is : List ℤ) (v : Shown) → v.own ≡ true → IsOwned (moved is v)
+moved_owned [] v h = tt
+moved_owned (i ∷ is) v h = h
+
+-- what a variable shows after its use
+pick_all : (Q : Known → Type 0) (c : Bool) (k l : Known) → Q k → Q l → Q (cond c k l)
+pick_all Q true k l a b = a
+pick_all Q false k l a b = b
+
+after_known : (n : ℕ) (need : Need) (is : List ℤ) (k : Known) → IsKnown n k → IsKnown n (after_use need is k)
+after_known n need is (static z) h = h
+after_known n need is (shown v) h = pick_all (IsKnown n) (is_consumed need && not v.classical) (moved is v) (shown v) (moved_known n is v h) h
+after_known n need is (lent start size v) h = h
+after_known n need is absent h = h
+
+after_owned : (need : Need) (is : List ℤ) (k : Known) → IsOwned k → IsOwned (after_use need is k)
+after_owned need is (static z) h = h
+after_owned need is (shown v) h = pick_all IsOwned (is_consumed need && not v.classical) (moved is v) (shown v) (moved_owned is v h) h
+after_owned need is (lent start size v) h = h
+after_owned need is absent h = h
+
+goes_use : (need : Need) (x : NameId) (is : List ℤ) (s : Flattening) → Good s → Owned s → MayUse is (known_in s x) → Goes s (use_variable need x is s)
+goes_use need x is s g o f =
+    let n : ℕ = length s.built.draft.wires in
+    let old : Known = known_in s x in
+    let t : Flattening = record s { env = in_its_block s.env x (after_use need is old) } in
+    let q : Goes s t =
+    goes_still s t g refl refl (known_its (IsKnown n) x (after_use need is old) s (after_known n need is old (name_known s x g)) g.known)
+    (record { env = its_all IsOwned s.env x (after_use need is old) (after_owned need is old (name_owned s x o)) o.env; callers = o.callers }) in
+    goes_then s t (use_variable need x is s) q (goes_push (use_part (wires_so_far s) need is old) t q.good q.owned (use_known n (wires_so_far s) need is old (name_known s x g) (name_owned s x o) f))
+
+-- ---- assignments
+
+taken_owned : (k : Known) → IsTaken k → IsOwned k
+taken_owned (static z) h = tt
+taken_owned (shown v) h = h
+taken_owned (lent start size v) h = absurd h
+taken_owned absent h = tt
+
+-- a part that was lent comes back
+lent_back : (n : ℕ) (i : ℤ) (is : List ℤ) (start size : ℕ) (v : Shown) (k : Known) → IsShown n v → IsKnown n k → WasLent (i ∷ is) start size v k → IsShown n (record v { operands = with_part v.shape (i ∷ is) v.operands (operands_of k) })
+lent_back n i is start size v (static z) h j w = absurd w.value
+lent_back n i is start size v (lent a b u) h j w = absurd w.value
+lent_back n i is start size v absent h j w = absurd w.value
+lent_back n i is start size v (shown u) h j w = record {
+  size = length-with v (i ∷ is) u.operands w.there (j.size ∙ ap shape_bits w.value.1) ∙ h.size;
+  there = safe_with n no_target v (i ∷ is) u.operands h.there j.there;
+  wires = λ e. wires_with v (i ∷ is) u.operands (h.wires e) (j.wires w.value.0);
+}
+
+assigned_known : (n : ℕ) (i : ℤ) (is : List ℤ) (old new : Known) → IsKnown n old → IsKnown n new → IsLent (i ∷ is) old new → IsKnown n (assigned (i ∷ is) old new)
+assigned_known n i is (static z) new h k f = absurd f
+assigned_known n i is (shown v) new h k f = absurd f
+assigned_known n i is (lent start size v) new h k f = lent_back n i is start size v new h k f
+assigned_known n i is absent new h k f = absurd f
+
+assigned_owned : (i : ℤ) (is : List ℤ) (old new : Known) → IsLent (i ∷ is) old new → IsOwned (assigned (i ∷ is) old new)
+assigned_owned i is (static z) new f = absurd f
+assigned_owned i is (shown v) new f = absurd f
+assigned_owned i is (lent start size v) new f = f.own
+assigned_owned i is absent new f = absurd f
+
+goes_assign : (x : NameId) (is : List ℤ) (s : Flattening) → Good s → Owned s → MayAssign x is s → Goes s (bind x (assigned is (known_in s x) (last s)) (drop_last s))
+goes_assign x [] s g o f =
+    let d : Goes s (drop_last s) = goes_drop s g o in
+    goes_then s (drop_last s) (bind x (last s) (drop_last s)) d (goes_bind x (last s) (drop_last s) d.good d.owned (last_known s g) (taken_owned (last s) f))
+goes_assign x (i ∷ is) s g o f =
+    let d : Goes s (drop_last s) = goes_drop s g o in
+    let new : Known = assigned (i ∷ is) (known_in s x) (last s) in
+    goes_then s (drop_last s) (bind x new (drop_last s)) d
+    (goes_bind x new (drop_last s) d.good d.owned (assigned_known (length s.built.draft.wires) i is (known_in s x) (last s) (name_known s x g) (last_known s g) f) (assigned_owned i is (known_in s x) (last s) f))
+
+goes_in_turn : (xs : List NameId) (s : Flattening) → Good s → Owned s → AllOf IsTaken (reverse (take (length xs) s.values)) → Goes s (flat_step (assign_in_turn xs) s)
+goes_in_turn xs s g o f =
+    let ks : List Known = reverse (take (length xs) s.values) in
+    goes_still s (flat_step (assign_in_turn xs) s) g refl refl (known_in_turn (IsKnown (length s.built.draft.wires)) xs s g.known)
+    (record { env = bind_all_all IsOwned s.env xs ks (all_map IsTaken IsOwned taken_owned ks f) o.env; callers = o.callers })
+
+goes_end : (x : NameId) (s : Flattening) → Good s → Owned s → Goes s (bind x absent s)
+goes_end x s g o = goes_bind x absent s g o tt tt
+
+goes_end_compared : (x : NameId) (s : Flattening) → Good s → Owned s → Goes s (drop_last (bind x absent s))
+goes_end_compared x s g o =
+    let q : Goes s (bind x absent s) = goes_end x s g o in
+    goes_then s (bind x absent s) (drop_last (bind x absent s)) q (goes_drop (bind x absent s) q.good q.owned)
+
+-- ---- blocks and calls
+
+goes_enter_block : (s : Flattening) → Good s → Owned s → Goes s (flat_step enter_block s)
+goes_enter_block s g o =
+    goes_still s (flat_step enter_block s) g refl refl (known_enter_block (IsKnown (length s.built.draft.wires)) s g.known) (record { env = (tt, o.env); callers = o.callers })
+
+goes_leave_block : (s : Flattening) → Good s → Owned s → Goes s (flat_step leave_block s)
+goes_leave_block s g o =
+    goes_still s (flat_step leave_block s) g refl refl (known_leave_block (IsKnown (length s.built.draft.wires)) s g.known)
+    (record { env = all_drop (AllBlock IsOwned) 1 s.env o.env; callers = o.callers })
+
+goes_enter : (xs : List NameId) (s : Flattening) → Good s → Owned s → AllOf IsTaken (reverse (take (length xs) s.values)) → Goes s (enter xs s)
+goes_enter xs s g o f =
+    let ks : List Known = reverse (take (length xs) s.values) in
+    goes_still s (enter xs s) g refl refl (known_enter (IsKnown (length s.built.draft.wires)) xs s g.known)
+    (record { env = (paired_all IsOwned xs ks (all_map IsTaken IsOwned taken_owned ks f), tt); callers = (o.env, o.callers) })
+
+goes_back : (s : Flattening) (cs : List Caller) → Good s → Owned s → AllOf (CallerOf (IsKnown (length s.built.draft.wires))) cs → AllOf (λ (c : Caller). AllEnv IsOwned c.env) cs → Goes s (back_to s cs)
+goes_back s [] g o k w = goes_still s s g refl refl g.known o
+goes_back s (c ∷ cs) g o k w =
+    goes_still s (back_to s (c ∷ cs)) g refl refl (known_back (IsKnown (length s.built.draft.wires)) s (c ∷ cs) g.known k) (record { env = w.0; callers = w.1 })
+
+-- ---- updates and claims
+
+below_targets : (d : DraftForm) (ws : List WireId) → AreTargets d ws → Below (length d.wires) ws
+below_targets d [] h = tt
+below_targets d (w ∷ ws) h = (h.0.0, below_targets d ws h.1)
+
+different_wires : (ws : List WireId) → Distinct ws → Different ws
+different_wires [] h = tt
+different_wires (w ∷ ws) h = (h.0, different_wires ws h.1)
+
+last_spared : (T : Targets) (rest : Flattening) → AllKnown (Spares T) rest → Spares T (last rest)
+last_spared T rest h = known_last (Spares T) rest (λ w t. refl) h
+
+later_update : (op : UpdateOp) (at : Setting) (ws : List WireId) (ps : List Operand) (b : Built) → Fresh b.draft → length ws ≡ length ps → Below (length b.draft.wires) ws → Different ws → Guards at (length b.draft.wires) (among ws) → AllSafe (length b.draft.wires) (among ws) ps → Later b.draft (update_by op at ws ps b).draft
+later_update updates.Add at ws ps b f e be di g s = later_does (add_into_does at ws ps b f e be di g s)
+later_update updates.Sub at ws ps b f e be di g s = later_does (sub_into_does at ws ps b f e be di g s)
+later_update updates.Xor at ws ps b f e be di g s = later_does (flip_each_does at ws ps b f e be di g s)
+
+goes_update_known : (k : Known) (x : NameId) (is : List ℤ) (op : UpdateOp) (s : Flattening) → Good s → Owned s → IsKnown (length s.built.draft.wires) k → IsOf (UpdatesPart x is op s) k → Goes s (update_variable k is op (last s) s)
+goes_update_known (static z) x is op s g o h f = absurd f
+goes_update_known (lent start size v) x is op s g o h f = absurd f
+goes_update_known absent x is op s g o h f = absurd f
+goes_update_known (shown v) x is op s g o h f =
+    let n : ℕ = length s.built.draft.wires in
+    let t : Shape = part_shape v.shape is in
+    let part : List Operand = part_of v.shape is v.operands in
+    let ws : List WireId = wires_in part in
+    let operand : Known = typed_as 0 t (last s) in
+    let e : length ws ≡ length (operands_of operand) =
+    length-in part (wires_part v is f.wires) ∙ (length-part v is f.there ∙ sym (size_of n t operand (typed_as_known n 0 t (last s) (last_known s g)) f.operand)) in
+    goes_build (update_by op s.setting ws (operands_of operand) s.built) s g o
+    (later_update op s.setting ws (operands_of operand) s.built g.fresh e (below_targets s.built.draft ws f.change.targets) (different_wires ws f.change.distinct) f.change.condition
+    (typed_as_safe n 0 (among ws) t (last s) (last_known s g) (last_spared (among ws) (without_part x is v s) f.change.spared)))
+
+goes_update : (x : NameId) (is : List ℤ) (op : UpdateOp) (s : Flattening) → Good s → Owned s → MayUpdate x is op s → Goes s (drop_last (update_variable (known_in s x) is op (last s) s))
+goes_update x is op s g o f =
+    let q : Goes s (update_variable (known_in s x) is op (last s) s) = goes_update_known (known_in s x) x is op s g o (name_known s x g) f in
+    goes_then s (update_variable (known_in s x) is op (last s) s) (drop_last (update_variable (known_in s x) is op (last s) s)) q
+    (goes_drop (update_variable (known_in s x) is op (last s) s) q.good q.owned)
+
+goes_claim_known : (k : Known) (x : NameId) (s : Flattening) → Good s → Owned s → IsKnown (length s.built.draft.wires) k
+    → IsOf (λ v. IsOf (λ w. w.shape ≡ v.shape) (typed_like 0 (shown v) (last s)) × (are_wires v.operands ≡ true) × MayChange (wires_in v.operands) s (record s { env = in_its_block s.env x absent })) k → Goes s (zero_variable k (last s) s)
+goes_claim_known (static z) x s g o h f = absurd f
+goes_claim_known (lent start size v) x s g o h f = absurd f
+goes_claim_known absent x s g o h f = absurd f
+goes_claim_known (shown v) x s g o h f =
+    let n : ℕ = length s.built.draft.wires in
+    let ws : List WireId = wires_in v.operands in
+    let operand : Known = typed_like 0 (shown v) (last s) in
+    let ps : List Operand = operands_of operand in
+    let e : length ws ≡ length ps =
+    length-in v.operands f.1 ∙ (h.size ∙ sym (size_of n v.shape operand (typed_like_known n 0 (shown v) (last s) (last_known s g)) f.0)) in
+    let be : Below n ws = below_targets s.built.draft ws f.2.targets in
+    let b1 : Built = flip_each s.setting ws ps s.built in
+    let q : Later s.built.draft b1.draft =
+    later_does (flip_each_does s.setting ws ps s.built g.fresh e be (different_wires ws f.2.distinct) f.2.condition
+    (typed_like_safe n 0 (among ws) (shown v) (last s) (last_known s g) (last_spared (among ws) (record s { env = in_its_block s.env x absent }) f.2.spared))) in
+    goes_build (end_all Zeroed ws b1) s g o
+    (later_then s.built.draft b1.draft (end_all Zeroed ws b1).draft q (later_end_all Zeroed ws b1 (below_more n (length b1.draft.wires) ws q.longer be)))
+
+goes_claim : (x : NameId) (s : Flattening) → Good s → Owned s → MayClaim x s → Goes s (zero_variable (known_in s x) (last s) s)
+goes_claim x s g o f = goes_claim_known (known_in s x) x s g o (name_known s x g) f
+
+-- ---- steps
+
+pub goes_step : (st : Step) (s : Flattening) → Good s → Owned s → FineStep st s → Goes s (flat_step st s)
+goes_step (give_static z) s g o f = goes_push (static z) s g o tt
+goes_step (give_typed k z) s g o f = goes_push (typed (wires_so_far s) k z) s g o (typed_known (length s.built.draft.wires) (wires_so_far s) k z)
+goes_step (give_part need x is) s g o f = goes_use need x is s g o f
+goes_step (one_operand op) s g o f =
+    let d : Goes s (drop_last s) = goes_drop s g o in
+    goes_then s (drop_last s) (on_one op (last s) (drop_last s)) d (goes_one op (last s) (drop_last s) d.good d.owned (last_known s g) f)
+goes_step (two_operands op) s g o f =
+    let d : Goes s (drop_last s) = goes_drop s g o in
+    let e : Goes (drop_last s) (drop_last (drop_last s)) = goes_drop (drop_last s) d.good d.owned in
+    goes_then s (drop_last s) (flat_step (two_operands op) s) d
+    (goes_then (drop_last s) (drop_last (drop_last s)) (flat_step (two_operands op) s) e
+    (goes_two op (last (drop_last s)) (last s) (drop_last (drop_last s)) e.good e.owned (last_known (drop_last s) d.good) (last_known s g) f))
+goes_step copy_last s g o f =
+    let d : Goes s (drop_last s) = goes_drop s g o in
+    goes_then s (drop_last s) (give_copy (last s) (drop_last s)) d (goes_copy (last s) (drop_last s) d.good d.owned (last_known s g) f)
+goes_step repeat_last s g o f =
+    let d : Goes s (drop_last s) = goes_drop s g o in
+    let e : Goes (drop_last s) (drop_last (drop_last s)) = goes_drop (drop_last s) d.good d.owned in
+    goes_then s (drop_last s) (flat_step repeat_last s) d
+    (goes_then (drop_last s) (drop_last (drop_last s)) (flat_step repeat_last s) e
+    (goes_repeated (last (drop_last s)) (last s) (drop_last (drop_last s)) e.good e.owned (last_known s g) f))
+goes_step flip_last s g o f = goes_gate (λ at w b. flip at w [] b) (λ at w b x lt c u. later_flip at w b x lt u) s g o f
+goes_step (turn_by k l) s g o f = goes_gate (turn_both k l) (later_turn_both k l) s g o f
+goes_step (turn_all k) s g o f = goes_turn_all k s g o
+goes_step (receive r) s g o f =
+    let d : Goes s (drop_last s) = goes_drop s g o in
+    goes_then s (drop_last s) (receive_value r (shape_for r (last s)) (drop_last s)) d
+    (goes_receive r (shape_for r (last s)) (drop_last s) d.good d.owned (shape_for_known (length s.built.draft.wires) r (last s) (last_known s g)) f)
+goes_step (assign_to x is) s g o f = goes_assign x is s g o f
+goes_step (assign_in_turn xs) s g o f = goes_in_turn xs s g o f
+goes_step (update_to x is op) s g o f = goes_update x is op s g o f
+goes_step (end_name x) s g o f = goes_end x s g o
+goes_step (end_compared x) s g o f = goes_end_compared x s g o
+goes_step enter_block s g o f = goes_enter_block s g o
+goes_step leave_block s g o f = goes_leave_block s g o
+goes_step (enter_body xs) s g o f = goes_enter xs s g o f
+goes_step leave_body s g o f = goes_back s s.callers g o g.known.callers o.callers
