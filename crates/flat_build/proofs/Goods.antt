@@ -17,17 +17,18 @@ use Rattle.flat_core.specs.declared.step.WireId.{WireId}
 use Rattle.flat_core.specs.declared.step.End.{End}
 use Rattle.flat_core.specs.declared.step.End.TheVariants.{Measured, Zeroed}
 use Rattle.flat_core.specs.Form.{DraftForm}
-use Rattle.flat_core.specs.Label.{same_wire}
+use Rattle.flat_core.specs.Label.{same_wire, label_after, wire_in}
 use Rattle.bit_arith.specs.declared.operand.Operand.{Operand}
 use Rattle.bit_arith.specs.declared.operand.Operand.TheVariants.{Const, Literal}
-use Rattle.bit_arith.specs.Built.{Built, Setting, Given, new_wire, next_wire, made, negated, read, under}
+use Rattle.bit_arith.specs.Built.{Built, Setting, Given, new_wire, next_wire, made, negated, read, blank, under, under_condition}
 use Rattle.bit_arith.specs.Rows.{flip, turn, had, flip_each, add_into, sub_into}
 use Rattle.bit_arith.specs.Calls.{Targets, no_target, among, Safe, AllSafe, AreTargets, WasRead}
-use Rattle.bit_arith.specs.Does.{Fresh, Does, Turns, Below, Different}
+use Rattle.bit_arith.specs.Values.{all_hold}
+use Rattle.bit_arith.specs.Does.{Fresh, Does, Tells, Turns, Below, Different}
 use Rattle.bit_arith.proofs.Steps.{or_false}
 use Rattle.bit_arith.proofs.Doing.{Guards}
-use Rattle.bit_arith.proofs.Listed.{safe_more, safe_under, below_more, same_wire_swap}
-use Rattle.bit_arith.proofs.Making.{flip_each_does, negated_safe, safe_next, fresh_wires, does_wires}
+use Rattle.bit_arith.proofs.Listed.{safe_one, safe_more, safe_under, below_more, same_wire_swap}
+use Rattle.bit_arith.proofs.Making.{flip_each_does, conjunction_does, negated_safe, safe_next, fresh_wires, does_wires}
 use Rattle.bit_arith.proofs.Tidying.{flip_does}
 use Rattle.bit_arith.proofs.Carrying.{add_into_does, sub_into_does}
 use Rattle.bit_arith.proofs.Phases.{turn_does}
@@ -37,7 +38,7 @@ use Rattle.flat_build.specs.Names.{AllOf, AllEnv, CallerOf, AllKnown, Spares}
 use Rattle.flat_build.specs.Good.{IsShown, IsKnown, Good}
 use Rattle.flat_build.specs.Fine.{Distinct, IsOf, IsPart, MayChange, KeepsWires, MayTake, IsBit, MayTurn, MayMeasure, IsUpdated, without_part, UpdatesPart, MayUpdate, MayClaim, FitsOne, FitsTwo, MayJoin, IsStatic, IsAny, IsTaken, WasLent, IsLent, MayAssign, MayUse, FineStep, FineEnds, Fine}
 use Rattle.flat_build.proofs.Kept.{AllBlock, known_more, shown_more, all_map, all_take, all_drop, all_reverse, found_all, bound_all, its_all, bind_all_all, paired_all, known_last, known_name, known_push, known_drop, known_bind, known_its, known_in_turn, known_enter_block, known_leave_block, known_enter, known_back, all_known_more, safe_spared}
-use Rattle.flat_build.proofs.Later.{Later, later_same, later_then, later_does, later_grows, later_fresh, later_read, later_used, later_end_all, later_had, later_measure_all}
+use Rattle.flat_build.proofs.Later.{Later, later_same, later_then, later_does, later_grows, later_fresh, later_read, later_blank, later_end_all, later_had, later_measure_all}
 use Rattle.flat_build.proofs.Giving.{Gives, gives_size, gives_copied, gives_one, gives_two, length-repeated, safe_repeated, array_bits, Takes, takes_taken, GivesWires, wires_copied, wires_taken, wires_kept, typed_known, typed_as_known, typed_like_known, typed_as_safe, typed_like_safe, as_operand_known, size_of, length-part, safe_part, wires_part, length-with, safe_with, wires_with, length-in, below_in, only_below, only_safe}
 
 -- ---- variables own their wires
@@ -261,7 +262,7 @@ goes_measure_value (shown v) s g o h f =
     })
     (λ e. no_own e))
 
-goes_measure : (s : Flattening) → Good s → Owned s → MayMeasure s → Goes s (measure_value (last s) (drop_last s))
+pub goes_measure : (s : Flattening) → Good s → Owned s → MayMeasure s → Goes s (measure_value (last s) (drop_last s))
 goes_measure s g o f = goes_measure_value (last s) s g o (last_known s g) f.1
 
 -- ---- what takes values over
@@ -487,7 +488,7 @@ goes_claim_known (shown v) x s g o h f =
     goes_build (end_all Zeroed ws b1) s g o
     (later_then s.built.draft b1.draft (end_all Zeroed ws b1).draft q (later_end_all Zeroed ws b1 (below_more n (length b1.draft.wires) ws q.longer be)))
 
-goes_claim : (x : NameId) (s : Flattening) → Good s → Owned s → MayClaim x s → Goes s (zero_variable (known_in s x) (last s) s)
+pub goes_claim : (x : NameId) (s : Flattening) → Good s → Owned s → MayClaim x s → Goes s (zero_variable (known_in s x) (last s) s)
 goes_claim x s g o f = goes_claim_known (known_in s x) x s g o (name_known s x g) f
 
 -- ---- steps
@@ -530,3 +531,180 @@ goes_step enter_block s g o f = goes_enter_block s g o
 goes_step leave_block s g o f = goes_leave_block s g o
 goes_step (enter_body xs) s g o f = goes_enter xs s g o f
 goes_step leave_body s g o f = goes_back s s.callers g o g.known.callers o.callers
+
+-- ---- conditions
+
+-- a condition that is read, on a wire that is there
+pub record Enters (d : DraftForm) (row : Given (Option Operand)) : Type 0 where
+  pub later : Later d row.built.draft
+  pub safe : AllSafe (length row.built.draft.wires) no_target (under_condition row.answer [])
+  pub read : WasRead row.built.draft row.answer
+
+condition_safe : (n : ℕ) (T : Targets) (p : Operand) → Safe n T p → AllSafe n T (under_condition (as_condition p) [])
+condition_safe n T (Const true) s = tt
+condition_safe n T (Const false) s = (tt, tt)
+condition_safe n T (Literal l) s = (s, tt)
+
+constant_read : (d : DraftForm) (b : Bool) → WasRead d (as_condition (Const b))
+constant_read d true = tt
+constant_read d false = tt
+
+condition_read : (d : DraftForm) (p : Operand) → WasRead d (as_condition (read d p))
+condition_read d (Const b) = constant_read d b
+condition_read d (Literal l) = pick (blank d l.wire) refl
+  where
+    pick : (b : Bool) → blank d l.wire ≡ b → WasRead d (as_condition (cond b (Const (not l.positive)) (Literal l)))
+    pick true e = constant_read d (not l.positive)
+    pick false e = e
+
+read_safe : (d : DraftForm) (n : ℕ) (T : Targets) (p : Operand) → Safe n T p → Safe n T (read d p)
+read_safe d n T (Const b) s = tt
+read_safe d n T (Literal l) s = pick (blank d l.wire)
+  where
+    pick : (b : Bool) → Safe n T (cond b (Const (not l.positive)) (Literal l))
+    pick true = tt
+    pick false = s
+
+pub enters : (line : ℕ) (outer : Option Operand) (c : Operand) (b : Built) → Fresh b.draft → AllSafe (length b.draft.wires) no_target (under_condition outer []) → Safe (length b.draft.wires) no_target c → Enters b.draft (entered (record { line = line; condition = outer }) c b)
+enters line None c b f g s = record {
+  later = later_same b.draft;
+  safe = condition_safe (length b.draft.wires) no_target (read b.draft c) (read_safe b.draft (length b.draft.wires) no_target c s);
+  read = condition_read b.draft c;
+}
+enters line (Some outer) c b f g s =
+    let at : Setting = record { line = line; condition = Some outer } in
+    let w : Operand = made (next_wire b) in
+    let b1 : Built = flip at (next_wire b) (c ∷ []) (new_wire b) in
+    let r : Tells at b.draft [] (record { answer = w; built = b1 }) (λ v. all_hold v (c ∷ [])) = conjunction_does at (c ∷ []) b f g (s, tt) in
+    record {
+      later = later_does r.does;
+      safe = condition_safe (length b1.draft.wires) no_target (read b1.draft w) (read_safe b1.draft (length b1.draft.wires) no_target w (r.safe no_target (λ v le. refl) tt));
+      read = condition_read b1.draft w;
+    }
+
+-- a later state on the same line under a condition of its own
+pub record Branches (s u : Flattening) : Type 0 where
+  pub later : Later s.built.draft u.built.draft
+  pub line : u.setting.line ≡ s.setting.line
+  pub good : Good u
+  pub owned : Owned u
+
+pub goes_branch : (c : Operand) (s : Flattening) → Good s → Owned s → Safe (length s.built.draft.wires) no_target c → Branches s (enter_branch c s)
+goes_branch c s g o h =
+    let e : Given (Option Operand) = entered s.setting c s.built in
+    let r : Enters s.built.draft e = enters s.setting.line s.setting.condition c s.built g.fresh g.condition h in
+    let q : Goes s (build e.built s) = goes_build e.built s g o r.later in
+    record {
+      later = r.later;
+      line = refl;
+      good = record {
+          fresh = q.good.fresh;
+          known = record { env = q.good.known.env; values = q.good.known.values; callers = q.good.known.callers };
+          condition = r.safe;
+          read = r.read;
+        };
+      owned = record { env = o.env; callers = o.callers };
+    }
+
+-- ---- effects
+
+chosen_safe : (s : Flattening) → Good s → Safe (length s.built.draft.wires) no_target (chosen_by s)
+chosen_safe s g = go (last s) (last_known s g)
+  where
+    go : (k : Known) → IsKnown (length s.built.draft.wires) k → Safe (length s.built.draft.wires) no_target (only_operand (operands_of k))
+    go (static z) h = tt
+    go (shown v) h = only_safe (length s.built.draft.wires) no_target v.operands h.there
+    go (lent start size v) h = tt
+    go absent h = tt
+
+-- where the first branch begins
+pub goes_first : (s : Flattening) → Good s → Owned s → Branches (drop_last s) (first_branch s)
+goes_first s g o =
+    let d : Goes s (drop_last s) = goes_drop s g o in
+    goes_branch (chosen_by s) (drop_last s) d.good d.owned (chosen_safe s g)
+
+-- the names and values at the choice, with the steps of the first branch
+abbrev pub at_second : Flattening → Flattening → Flattening
+at_second one s = record (drop_last s) { built = one.built; statements = one.statements }
+
+-- where the second branch begins
+pub goes_second : (s one : Flattening) → Good s → Owned s → Later s.built.draft one.built.draft → Branches (at_second one s) (second_branch one s)
+goes_second s one g o q =
+    let n : ℕ = length s.built.draft.wires in
+    let m : ℕ = length one.built.draft.wires in
+    let d : Goes s (drop_last s) = goes_drop s g o in
+    let k : AllKnown (IsKnown m) (drop_last s) = all_known_more n m (drop_last s) q.longer d.good.known in
+    let e : Goes s (at_second one s) = goes_on s (at_second one s) g q refl (record { env = k.env; values = k.values; callers = k.callers }) (record { env = o.env; callers = o.callers }) in
+    goes_branch (negated (chosen_by s)) (at_second one s) e.good e.owned
+    (negated_safe m no_target (chosen_by s) (safe_one n m no_target no_target (chosen_by s) q.longer (λ w lt x. x) (chosen_safe s g)))
+
+-- back on the line and under the condition of an earlier state
+goes_back_under : (s t u : Flattening) → Good s → Later s.built.draft t.built.draft → t.setting.line ≡ s.setting.line → Goes t u → Goes s (with_condition s.setting.condition u)
+goes_back_under s t u g q l r =
+    let all : Later s.built.draft u.built.draft = later_then s.built.draft t.built.draft u.built.draft q r.later in
+    let k : AllKnown (IsKnown (length u.built.draft.wires)) u = r.good.known in
+    goes_on s (with_condition s.setting.condition u) g all
+    (ap (λ (n : ℕ). record { line = n; condition = s.setting.condition }) (ap (λ (at : Setting). at.line) r.setting ∙ l))
+    (record { env = k.env; values = k.values; callers = k.callers }) (record { env = r.owned.env; callers = r.owned.callers })
+
+-- a statement on its line
+pub good_statement : (line : ℕ) (s : Flattening) → Good s → Good (on_line line (count_statement s))
+good_statement line s g = record {
+  fresh = g.fresh;
+  known = record { env = g.known.env; values = g.known.values; callers = g.known.callers };
+  condition = g.condition;
+  read = g.read;
+}
+
+goes_on_line : (line : ℕ) (s u : Flattening) → Good s → Goes (on_line line (count_statement s)) u → Goes s (on_line s.setting.line u)
+goes_on_line line s u g r =
+    let k : AllKnown (IsKnown (length u.built.draft.wires)) u = r.good.known in
+    goes_on s (on_line s.setting.line u) g r.later
+    (ap (λ (c : Option Operand). record { line = s.setting.line; condition = c }) (ap (λ (at : Setting). at.condition) r.setting))
+    (record { env = k.env; values = k.values; callers = k.callers }) (record { env = r.owned.env; callers = r.owned.callers })
+
+pub goes_mix : (s : Flattening) → Good s → Owned s → MayTurn s → Goes s (on_last_wire had s)
+goes_mix s g o f = goes_gate had (λ at w b x lt c u. later_had at w b lt) s g o f
+
+pub goes_flat : (e : Effect) (s : Flattening) → Good s → Owned s → Fine e s → Goes s (flat e s)
+goes_flat nothing s g o f = goes_still s s g refl refl g.known o
+goes_flat (a >> b) s g o f =
+    let q : Goes s (flat a s) = goes_flat a s g o f.0 in
+    goes_then s (flat a s) (flat (a >> b) s) q (goes_flat b (flat a s) q.good q.owned f.1)
+goes_flat (statement line e) s g o f =
+    goes_on_line line s (flat e (on_line line (count_statement s))) g
+    (goes_flat e (on_line line (count_statement s)) (good_statement line s g) (record { env = o.env; callers = o.callers }) f)
+goes_flat (step st) s g o f = goes_step st s g o f
+goes_flat mix s g o f = goes_mix s g o f
+goes_flat measured s g o f = goes_measure s g o f
+goes_flat (claim line x) s g o f = goes_claim x s g o f
+goes_flat (choice a b) s g o f =
+    let one : Flattening = flat a (first_branch s) in
+    let two : Flattening = second_branch one s in
+    let p : Branches (drop_last s) (first_branch s) = goes_first s g o in
+    let q : Goes (first_branch s) one = goes_flat a (first_branch s) p.good p.owned f.1 in
+    let l : Later s.built.draft one.built.draft = later_then s.built.draft (first_branch s).built.draft one.built.draft p.later q.later in
+    let r : Branches (at_second one s) two = goes_second s one g o l in
+    goes_back_under s two (flat b two) g (later_then s.built.draft one.built.draft two.built.draft l r.later) r.line (goes_flat b two r.good r.owned f.2)
+
+-- ---- in short
+
+pub good_step : (st : Step) (s : Flattening) → Good s → Owned s → FineStep st s → Good (flat_step st s)
+good_step st s g o f = (goes_step st s g o f).good
+
+pub owned_step : (st : Step) (s : Flattening) → Good s → Owned s → FineStep st s → Owned (flat_step st s)
+owned_step st s g o f = (goes_step st s g o f).owned
+
+pub good_flat : (e : Effect) (s : Flattening) → Good s → Owned s → Fine e s → Good (flat e s)
+good_flat e s g o f = (goes_flat e s g o f).good
+
+pub owned_flat : (e : Effect) (s : Flattening) → Good s → Owned s → Fine e s → Owned (flat e s)
+owned_flat e s g o f = (goes_flat e s g o f).owned
+
+-- no step of an effect changes a wire that is blank after it, and it was blank before
+pub blank_flat : (e : Effect) (s : Flattening) (g : Good s) (o : Owned s) (f : Fine e s) (w : WireId) → blank (flat e s).built.draft w ≡ true → (blank s.built.draft w ≡ true) × (label_after (goes_flat e s g o f).later.new w ≡ 0)
+blank_flat e s g o f w b = later_blank s.built.draft (flat e s).built.draft (goes_flat e s g o f).later g.fresh w b
+
+-- wires that were there stay inputs or no inputs
+pub inputs_flat : (e : Effect) (s : Flattening) → Good s → Owned s → Fine e s → (w : WireId) → w.number < length s.built.draft.wires → (wire_in (flat e s).built.draft.wires w).input ≡ (wire_in s.built.draft.wires w).input
+inputs_flat e s g o f w lt = (goes_flat e s g o f).later.inputs w lt
