@@ -1,3 +1,4 @@
 pub mod Samples
 pub mod Both
 pub mod Numbers
+pub mod Pieces
