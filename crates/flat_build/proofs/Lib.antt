@@ -2,3 +2,4 @@ pub mod Samples
 pub mod Both
 pub mod Numbers
 pub mod Pieces
+pub mod Digits

@@ -1,6 +1,7 @@
 -- Parts of lists: what stands from a place on, so much, and what stands outside it.
 use Rattle.std.proofs.Common.{◌≡◌, ◌⊎◌, inl, inr, ℕ, zero, suc, ◌+◌, ◌-◌, ◌*◌, ◌≤◌, ◌<◌, List, [], ◌∷◌, ◌++◌, length, map, take, drop, ℤ, refl, sym, ap, ap₂, ◌∙◌, subst, arith, append_assoc, length-append, length-drop}
 use Rattle.std.proofs.lemmas.List.{append-nil, map-append, take-map, drop-map, take_at, drop_at, length-take-le, take-append-le, drop-append-le, take-take, drop-drop, drop-take, take_all, drop_all, take-append-drop, length-map}
+use Rattle.std.proofs.Math.Seq.{take-add}
 use Rattle.silq_types.specs.declared.types.Shape.{Shape}
 use Rattle.silq_types.specs.Types.{shape_bits}
 use Rattle.flat_build.specs.State.{outside, part_shape, part_start, part_of, with_part}
@@ -106,4 +107,14 @@ part_within start size at count xs h k =
     ∙ (ap (take count) (sym (drop-take at (size - at) (drop start xs))) ∙ ap (λ n. take count (drop at (take n (drop start xs)))) m))
 
 pub replaced_within : {A : Type 0} (start size at count : ℕ) (xs new : List A) → start + size ≤ length xs → at + count ≤ size → replaced start size xs (replaced at count (take size (drop start xs)) new) ≡ replaced (start + at) count xs new
-replaced_within start size at count xs new h k = ?
+replaced_within start size at count xs new h k =
+    let m : length (take size (drop start xs)) ≡ size = length-take-le size (drop start xs) (let d : length (drop start xs) ≡ length xs - start = length-drop start xs in omega (arith, d)) in
+    let t : take at (take size (drop start xs)) ≡ take at (drop start xs) = take-take at size (drop start xs) (omega arith) in
+    let e : start + (at + count) ≡ start + at + count = omega arith in
+    let d : drop (at + count) (take size (drop start xs)) ++ drop (start + size) xs ≡ drop (start + at + count) xs =
+    sym (drop-append-le (at + count) (take size (drop start xs)) (drop (start + size) xs) (omega (arith, m)))
+    ∙ (ap (drop (at + count)) (ap (λ zs. take size (drop start xs) ++ zs) (sym (drop-drop size start xs)) ∙ take-append-drop size (drop start xs))
+    ∙ (drop-drop (at + count) start xs ∙ ap (λ n. drop n xs) e)) in
+    ap (λ zs. take start xs ++ zs) (append_assoc (take at (take size (drop start xs))) (new ++ drop (at + count) (take size (drop start xs))) (drop (start + size) xs))
+    ∙ (sym (append_assoc (take start xs) (take at (take size (drop start xs))) ((new ++ drop (at + count) (take size (drop start xs))) ++ drop (start + size) xs))
+    ∙ ap₂ ◌++◌ (ap (λ zs. take start xs ++ zs) t ∙ sym (take-add start at xs)) (append_assoc new (drop (at + count) (take size (drop start xs))) (drop (start + size) xs) ∙ ap (λ zs. new ++ zs) d))
