@@ -3,3 +3,4 @@ pub mod Both
 pub mod Numbers
 pub mod Pieces
 pub mod Digits
+pub mod Bits
