@@ -57,7 +57,7 @@ with_next i a b =
     finish : (p h r b d a : ℕ) → a ≡ 2 * h + r → p * d ≤ h → (a + 2 * p * b) - 2 * p * d ≡ r + 2 * ((h + p * b) - p * d)
     finish p h r b d a e q = omega arith
 
-low_step : (n c h : ℕ) → c < 2 → low_bits (suc n) (c + 2 * h) ≡ (c == 1) ∷ low_bits n h
+pub low_step : (n c h : ℕ) → c < 2 → low_bits (suc n) (c + 2 * h) ≡ (c == 1) ∷ low_bits n h
 low_step n c h l =
     let e : (c + 2 * h) % 2 ≡ c = omega arith in
     let f : (c + 2 * h) / 2 ≡ h = omega arith in

@@ -4,3 +4,4 @@ pub mod Numbers
 pub mod Pieces
 pub mod Digits
 pub mod Bits
+pub mod Operators
