@@ -37,7 +37,8 @@ use Rattle.flat_build.specs.Flat.{give, on_one, on_two, on_two_typed, began_at, 
 use Rattle.flat_build.specs.Names.{AllOf, AllEnv, CallerOf, AllKnown, Spares}
 use Rattle.flat_build.specs.Good.{IsShown, IsKnown, Good}
 use Rattle.flat_build.specs.Fine.{Distinct, IsOf, IsPart, MayChange, KeepsWires, MayTake, IsBit, MayTurn, MayMeasure, IsUpdated, without_part, UpdatesPart, MayUpdate, MayClaim, FitsOne, FitsTwo, MayJoin, IsStatic, IsAny, IsTaken, WasLent, IsLent, MayAssign, MayUse, FineStep, FineEnds, Fine}
-use Rattle.flat_build.proofs.Kept.{AllBlock, known_more, shown_more, all_map, all_take, all_drop, all_reverse, found_all, bound_all, its_all, bind_all_all, paired_all, known_last, known_name, known_push, known_drop, known_bind, known_its, known_in_turn, known_enter_block, known_leave_block, known_enter, known_back, all_known_more, safe_spared}
+use Rattle.flat_build.proofs.Kept.{AllBlock, known_more, shown_more, found_all, bound_all, its_all, bind_all_all, paired_all, known_last, known_name, known_push, known_drop, known_bind, known_its, known_in_turn, known_enter_block, known_leave_block, known_enter, known_back, all_known_more, safe_spared}
+use Rattle.flat_build.proofs.Both.{all_drop, all_weak}
 use Rattle.flat_build.proofs.Later.{Later, later_same, later_then, later_does, later_grows, later_fresh, later_read, later_blank, later_end_all, later_had, later_measure_all}
 use Rattle.flat_build.proofs.Giving.{Gives, gives_size, gives_copied, gives_one, gives_two, length-repeated, safe_repeated, array_bits, Takes, takes_taken, GivesWires, wires_copied, wires_taken, wires_kept, typed_known, typed_as_known, typed_like_known, typed_as_safe, typed_like_safe, as_operand_known, size_of, length-part, safe_part, wires_part, length-with, safe_with, wires_with, length-in, below_in, only_below, only_safe}
 
@@ -396,7 +397,7 @@ goes_in_turn : (xs : List NameId) (s : Flattening) → Good s → Owned s → Al
 goes_in_turn xs s g o f =
     let ks : List Known = reverse (take (length xs) s.values) in
     goes_still s (flat_step (assign_in_turn xs) s) g refl refl (known_in_turn (IsKnown (length s.built.draft.wires)) xs s g.known)
-    (record { env = bind_all_all IsOwned s.env xs ks (all_map IsTaken IsOwned taken_owned ks f) o.env; callers = o.callers })
+    (record { env = bind_all_all IsOwned s.env xs ks (all_weak IsTaken IsOwned taken_owned ks f) o.env; callers = o.callers })
 
 goes_end : (x : NameId) (s : Flattening) → Good s → Owned s → Goes s (bind x absent s)
 goes_end x s g o = goes_bind x absent s g o tt tt
@@ -421,7 +422,7 @@ goes_enter : (xs : List NameId) (s : Flattening) → Good s → Owned s → AllO
 goes_enter xs s g o f =
     let ks : List Known = reverse (take (length xs) s.values) in
     goes_still s (enter xs s) g refl refl (known_enter (IsKnown (length s.built.draft.wires)) xs s g.known)
-    (record { env = (paired_all IsOwned xs ks (all_map IsTaken IsOwned taken_owned ks f), tt); callers = (o.env, o.callers) })
+    (record { env = (paired_all IsOwned xs ks (all_weak IsTaken IsOwned taken_owned ks f), tt); callers = (o.env, o.callers) })
 
 goes_back : (s : Flattening) (cs : List Caller) → Good s → Owned s → AllOf (CallerOf (IsKnown (length s.built.draft.wires))) cs → AllOf (λ (c : Caller). AllEnv IsOwned c.env) cs → Goes s (back_to s cs)
 goes_back s [] g o k w = goes_still s s g refl refl g.known o

@@ -25,6 +25,7 @@ use Rattle.flat_build.specs.Flat.{bind, known_in, bind_all, paired, enter, back_
 use Rattle.flat_build.specs.Names.{AllOf, AllEnv, CallerOf, AllKnown, operands_in, named_by, names, Spares}
 use Rattle.flat_build.specs.Good.{IsShown, IsKnown}
 use Rattle.flat_build.specs.Shows.{Shows, ListBoth, Entry, EnvBoth, CallerShows, Related}
+use Rattle.flat_build.proofs.Both.{both_map, env_map, both_drop, all_take, all_drop, all_append, all_reverse, all_weak, its_left}
 
 -- ---- operands that are taken from others
 
@@ -108,37 +109,12 @@ spares_none k = λ w t. absurd (clash t)
 
 -- ---- what holds of each item
 
-pub all_map : {A : Type 0} (Q R : A → Type 0) → ((a : A) → Q a → R a) → (xs : List A) → AllOf Q xs → AllOf R xs
-all_map Q R f [] h = tt
-all_map Q R f (a ∷ rest) h = (f a h.0, all_map Q R f rest h.1)
-
 pub all_zip : {A : Type 0} (Q R S : A → Type 0) → ((a : A) → Q a → R a → S a) → (xs : List A) → AllOf Q xs → AllOf R xs → AllOf S xs
 all_zip Q R S f [] h k = tt
 all_zip Q R S f (a ∷ rest) h k = (f a h.0 k.0, all_zip Q R S f rest h.1 k.1)
 
 pub all_and : {A : Type 0} (Q R : A → Type 0) (xs : List A) → AllOf Q xs → AllOf R xs → AllOf (λ a. Q a × R a) xs
 all_and Q R xs h k = all_zip Q R (λ a. Q a × R a) (λ a x y. (x, y)) xs h k
-
-pub all_take : {A : Type 0} (Q : A → Type 0) (n : ℕ) (xs : List A) → AllOf Q xs → AllOf Q (take n xs)
-all_take Q zero xs h = tt
-all_take Q (suc n) [] h = tt
-all_take Q (suc n) (a ∷ rest) h = (h.0, all_take Q n rest h.1)
-
-pub all_drop : {A : Type 0} (Q : A → Type 0) (n : ℕ) (xs : List A) → AllOf Q xs → AllOf Q (drop n xs)
-all_drop Q zero xs h = h
-all_drop Q (suc n) [] h = tt
-all_drop Q (suc n) (a ∷ rest) h = all_drop Q n rest h.1
-
-pub all_append : {A : Type 0} (Q : A → Type 0) (xs ys : List A) → AllOf Q xs → AllOf Q ys → AllOf Q (xs ++ ys)
-all_append Q [] ys h k = k
-all_append Q (a ∷ rest) ys h k = (h.0, all_append Q rest ys h.1 k)
-
-all_aux : {A : Type 0} (Q : A → Type 0) (xs ys : List A) → AllOf Q xs → AllOf Q ys → AllOf Q (reverse_aux xs ys)
-all_aux Q [] ys h k = k
-all_aux Q (a ∷ rest) ys h k = all_aux Q rest (a ∷ ys) h.1 (h.0, k)
-
-pub all_reverse : {A : Type 0} (Q : A → Type 0) (xs : List A) → AllOf Q xs → AllOf Q (reverse xs)
-all_reverse Q xs h = all_aux Q xs [] h tt
 
 pub all_first : (Q : Known → Type 0) → Q absent → (ks : List Known) → AllOf Q ks → Q (first ks)
 all_first Q q [] h = q
@@ -205,13 +181,13 @@ paired_all Q (x ∷ xs) (k ∷ ks) q = (q.0, paired_all Q xs ks q.1)
 -- ---- all that a state knows
 
 env_map_all : (Q R : Known → Type 0) → ((k : Known) → Q k → R k) → (env : Env Known) → AllEnv Q env → AllEnv R env
-env_map_all Q R f env h = all_map (AllBlock Q) (AllBlock R) (λ b. all_map (λ p. Q p.1) (λ p. R p.1) (λ p. f p.1) b) env h
+env_map_all Q R f env h = all_weak (AllBlock Q) (AllBlock R) (λ b. all_weak (λ p. Q p.1) (λ p. R p.1) (λ p. f p.1) b) env h
 
 pub known_map : (Q R : Known → Type 0) → ((k : Known) → Q k → R k) → (s : Flattening) → AllKnown Q s → AllKnown R s
 known_map Q R f s h = record {
   env = env_map_all Q R f s.env h.env;
-  values = all_map Q R f s.values h.values;
-  callers = all_map (CallerOf Q) (CallerOf R) (λ c g. (env_map_all Q R f c.env g.0, all_map Q R f c.values g.1)) s.callers h.callers;
+  values = all_weak Q R f s.values h.values;
+  callers = all_weak (CallerOf Q) (CallerOf R) (λ c g. (env_map_all Q R f c.env g.0, all_weak Q R f c.values g.1)) s.callers h.callers;
 }
 
 -- the same with other steps, setting or count
@@ -292,16 +268,6 @@ shows_after n T v u a k w q h = shows_kept u v k w (λ x e. sym (a x (named_belo
     off x e true t = absurd (clash (sym (q.1 x t) ∙ e))
     off x e false t = refl
 
-both_kept : {A B : Type 0} (S R : A → B → Type 0) (Q : A → Type 0) → ((a : A) (b : B) → Q a → S a b → R a b) → (xs : List A) (ys : List B) → AllOf Q xs → ListBoth S xs ys → ListBoth R xs ys
-both_kept S R Q f [] [] q h = tt
-both_kept S R Q f [] (b ∷ bs) q h = absurd h
-both_kept S R Q f (a ∷ rest) [] q h = absurd h
-both_kept S R Q f (a ∷ rest) (b ∷ bs) q h = (f a b q.0 h.0, both_kept S R Q f rest bs q.1 h.1)
-
-env_kept : {A B : Type 0} (S R : A → B → Type 0) (Q : A → Type 0) → ((a : A) (b : B) → Q a → S a b → R a b) → (xs : Env A) (ys : Env B) → AllEnv Q xs → EnvBoth S xs ys → EnvBoth R xs ys
-env_kept S R Q f xs ys q h =
-    both_kept (ListBoth (Entry S)) (ListBoth (Entry R)) (AllBlock Q) (λ b c r k. both_kept (Entry S) (Entry R) (λ p. Q p.1) (λ p w s e. (e.0, f p.1 w.1 s e.1)) b c r k) xs ys q h
-
 -- all that a state knows shows a term's values: `Related` without its steps and factor
 pub record AllShow (v : Row) (s : Flattening) (t : Term) : Type 0 where
   pub env : EnvBoth (Shows v) s.env t.env
@@ -330,12 +296,12 @@ pub all_show_after : (n : ℕ) (T : Targets) (v u : Row) (s : Flattening) (t : T
 all_show_after n T v u s t a q r h =
     let both : AllKnown (λ k. IsKnown n k × Spares T k) s = known_and (IsKnown n) (Spares T) s q r in
     record {
-      env = env_kept (Shows u) (Shows v) (λ k. IsKnown n k × Spares T k) (shows_after n T v u a) s.env t.env both.env h.env;
-      values = both_kept (Shows u) (Shows v) (λ k. IsKnown n k × Spares T k) (shows_after n T v u a) s.values t.values both.values h.values;
-      callers = both_kept (CallerShows u) (CallerShows v) (CallerOf (λ k. IsKnown n k × Spares T k))
+      env = env_map (Shows u) (Shows v) (λ k. IsKnown n k × Spares T k) (shows_after n T v u a) s.env t.env both.env h.env;
+      values = both_map (Shows u) (Shows v) (λ k. IsKnown n k × Spares T k) (shows_after n T v u a) s.values t.values both.values h.values;
+      callers = both_map (CallerShows u) (CallerShows v) (CallerOf (λ k. IsKnown n k × Spares T k))
           (λ c d g k. record {
-            env = env_kept (Shows u) (Shows v) (λ j. IsKnown n j × Spares T j) (shows_after n T v u a) c.env d.env g.0 k.env;
-            values = both_kept (Shows u) (Shows v) (λ j. IsKnown n j × Spares T j) (shows_after n T v u a) c.values d.values g.1 k.values;
+            env = env_map (Shows u) (Shows v) (λ j. IsKnown n j × Spares T j) (shows_after n T v u a) c.env d.env g.0 k.env;
+            values = both_map (Shows u) (Shows v) (λ j. IsKnown n j × Spares T j) (shows_after n T v u a) c.values d.values g.1 k.values;
           }) s.callers t.callers both.callers h.callers;
     }
 
@@ -345,13 +311,7 @@ all_show_new n v u s t a q h = all_show_after n no_target v u s t a q (known_map
 
 -- all but the last value
 pub all_show_drop : (v : Row) (s : Flattening) (t : Term) → AllShow v s t → AllShow v (drop_last s) (record t { values = drop 1 t.values })
-all_show_drop v s t h = record { env = h.env; values = both_tail s.values t.values h.values; callers = h.callers }
-  where
-    both_tail : (ks : List Known) (ws : List Value) → ListBoth (Shows v) ks ws → ListBoth (Shows v) (drop 1 ks) (drop 1 ws)
-    both_tail [] [] k = tt
-    both_tail [] (w ∷ ws) k = absurd k
-    both_tail (x ∷ ks) [] k = absurd k
-    both_tail (x ∷ ks) (w ∷ ws) k = k.1
+all_show_drop v s t h = record { env = h.env; values = both_drop (Shows v) s.values t.values h.values; callers = h.callers }
 
 pub all_known_more : (n m : ℕ) (s : Flattening) → n ≤ m → AllKnown (IsKnown n) s → AllKnown (IsKnown m) s
 all_known_more n m s le h = known_map (IsKnown n) (IsKnown m) (λ k. known_more n m k le) s h
