@@ -25,7 +25,8 @@ use Rattle.flat_build.specs.Flat.{bind, known_in, bind_all, paired, enter, back_
 use Rattle.flat_build.specs.Names.{AllOf, AllEnv, CallerOf, AllKnown, operands_in, named_by, names, Spares}
 use Rattle.flat_build.specs.Good.{IsShown, IsKnown}
 use Rattle.flat_build.specs.Shows.{Shows, ListBoth, Entry, EnvBoth, CallerShows, Related}
-use Rattle.flat_build.proofs.Both.{both_map, env_map, both_drop, all_take, all_drop, all_append, all_reverse, all_weak, its_left}
+use Rattle.flat_build.proofs.Both.{both_map, env_map, both_drop, all_take, all_drop, all_append, all_reverse, all_weak, its_left, bound_both}
+use Rattle.flat_build.proofs.Pieces.{outside_map}
 
 -- ---- operands that are taken from others
 
@@ -315,3 +316,19 @@ all_show_drop v s t h = record { env = h.env; values = both_drop (Shows v) s.val
 
 pub all_known_more : (n m : ℕ) (s : Flattening) → n ≤ m → AllKnown (IsKnown n) s → AllKnown (IsKnown m) s
 all_known_more n m s le h = known_map (IsKnown n) (IsKnown m) (λ k. known_more n m k le) s h
+
+-- ---- changes of names and values
+
+-- a variable whose part is under way shows what is outside it
+pub shows_lent : (v : Row) (start size : ℕ) (k : Shown) (w : Value) → Shows v (shown k) w → Shows v (lent start size k) w
+shows_lent v start size k w h = (h.0, outside_map (bit_of v) start size k.operands ∙ ap (outside start size) h.1)
+
+pub all_show_push : (v : Row) (k : Known) (w : Value) (s : Flattening) (t : Term) → Shows v k w → AllShow v s t → AllShow v (push k s) (record t { values = w ∷ t.values })
+all_show_push v k w s t g h = record { env = h.env; values = (g, h.values); callers = h.callers }
+
+pub all_show_bind : (v : Row) (x : NameId) (k : Known) (w : Value) (s : Flattening) (t : Term) → Shows v k w → AllShow v s t → AllShow v (bind x k s) (record t { env = bound t.env x w })
+all_show_bind v x k w s t g h = record { env = bound_both (Shows v) k w g s.env t.env x h.env; values = h.values; callers = h.callers }
+
+-- where it stands, what is known of a variable changes alone
+pub all_show_its : (v : Row) (x : NameId) (k : Known) (s : Flattening) (t : Term) → Shows v k (found gone t.env x) → AllShow v s t → AllShow v (record s { env = in_its_block s.env x k }) t
+all_show_its v x k s t g h = record { env = its_left (Shows v) k gone s.env t.env x g h.env; values = h.values; callers = h.callers }

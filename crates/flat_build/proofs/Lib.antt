@@ -9,3 +9,4 @@ pub mod Kept
 pub mod Later
 pub mod Giving
 pub mod Goods
+pub mod Begins
