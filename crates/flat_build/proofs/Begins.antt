@@ -1,20 +1,17 @@
 -- What holds of the state in which a program begins.
-use Rattle.std.proofs.Common.{◌≡◌, ℕ, zero, suc, ◌+◌, ◌≤◌, ◌<◌, Bool, true, List, [], ◌∷◌, ◌++◌, length, reverse, refl, sym, ap, ◌∙◌, subst, arith, append-nil, length-append}
+use Rattle.std.proofs.Common.{◌≡◌, ℕ, zero, suc, ◌+◌, ◌≤◌, Bool, true, List, [], ◌∷◌, length, refl, sym, ap, ◌∙◌, arith, append-nil, length-append}
 use Rattle.std.proofs.lemmas.List.{get_or_append_left, length-map}
 use Rattle.silq_types.specs.declared.types.Shape.{Shape}
 use Rattle.silq_types.specs.Types.{shape_bits}
-use Rattle.flat_core.specs.declared.step.WireId.{WireId}
 use Rattle.flat_core.specs.declared.step.End.TheVariants.{Dropped}
 use Rattle.flat_core.specs.Form.{DraftForm, WireForm}
 use Rattle.flat_core.specs.Label.{no_wire}
 use Rattle.flat_core.specs.Drafts.{empty_draft, with_wire, over_by_wire}
-use Rattle.bit_arith.specs.Built.{Built, begun, or_later, made, all_made, wires_from}
-use Rattle.bit_arith.specs.Calls.{no_target, AllSafe}
-use Rattle.bit_arith.specs.Does.{Fresh}
+use Rattle.bit_arith.specs.Built.{Built, begun, or_later, made, wires_from}
+use Rattle.bit_arith.specs.Calls.{no_target}
 use Rattle.bit_arith.proofs.Listed.{all_off_none}
 use Rattle.bit_arith.proofs.Making.{length-from, below_from}
 use Rattle.bit_arith.proofs.Carrying.{safe_made}
-use Rattle.flat_build.specs.State.{Known}
 use Rattle.flat_build.specs.Flat.{input_wires, inputs, begin}
 use Rattle.flat_build.specs.Names.{AllOf}
 use Rattle.flat_build.specs.Good.{IsKnown, Good}
@@ -66,12 +63,14 @@ inputs_known (s ∷ ss) b m le =
     let n : ℕ = length b.draft.wires in
     let k : ℕ = shape_bits s in
     let e : length (input_wires k b).draft.wires ≡ n + k = length-inputs k b in
-    let up : length (input_wires k b).draft.wires ≤ length (inputs (s ∷ ss) b).built.draft.wires = (later_inputs ss (input_wires k b)).longer in
-    (record {
-      size = length-map (wires_from n k) made ∙ length-from n k;
-      there = safe_made m no_target (wires_from n k) (below_from n k m (omega (arith, e, up, le))) (all_off_none (wires_from n k));
-      wires = λ o. wires_made (wires_from n k);
-    }, inputs_known ss (input_wires k b) m le)
+    let up : length (input_wires k b).draft.wires ≤ length (inputs (s ∷ ss) b).built.draft.wires = (later_inputs ss (input_wires k b)).longer in (
+      record {
+        size = length-map (wires_from n k) made ∙ length-from n k;
+        there = safe_made m no_target (wires_from n k) (below_from n k m (omega (arith, e, up, le))) (all_off_none (wires_from n k));
+        wires = λ o. wires_made (wires_from n k);
+      },
+      inputs_known ss (input_wires k b) m le,
+    )
 
 pub inputs_taken : (ss : List Shape) (b : Built) → AllOf IsTaken (inputs ss b).answer
 inputs_taken [] b = tt
@@ -81,10 +80,10 @@ pub good_begin : (ss : List Shape) → Good (begin ss)
 good_begin ss = record {
   fresh = later_fresh empty_draft (begin ss).built.draft (later_inputs ss (begun empty_draft)) (λ w le. refl);
   known = record {
-      env = tt;
-      values = all_reverse (IsKnown (length (begin ss).built.draft.wires)) (inputs ss (begun empty_draft)).answer (inputs_known ss (begun empty_draft) (length (begin ss).built.draft.wires) (omega arith));
-      callers = tt;
-    };
+    env = tt;
+    values = all_reverse (IsKnown (length (begin ss).built.draft.wires)) (inputs ss (begun empty_draft)).answer (inputs_known ss (begun empty_draft) (length (begin ss).built.draft.wires) (omega arith));
+    callers = tt;
+  };
   condition = tt;
   read = tt;
 }

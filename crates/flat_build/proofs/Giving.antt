@@ -1,7 +1,6 @@
 -- Rows that give operands: how many, and that their wires are there.
-use Rattle.std.proofs.Common.{◌≡◌, ℕ, zero, suc, ◌+◌, ◌*◌, ◌≤◌, ◌<◌, Bool, true, false, cond, not, ◌&&◌, ◌||◌, List, [], ◌∷◌, ◌++◌, map, flat_map, length, take, drop, replicate, Option, Some, None, ℤ, nat_abs, refl, sym, ap, ap₂, ◌∙◌, subst, arith, length-append, ◌⊎◌, inl, inr, ◌-◌, ◌/◌, nat_le}
+use Rattle.std.proofs.Common.{◌≡◌, ℕ, zero, suc, ◌+◌, ◌*◌, ◌≤◌, ◌<◌, Bool, true, false, cond, not, ◌&&◌, ◌||◌, List, [], ◌∷◌, ◌++◌, map, length, take, drop, replicate, ℤ, refl, sym, ap, ap₂, ◌∙◌, subst, arith, length-append, ◌-◌, ◌/◌, nat_le}
 use Rattle.std.proofs.lemmas.List.{length-map, length-take-le, length-drop, length-replicate}
-use Rattle.std.proofs.lemmas.Bool.{cases_Bool}
 use Rattle.silq_tree.specs.declared.node.UnaryOp.{UnaryOp}
 use Rattle.silq_tree.specs.declared.node.UnaryOp.TheVariants.{Not, Neg}
 use Rattle.silq_tree.specs.declared.node.BinaryOp.{BinaryOp}
@@ -10,34 +9,32 @@ use Rattle.silq_types.specs.declared.types.Scalar.{Scalar}
 use Rattle.silq_types.specs.declared.types.Scalar.TheVariants as scalars
 use Rattle.silq_types.specs.declared.types.Shape.{Shape}
 use Rattle.silq_types.specs.declared.types.Shape.TheVariants.{Bit, UInt, Int, Array}
-use Rattle.silq_types.specs.Types.{single_shape, scalar_bits, shape_bits, is_number, is_scalar}
+use Rattle.silq_types.specs.Types.{single_shape, scalar_bits, shape_bits, is_scalar}
 use Rattle.silq_mean.specs.Value.{low_bits, modulo, modulus}
 use Rattle.flat_core.specs.declared.step.WireId.{WireId}
 use Rattle.flat_core.specs.Form.{DraftForm}
-use Rattle.flat_core.specs.Label.{wire_id, same_wire}
 use Rattle.flat_core.specs.Drafts.{is_measured}
 use Rattle.flat_mean.specs.Row.{Row}
 use Rattle.bit_arith.specs.declared.operand.Operand.{Operand}
 use Rattle.bit_arith.specs.declared.operand.Operand.TheVariants.{Const, Literal}
-use Rattle.bit_arith.specs.Built.{Built, Setting, Given, next_wires, wires_from, made, all_made, negated, under}
-use Rattle.bit_arith.specs.Rows.{copy, sum, difference, product, both, either, equal, less}
+use Rattle.bit_arith.specs.Built.{Built, Setting, Given, wires_from, made, all_made, negated, under}
+use Rattle.bit_arith.specs.Rows.{copy, sum, difference, product}
 use Rattle.bit_arith.specs.Calls.{Targets, no_target, among, Safe, AllSafe}
 use Rattle.bit_arith.specs.Values.{bits_at}
-use Rattle.bit_arith.specs.Does.{Fresh, Does, Answers, Tells, AllNew, Below}
+use Rattle.bit_arith.specs.Does.{Fresh, Answers, Tells, Below}
 use Rattle.bit_arith.proofs.Steps.{and_true}
 use Rattle.bit_arith.proofs.Doing.{Guards}
-use Rattle.bit_arith.proofs.Listed.{safe_more}
 use Rattle.bit_arith.proofs.Making.{length-from, safe_new, Copies, copy_does, both_does, either_does, negated_safe, safe_from}
 use Rattle.bit_arith.proofs.Carrying.{sum_does, difference_does}
 use Rattle.bit_arith.proofs.Multiples.{product_does}
 use Rattle.bit_arith.proofs.Tests.{equal_does, less_does, safe_append}
 use Rattle.flat_build.specs.State.{Shown, Known, static, shown, lent, absent, operands_of, is_signed, typed, typed_as, typed_like, part_shape, part_start, part_of, with_part, are_wires, are_new, as_they_are, copied, taken, kept, wires_in, only_wire, only_operand}
 use Rattle.flat_build.specs.Flat.{negative, by_one, by_two, alone, opposite, shape_by, shape_by_one, as_operand, array_of, repeated}
-use Rattle.flat_build.specs.Names.{names, named_by, Spares}
+use Rattle.flat_build.specs.Names.{Spares}
 use Rattle.flat_build.specs.Good.{IsShown, IsKnown}
 use Rattle.flat_build.specs.Fine.{IsOf, IsPart, FitsOne, FitsTwo}
-use Rattle.flat_build.proofs.Kept.{safe_take, safe_drop, safe_spared, shown_more}
-use Rattle.flat_build.proofs.Later.{Later, later_same, later_grows, later_does}
+use Rattle.flat_build.proofs.Kept.{safe_take, safe_drop, safe_spared}
+use Rattle.flat_build.proofs.Later.{Later, later_same, later_does}
 
 -- ---- operands that are wires
 

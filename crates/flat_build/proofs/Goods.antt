@@ -1,6 +1,5 @@
 -- What holds of each state of flattening is kept by each effect.
-use Rattle.std.proofs.Common.{◌≡◌, ℕ, zero, suc, ◌+◌, ◌*◌, ◌≤◌, ◌<◌, Bool, true, false, cond, not, ◌&&◌, ◌||◌, List, [], ◌∷◌, ◌++◌, length, take, drop, reverse, Option, Some, None, ℤ, nat_abs, refl, sym, ap, ap₂, ◌∙◌, subst, arith, ◌⊎◌, inl, inr}
-use Rattle.std.proofs.lemmas.Bool.{cases_Bool}
+use Rattle.std.proofs.Common.{◌≡◌, ℕ, ◌*◌, ◌≤◌, ◌<◌, Bool, true, false, cond, not, ◌&&◌, ◌||◌, List, [], ◌∷◌, length, take, reverse, Option, Some, None, ℤ, nat_abs, refl, sym, ap, ◌∙◌, subst, arith}
 use Rattle.silq_tree.specs.declared.node.NameId.{NameId}
 use Rattle.silq_tree.specs.declared.node.UnaryOp.{UnaryOp}
 use Rattle.silq_tree.specs.declared.node.BinaryOp.{BinaryOp}
@@ -11,33 +10,32 @@ use Rattle.silq_types.specs.declared.types.Shape.TheVariants.{Bit}
 use Rattle.silq_types.specs.Types.{shape_bits, is_scalar}
 use Rattle.check_scope.specs.declared.need.Need.{Need}
 use Rattle.check_scope.specs.Uses.{is_consumed}
-use Rattle.silq_mean.specs.Env.{Env, found, in_its_block}
+use Rattle.silq_mean.specs.Env.{in_its_block}
 use Rattle.silq_mean.specs.Effect.{Effect, nothing, ◌>>◌, statement, step, mix, measure as measured, claim, choice, Step, give_static, give_typed, give_part, one_operand, two_operands, copy_last, repeat_last, flip_last, turn_by, turn_all, receive, assign_to, assign_in_turn, update_to, end_name, end_compared, enter_block, leave_block, enter_body, leave_body, Receiver, variable, parameter, result, output}
 use Rattle.flat_core.specs.declared.step.WireId.{WireId}
-use Rattle.flat_core.specs.declared.step.End.{End}
 use Rattle.flat_core.specs.declared.step.End.TheVariants.{Measured, Zeroed}
 use Rattle.flat_core.specs.Form.{DraftForm}
 use Rattle.flat_core.specs.Label.{same_wire, label_after, wire_in}
 use Rattle.bit_arith.specs.declared.operand.Operand.{Operand}
 use Rattle.bit_arith.specs.declared.operand.Operand.TheVariants.{Const, Literal}
 use Rattle.bit_arith.specs.Built.{Built, Setting, Given, new_wire, next_wire, made, negated, read, blank, under, under_condition}
-use Rattle.bit_arith.specs.Rows.{flip, turn, had, flip_each, add_into, sub_into}
+use Rattle.bit_arith.specs.Rows.{flip, turn, had, flip_each}
 use Rattle.bit_arith.specs.Calls.{Targets, no_target, among, Safe, AllSafe, AreTargets, WasRead}
 use Rattle.bit_arith.specs.Values.{all_hold}
-use Rattle.bit_arith.specs.Does.{Fresh, Does, Tells, Turns, Below, Different}
+use Rattle.bit_arith.specs.Does.{Fresh, Tells, Turns, Below, Different}
 use Rattle.bit_arith.proofs.Steps.{or_false}
 use Rattle.bit_arith.proofs.Doing.{Guards}
 use Rattle.bit_arith.proofs.Listed.{safe_one, safe_more, safe_under, below_more, same_wire_swap}
-use Rattle.bit_arith.proofs.Making.{flip_each_does, conjunction_does, negated_safe, safe_next, fresh_wires, does_wires}
+use Rattle.bit_arith.proofs.Making.{flip_each_does, conjunction_does, negated_safe}
 use Rattle.bit_arith.proofs.Tidying.{flip_does}
 use Rattle.bit_arith.proofs.Carrying.{add_into_does, sub_into_does}
 use Rattle.bit_arith.proofs.Phases.{turn_does}
-use Rattle.flat_build.specs.State.{Shown, Known, static, shown, lent, absent, Caller, Flattening, push, first, last, drop_last, wires_so_far, build, operands_of, typed, typed_as, typed_like, part_shape, part_start, part_of, with_part, are_wires, are_new, as_they_are, copied, taken, kept, wires_in, only_wire, only_operand}
-use Rattle.flat_build.specs.Flat.{give, on_one, on_two, on_two_typed, began_at, as_operand, by_one, by_two, shape_by, shape_by_one, give_copy, give_repeated, array_of, repeated, on_wire, on_last_wire, turn_both, end_all, measure_all, measure_value, shape_for, taken_for, class_for, receive_value, bind, known_in, part_used, use_part, moved, after_use, use_variable, assigned, bind_all, paired, update_by, update_variable, zero_variable, enter, back_to, flat_step, count_statement, on_line, as_condition, entered, enter_branch, chosen_by, first_branch, second_branch, flat, under as with_condition}
+use Rattle.flat_build.specs.State.{Shown, Known, static, shown, lent, absent, Caller, Flattening, push, last, drop_last, wires_so_far, build, operands_of, typed, typed_as, typed_like, part_shape, part_of, with_part, are_wires, copied, taken, kept, wires_in, only_wire, only_operand}
+use Rattle.flat_build.specs.Flat.{give, on_one, on_two, on_two_typed, began_at, as_operand, by_one, by_two, shape_by, shape_by_one, give_copy, give_repeated, array_of, repeated, on_wire, on_last_wire, turn_both, end_all, measure_all, measure_value, shape_for, taken_for, class_for, receive_value, bind, known_in, part_used, use_part, moved, after_use, use_variable, assigned, update_by, update_variable, zero_variable, enter, back_to, flat_step, count_statement, on_line, as_condition, entered, enter_branch, chosen_by, first_branch, second_branch, flat, under as with_condition}
 use Rattle.flat_build.specs.Names.{AllOf, AllEnv, CallerOf, AllKnown, Spares}
 use Rattle.flat_build.specs.Good.{IsShown, IsKnown, Good}
-use Rattle.flat_build.specs.Fine.{Distinct, IsOf, IsPart, MayChange, KeepsWires, MayTake, IsBit, MayTurn, MayMeasure, IsUpdated, without_part, UpdatesPart, MayUpdate, MayClaim, FitsOne, FitsTwo, MayJoin, IsStatic, IsAny, IsTaken, WasLent, IsLent, MayAssign, MayUse, FineStep, FineEnds, Fine}
-use Rattle.flat_build.proofs.Kept.{AllBlock, known_more, shown_more, found_all, bound_all, its_all, bind_all_all, paired_all, known_last, known_name, known_push, known_drop, known_bind, known_its, known_in_turn, known_enter_block, known_leave_block, known_enter, known_back, all_known_more, safe_spared}
+use Rattle.flat_build.specs.Fine.{Distinct, IsOf, IsPart, MayChange, MayTake, MayTurn, MayMeasure, without_part, UpdatesPart, MayUpdate, MayClaim, FitsOne, FitsTwo, MayJoin, IsStatic, IsAny, IsTaken, WasLent, IsLent, MayAssign, MayUse, FineStep, Fine}
+use Rattle.flat_build.proofs.Kept.{AllBlock, found_all, bound_all, its_all, bind_all_all, paired_all, known_last, known_name, known_push, known_drop, known_bind, known_its, known_in_turn, known_enter_block, known_leave_block, known_enter, known_back, all_known_more}
 use Rattle.flat_build.proofs.Both.{all_drop, all_weak}
 use Rattle.flat_build.proofs.Later.{Later, later_same, later_then, later_does, later_grows, later_fresh, later_read, later_blank, later_end_all, later_had, later_measure_all}
 use Rattle.flat_build.proofs.Giving.{Gives, gives_size, gives_copied, gives_one, gives_two, length-repeated, safe_repeated, array_bits, Takes, takes_taken, GivesWires, wires_copied, wires_taken, wires_kept, typed_known, typed_as_known, typed_like_known, typed_as_safe, typed_like_safe, as_operand_known, size_of, length-part, safe_part, wires_part, length-with, safe_with, wires_with, length-in, below_in, only_below, only_safe}
@@ -78,12 +76,12 @@ goes_on s u g q e k o = record {
   later = q;
   setting = e;
   good = record {
-      fresh = later_fresh s.built.draft u.built.draft q g.fresh;
-      known = k;
-      condition = subst (λ (at : Setting). AllSafe (length u.built.draft.wires) no_target (under at [])) (sym e)
-          (safe_more (length s.built.draft.wires) (length u.built.draft.wires) no_target no_target (under s.setting []) q.longer (λ w lt t. t) g.condition);
-      read = subst (λ (at : Setting). WasRead u.built.draft at.condition) (sym e) (later_read s.built.draft u.built.draft q g.fresh s.setting.condition g.read);
-    };
+    fresh = later_fresh s.built.draft u.built.draft q g.fresh;
+    known = k;
+    condition = subst (λ (at : Setting). AllSafe (length u.built.draft.wires) no_target (under at [])) (sym e)
+        (safe_more (length s.built.draft.wires) (length u.built.draft.wires) no_target no_target (under s.setting []) q.longer (λ w lt t. t) g.condition);
+    read = subst (λ (at : Setting). WasRead u.built.draft at.condition) (sym e) (later_read s.built.draft u.built.draft q g.fresh s.setting.condition g.read);
+  };
   owned = o;
 }
 
@@ -599,11 +597,11 @@ goes_branch c s g o h =
       later = r.later;
       line = refl;
       good = record {
-          fresh = q.good.fresh;
-          known = record { env = q.good.known.env; values = q.good.known.values; callers = q.good.known.callers };
-          condition = r.safe;
-          read = r.read;
-        };
+        fresh = q.good.fresh;
+        known = record { env = q.good.known.env; values = q.good.known.values; callers = q.good.known.callers };
+        condition = r.safe;
+        read = r.read;
+      };
       owned = record { env = o.env; callers = o.callers };
     }
 

@@ -1,6 +1,5 @@
 -- What is known stays known, and stays shown where the values of its wires stay.
-use Rattle.std.proofs.Common.{◌≡◌, ℕ, zero, suc, ◌+◌, ◌≤◌, ◌<◌, Bool, true, false, cond, not, ◌||◌, List, [], ◌∷◌, ◌++◌, length, take, drop, reverse, refl, sym, ap, ap₂, ◌∙◌, subst, arith, eqb, ◌⊎◌, inl, inr}
-use mathlib.Core.List.{reverse_aux}
+use Rattle.std.proofs.Common.{◌≡◌, ℕ, zero, suc, ◌+◌, ◌≤◌, ◌<◌, Bool, true, false, cond, ◌||◌, List, [], ◌∷◌, ◌++◌, length, take, drop, reverse, refl, sym, ap, ap₂, ◌∙◌, subst, arith, inl, inr}
 use Rattle.std.specs.Bool.{beq}
 use Rattle.std.specs.List.{list_any}
 use Rattle.std.proofs.lemmas.Bool.{eqb-true, eq-eqb, cases_Bool}
@@ -9,14 +8,14 @@ use Rattle.silq_types.specs.Types.{same_name}
 use Rattle.silq_mean.specs.Effect.{assign_in_turn, enter_block, leave_block}
 use Rattle.silq_mean.specs.Value.{Value, whole, single, array, gone}
 use Rattle.silq_mean.specs.Env.{Block, Env, is_in_block, in_block, found, is_in_reach, block_with, in_its_block, in_first_block, bound}
-use Rattle.silq_mean.specs.Term.{Term, Caller as SourceCaller}
+use Rattle.silq_mean.specs.Term.{Term}
 use Rattle.flat_core.specs.declared.step.WireId.{WireId}
 use Rattle.flat_core.specs.Label.{same_wire}
 use Rattle.flat_mean.specs.Row.{Row}
 use Rattle.flat_mean.specs.Terms.{Term as WireTerm}
 use Rattle.bit_arith.specs.declared.operand.Operand.{Operand}
 use Rattle.bit_arith.specs.declared.operand.Operand.TheVariants.{Const, Literal}
-use Rattle.bit_arith.specs.Calls.{Targets, no_target, among, Safe, AllSafe}
+use Rattle.bit_arith.specs.Calls.{Targets, no_target, AllSafe}
 use Rattle.bit_arith.specs.Values.{bit_of, bits_at}
 use Rattle.bit_arith.proofs.Steps.{or_false, clash, Agree}
 use Rattle.bit_arith.proofs.Listed.{safe_more}
@@ -24,7 +23,7 @@ use Rattle.flat_build.specs.State.{Shown, Known, static, shown, lent, absent, Ca
 use Rattle.flat_build.specs.Flat.{bind, known_in, bind_all, paired, enter, back_to, flat_step}
 use Rattle.flat_build.specs.Names.{AllOf, AllEnv, CallerOf, AllKnown, operands_in, named_by, names, Spares}
 use Rattle.flat_build.specs.Good.{IsShown, IsKnown}
-use Rattle.flat_build.specs.Shows.{Shows, ListBoth, Entry, EnvBoth, CallerShows, Related}
+use Rattle.flat_build.specs.Shows.{Shows, ListBoth, EnvBoth, CallerShows, Related}
 use Rattle.flat_build.proofs.Both.{both_map, env_map, both_drop, all_take, all_drop, all_append, all_reverse, all_weak, its_left, bound_both}
 use Rattle.flat_build.proofs.Pieces.{outside_map}
 
@@ -70,11 +69,16 @@ named_below n T w (Literal l ∷ ps) s e = pick (same_wire l.wire w) refl (named
 pub safe_spared : (n : ℕ) (T : Targets) (ps : List Operand) → AllSafe n no_target ps → ((w : WireId) → T w ≡ true → list_any (named_by w) ps ≡ false) → AllSafe n T ps
 safe_spared n T [] s o = tt
 safe_spared n T (Const b ∷ ps) s o = (tt, safe_spared n T ps s.1 o)
-safe_spared n T (Literal l ∷ ps) s o =
-    ((s.0.0, elim (cases_Bool (T l.wire)) [
+safe_spared n T (Literal l ∷ ps) s o = (
+  (
+    s.0.0,
+    elim (cases_Bool (T l.wire)) [
       | inl e ↦ absurd (clash (sym (o l.wire e) ∙ or_left (same_wire l.wire l.wire) (list_any (named_by l.wire) ps) (eq-eqb l.wire.number l.wire.number refl)))
       | inr e ↦ e
-    ]), safe_spared n T ps s.1 (λ w e. (or_false (same_wire l.wire w) (list_any (named_by w) ps) (o w e)).1))
+    ],
+  ),
+  safe_spared n T ps s.1 (λ w e. (or_false (same_wire l.wire w) (list_any (named_by w) ps) (o w e)).1),
+)
 
 -- ---- what is known, with more wires
 
