@@ -19,7 +19,6 @@ use Rattle.flat_build.specs.Fine.{IsTaken}
 use Rattle.flat_build.proofs.Both.{all_reverse}
 use Rattle.flat_build.proofs.Later.{Later, later_same, later_then, later_fresh}
 use Rattle.flat_build.proofs.Giving.{wires_made}
-use Rattle.flat_build.proofs.Goods.{Owned}
 
 later_wire : (d : DraftForm) (input : Bool) → Later d (with_wire d input)
 later_wire d input =
@@ -86,7 +85,5 @@ good_begin ss = record {
   };
   condition = tt;
   read = tt;
+  owned = record { env = tt; callers = tt };
 }
-
-pub owned_begin : (ss : List Shape) → Owned (begin ss)
-owned_begin ss = record { env = tt; callers = tt }

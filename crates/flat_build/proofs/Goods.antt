@@ -33,25 +33,12 @@ use Rattle.bit_arith.proofs.Phases.{turn_does}
 use Rattle.flat_build.specs.State.{Shown, Known, static, shown, lent, absent, Caller, Flattening, push, last, drop_last, wires_so_far, build, operands_of, typed, typed_as, typed_like, part_shape, part_of, with_part, are_wires, copied, taken, kept, wires_in, only_wire, only_operand}
 use Rattle.flat_build.specs.Flat.{give, on_one, on_two, on_two_typed, began_at, as_operand, by_one, by_two, shape_by, shape_by_one, give_copy, give_repeated, array_of, repeated, on_wire, on_last_wire, turn_both, end_all, measure_all, measure_value, shape_for, taken_for, class_for, receive_value, bind, known_in, part_used, use_part, moved, after_use, use_variable, assigned, update_by, update_variable, zero_variable, enter, back_to, flat_step, count_statement, on_line, as_condition, entered, enter_branch, chosen_by, first_branch, second_branch, flat, under as with_condition}
 use Rattle.flat_build.specs.Names.{AllOf, AllEnv, CallerOf, AllKnown, Spares}
-use Rattle.flat_build.specs.Good.{IsShown, IsKnown, Good}
+use Rattle.flat_build.specs.Good.{IsShown, IsKnown, IsOwned, Owned, Good}
 use Rattle.flat_build.specs.Fine.{Distinct, IsOf, IsPart, MayChange, MayTake, MayTurn, MayMeasure, without_part, UpdatesPart, MayUpdate, MayClaim, FitsOne, FitsTwo, MayJoin, IsStatic, IsAny, IsTaken, WasLent, IsLent, MayAssign, MayUse, FineStep, Fine}
 use Rattle.flat_build.proofs.Kept.{AllBlock, found_all, bound_all, its_all, bind_all_all, paired_all, known_last, known_name, known_push, known_drop, known_bind, known_its, known_in_turn, known_enter_block, known_leave_block, known_enter, known_back, all_known_more}
 use Rattle.flat_build.proofs.Both.{all_drop, all_weak}
 use Rattle.flat_build.proofs.Later.{Later, later_same, later_then, later_does, later_grows, later_fresh, later_read, later_blank, later_end_all, later_had, later_measure_all}
 use Rattle.flat_build.proofs.Giving.{Gives, gives_size, gives_copied, gives_one, gives_two, length-repeated, safe_repeated, array_bits, Takes, takes_taken, GivesWires, wires_copied, wires_taken, wires_kept, typed_known, typed_as_known, typed_like_known, typed_as_safe, typed_like_safe, as_operand_known, size_of, length-part, safe_part, wires_part, length-with, safe_with, wires_with, length-in, below_in, only_below, only_safe}
-
--- ---- variables own their wires
-
--- what a variable shows is on wires that it may give away
-abbrev pub IsOwned : Known → Type 0
-IsOwned (static z) = Unit {0}
-IsOwned (shown v) = v.own ≡ true
-IsOwned (lent start size v) = v.own ≡ true
-IsOwned absent = Unit {0}
-
-pub record Owned (s : Flattening) : Type 0 where
-  pub env : AllEnv IsOwned s.env
-  pub callers : AllOf (λ (c : Caller). AllEnv IsOwned c.env) s.callers
 
 -- ---- states one after the other
 
@@ -60,14 +47,12 @@ pub record Goes (s u : Flattening) : Type 0 where
   pub later : Later s.built.draft u.built.draft
   pub setting : u.setting ≡ s.setting
   pub good : Good u
-  pub owned : Owned u
 
 pub goes_then : (s t u : Flattening) → Goes s t → Goes t u → Goes s u
 goes_then s t u a b = record {
   later = later_then s.built.draft t.built.draft u.built.draft a.later b.later;
   setting = b.setting ∙ a.setting;
   good = b.good;
-  owned = b.owned;
 }
 
 -- what is built goes on, and what is then known is there
@@ -81,8 +66,8 @@ goes_on s u g q e k o = record {
     condition = subst (λ (at : Setting). AllSafe (length u.built.draft.wires) no_target (under at [])) (sym e)
         (safe_more (length s.built.draft.wires) (length u.built.draft.wires) no_target no_target (under s.setting []) q.longer (λ w lt t. t) g.condition);
     read = subst (λ (at : Setting). WasRead u.built.draft at.condition) (sym e) (later_read s.built.draft u.built.draft q g.fresh s.setting.condition g.read);
+    owned = o;
   };
-  owned = o;
 }
 
 -- nothing is built
@@ -92,8 +77,8 @@ goes_still s u g b e k o =
     (subst (λ (x : Built). AllKnown (IsKnown (length x.draft.wires)) u) (sym b) k) o
 
 -- other steps alone
-goes_build : (b : Built) (s : Flattening) → Good s → Owned s → Later s.built.draft b.draft → Goes s (build b s)
-goes_build b s g o q = goes_on s (build b s) g q refl k record { env = o.env; callers = o.callers }
+goes_build : (b : Built) (s : Flattening) → Good s → Later s.built.draft b.draft → Goes s (build b s)
+goes_build b s g q = goes_on s (build b s) g q refl k record { env = g.owned.env; callers = g.owned.callers }
   where
     more : AllKnown (IsKnown (length b.draft.wires)) s
     more = all_known_more (length s.built.draft.wires) (length b.draft.wires) s q.longer g.known
@@ -101,18 +86,18 @@ goes_build b s g o q = goes_on s (build b s) g q refl k record { env = o.env; ca
     k : AllKnown (IsKnown (length b.draft.wires)) (build b s)
     k = record { env = more.env; values = more.values; callers = more.callers }
 
-goes_push : (k : Known) (s : Flattening) → Good s → Owned s → IsKnown (length s.built.draft.wires) k → Goes s (push k s)
-goes_push k s g o h = goes_still s (push k s) g refl refl (known_push (IsKnown (length s.built.draft.wires)) k s h g.known) (record { env = o.env; callers = o.callers })
+goes_push : (k : Known) (s : Flattening) → Good s → IsKnown (length s.built.draft.wires) k → Goes s (push k s)
+goes_push k s g h = goes_still s (push k s) g refl refl (known_push (IsKnown (length s.built.draft.wires)) k s h g.known) (record { env = g.owned.env; callers = g.owned.callers })
 
-goes_drop : (s : Flattening) → Good s → Owned s → Goes s (drop_last s)
-goes_drop s g o = goes_still s (drop_last s) g refl refl (known_drop (IsKnown (length s.built.draft.wires)) s g.known) (record { env = o.env; callers = o.callers })
+goes_drop : (s : Flattening) → Good s → Goes s (drop_last s)
+goes_drop s g = goes_still s (drop_last s) g refl refl (known_drop (IsKnown (length s.built.draft.wires)) s g.known) (record { env = g.owned.env; callers = g.owned.callers })
 
 -- a row's answer becomes the last value
-goes_give : (classical : Bool) (t : Shape) (own : Bool) (began : ℕ) (row : Given (List Operand)) (s : Flattening) → Good s → Owned s → Gives s.built.draft (shape_bits t) row → (own ≡ true → are_wires row.answer ≡ true) → Goes s (give classical t own began row s)
-goes_give classical t own began row s g o r w =
-    let q : Goes s (build row.built s) = goes_build row.built s g o r.later in
+goes_give : (classical : Bool) (t : Shape) (own : Bool) (began : ℕ) (row : Given (List Operand)) (s : Flattening) → Good s → Gives s.built.draft (shape_bits t) row → (own ≡ true → are_wires row.answer ≡ true) → Goes s (give classical t own began row s)
+goes_give classical t own began row s g r w =
+    let q : Goes s (build row.built s) = goes_build row.built s g r.later in
     goes_then s (build row.built s) (give classical t own began row s) q
-    (goes_push (shown (record { classical = classical; shape = t; operands = row.answer; own = own; began = began })) (build row.built s) q.good q.owned
+    (goes_push (shown (record { classical = classical; shape = t; operands = row.answer; own = own; began = began })) (build row.built s) q.good
     (record { size = r.size; there = r.there; wires = w }))
 
 last_known : (s : Flattening) → Good s → IsKnown (length s.built.draft.wires) (last s)
@@ -126,48 +111,48 @@ no_own e = absurd cc
 
 -- ---- operators
 
-goes_one : (op : UnaryOp) (k : Known) (s : Flattening) → Good s → Owned s → IsKnown (length s.built.draft.wires) k → IsOf (λ v. FitsOne op v.shape) k → Goes s (on_one op k s)
-goes_one op (static z) s g o h f = absurd f
-goes_one op (lent start size v) s g o h f = absurd f
-goes_one op absent s g o h f = absurd f
-goes_one op (shown v) s g o h f =
-    goes_give v.classical (shape_by_one op v.shape) false v.began (by_one op s.setting v.operands s.built) s g o (gives_one op s.setting v s.built g.fresh g.condition h f) (λ e. no_own e)
+goes_one : (op : UnaryOp) (k : Known) (s : Flattening) → Good s → IsKnown (length s.built.draft.wires) k → IsOf (λ v. FitsOne op v.shape) k → Goes s (on_one op k s)
+goes_one op (static z) s g h f = absurd f
+goes_one op (lent start size v) s g h f = absurd f
+goes_one op absent s g h f = absurd f
+goes_one op (shown v) s g h f =
+    goes_give v.classical (shape_by_one op v.shape) false v.began (by_one op s.setting v.operands s.built) s g (gives_one op s.setting v s.built g.fresh g.condition h f) (λ e. no_own e)
 
-goes_two_typed : (op : BinaryOp) (began : ℕ) (k l : Known) (s : Flattening) → Good s → Owned s → IsKnown (length s.built.draft.wires) k → IsKnown (length s.built.draft.wires) l → IsOf (λ v. IsOf (λ w. (v.shape ≡ w.shape) × FitsTwo op v.shape) l) k → Goes s (on_two_typed op began k l s)
-goes_two_typed op began (static z) l s g o h i f = absurd f
-goes_two_typed op began (lent start size v) l s g o h i f = absurd f
-goes_two_typed op began absent l s g o h i f = absurd f
-goes_two_typed op began (shown v) (static z) s g o h i f = absurd f
-goes_two_typed op began (shown v) (lent start size w) s g o h i f = absurd f
-goes_two_typed op began (shown v) absent s g o h i f = absurd f
-goes_two_typed op began (shown v) (shown w) s g o h i f =
-    goes_give (v.classical && w.classical) (shape_by op v.shape) false began (by_two op v.shape s.setting v.operands w.operands s.built) s g o
+goes_two_typed : (op : BinaryOp) (began : ℕ) (k l : Known) (s : Flattening) → Good s → IsKnown (length s.built.draft.wires) k → IsKnown (length s.built.draft.wires) l → IsOf (λ v. IsOf (λ w. (v.shape ≡ w.shape) × FitsTwo op v.shape) l) k → Goes s (on_two_typed op began k l s)
+goes_two_typed op began (static z) l s g h i f = absurd f
+goes_two_typed op began (lent start size v) l s g h i f = absurd f
+goes_two_typed op began absent l s g h i f = absurd f
+goes_two_typed op began (shown v) (static z) s g h i f = absurd f
+goes_two_typed op began (shown v) (lent start size w) s g h i f = absurd f
+goes_two_typed op began (shown v) absent s g h i f = absurd f
+goes_two_typed op began (shown v) (shown w) s g h i f =
+    goes_give (v.classical && w.classical) (shape_by op v.shape) false began (by_two op v.shape s.setting v.operands w.operands s.built) s g
     (gives_two op v.shape s.setting v.operands w.operands s.built g.fresh g.condition h.there i.there h.size (i.size ∙ sym (ap shape_bits f.0)) f.1) (λ e. no_own e)
 
-goes_two : (op : BinaryOp) (k l : Known) (s : Flattening) → Good s → Owned s → IsKnown (length s.built.draft.wires) k → IsKnown (length s.built.draft.wires) l → MayJoin op k l → Goes s (on_two op k l s)
-goes_two op k l s g o h i f =
-    goes_two_typed op (began_at k l) (as_operand l k) (as_operand k l) s g o (as_operand_known (length s.built.draft.wires) l k h) (as_operand_known (length s.built.draft.wires) k l i) f
+goes_two : (op : BinaryOp) (k l : Known) (s : Flattening) → Good s → IsKnown (length s.built.draft.wires) k → IsKnown (length s.built.draft.wires) l → MayJoin op k l → Goes s (on_two op k l s)
+goes_two op k l s g h i f =
+    goes_two_typed op (began_at k l) (as_operand l k) (as_operand k l) s g (as_operand_known (length s.built.draft.wires) l k h) (as_operand_known (length s.built.draft.wires) k l i) f
 
-goes_copy : (k : Known) (s : Flattening) → Good s → Owned s → IsKnown (length s.built.draft.wires) k → IsAny k → Goes s (give_copy k s)
-goes_copy (static z) s g o h f = absurd f
-goes_copy (lent start size v) s g o h f = absurd f
-goes_copy absent s g o h f = absurd f
-goes_copy (shown v) s g o h f =
-    goes_give false v.shape false v.began (copied s.setting v.operands s.built) s g o
+goes_copy : (k : Known) (s : Flattening) → Good s → IsKnown (length s.built.draft.wires) k → IsAny k → Goes s (give_copy k s)
+goes_copy (static z) s g h f = absurd f
+goes_copy (lent start size v) s g h f = absurd f
+goes_copy absent s g h f = absurd f
+goes_copy (shown v) s g h f =
+    goes_give false v.shape false v.began (copied s.setting v.operands s.built) s g
     (gives_size s.built.draft (length v.operands) (shape_bits v.shape) (copied s.setting v.operands s.built) h.size (gives_copied s.setting v.operands s.built g.fresh g.condition h.there)) (λ e. no_own e)
 
-goes_repeated : (k l : Known) (s : Flattening) → Good s → Owned s → IsKnown (length s.built.draft.wires) l → IsStatic k × IsOf (λ v. is_scalar v.shape ≡ true) l → Goes s (give_repeated k l s)
-goes_repeated (shown v) l s g o h f = absurd f.0
-goes_repeated (lent start size v) l s g o h f = absurd f.0
-goes_repeated absent l s g o h f = absurd f.0
-goes_repeated (static z) (static y) s g o h f = absurd f.1
-goes_repeated (static z) (lent start size v) s g o h f = absurd f.1
-goes_repeated (static z) absent s g o h f = absurd f.1
-goes_repeated (static z) (shown v) s g o h f =
+goes_repeated : (k l : Known) (s : Flattening) → Good s → IsKnown (length s.built.draft.wires) l → IsStatic k × IsOf (λ v. is_scalar v.shape ≡ true) l → Goes s (give_repeated k l s)
+goes_repeated (shown v) l s g h f = absurd f.0
+goes_repeated (lent start size v) l s g h f = absurd f.0
+goes_repeated absent l s g h f = absurd f.0
+goes_repeated (static z) (static y) s g h f = absurd f.1
+goes_repeated (static z) (lent start size v) s g h f = absurd f.1
+goes_repeated (static z) absent s g h f = absurd f.1
+goes_repeated (static z) (shown v) s g h f =
     let ps : List Operand = repeated (nat_abs z) v.operands in
     let e : length ps ≡ shape_bits (array_of v.shape (nat_abs z)) =
     length-repeated (nat_abs z) v.operands ∙ (ap (λ m. m * nat_abs z) h.size ∙ array_bits v.shape (nat_abs z) f.1) in
-    goes_give false (array_of v.shape (nat_abs z)) false v.began (copied s.setting ps s.built) s g o
+    goes_give false (array_of v.shape (nat_abs z)) false v.began (copied s.setting ps s.built) s g
     (gives_size s.built.draft (length ps) (shape_bits (array_of v.shape (nat_abs z))) (copied s.setting ps s.built) e
     (gives_copied s.setting ps s.built g.fresh g.condition (safe_repeated (length s.built.draft.wires) no_target (nat_abs z) v.operands h.there))) (λ e. no_own e)
 
@@ -187,11 +172,11 @@ only_guard n (Const b ∷ ps) cs h e s = cc
 only_guard n (Literal l ∷ []) cs h e s = safe_more n n (among (l.wire ∷ [])) (same_wire l.wire) cs (omega arith) (λ w lt t. same_wire_swap w l.wire (or_false (same_wire w l.wire) false t).0) s
 only_guard n (Literal l ∷ p ∷ ps) cs h e s = absurd (omega (arith, e))
 
-goes_wire : (gate : Setting → WireId → Built → Built) → IsGate gate → (k : Known) (s : Flattening) → Good s → Owned s → IsKnown (length s.built.draft.wires) k → IsOf (λ v. (v.shape ≡ Bit) × MayTake v s) k → Goes s (on_wire gate k (drop_last s))
-goes_wire gate ok (static z) s g o h f = absurd f
-goes_wire gate ok (lent start size v) s g o h f = absurd f
-goes_wire gate ok absent s g o h f = absurd f
-goes_wire gate ok (shown v) s g o h f =
+goes_wire : (gate : Setting → WireId → Built → Built) → IsGate gate → (k : Known) (s : Flattening) → Good s → IsKnown (length s.built.draft.wires) k → IsOf (λ v. (v.shape ≡ Bit) × MayTake v s) k → Goes s (on_wire gate k (drop_last s))
+goes_wire gate ok (static z) s g h f = absurd f
+goes_wire gate ok (lent start size v) s g h f = absurd f
+goes_wire gate ok absent s g h f = absurd f
+goes_wire gate ok (shown v) s g h f =
     let n : ℕ = length s.built.draft.wires in
     let row : Given (List Operand) = taken s.setting v s.built in
     let r : Takes s.setting s.built.draft (length v.operands) row = takes_last s v g h f.1 in
@@ -203,9 +188,9 @@ goes_wire gate ok (shown v) s g o h f =
     (only_below m no_target row.answer r.wires one r.gives.there)
     (safe_more n m no_target no_target (under s.setting []) up (λ w lt e. e) g.condition)
     (only_guard m row.answer (under s.setting []) r.wires one r.guards) in
-    let d : Goes s (drop_last s) = goes_drop s g o in
+    let d : Goes s (drop_last s) = goes_drop s g in
     goes_then s (drop_last s) (on_wire gate (shown v) (drop_last s)) d
-    (goes_give false v.shape true v.began (record { answer = row.answer; built = gate s.setting (only_wire row.answer) row.built }) (drop_last s) d.good d.owned
+    (goes_give false v.shape true v.began (record { answer = row.answer; built = gate s.setting (only_wire row.answer) row.built }) (drop_last s) d.good
     (record {
       later = later_then s.built.draft row.built.draft (gate s.setting (only_wire row.answer) row.built).draft r.gives.later q;
       size = r.gives.size ∙ h.size;
@@ -213,8 +198,8 @@ goes_wire gate ok (shown v) s g o h f =
     })
     (λ e. r.wires))
 
-goes_gate : (gate : Setting → WireId → Built → Built) → IsGate gate → (s : Flattening) → Good s → Owned s → MayTurn s → Goes s (on_last_wire gate s)
-goes_gate gate ok s g o f = goes_wire gate ok (last s) s g o (last_known s g) f
+goes_gate : (gate : Setting → WireId → Built → Built) → IsGate gate → (s : Flattening) → Good s → MayTurn s → Goes s (on_last_wire gate s)
+goes_gate gate ok s g f = goes_wire gate ok (last s) s g (last_known s g) f
 
 later_flip : (at : Setting) (w : WireId) (b : Built) → Fresh b.draft → w.number < length b.draft.wires → AllSafe (length b.draft.wires) (same_wire w) (under at []) → Later b.draft (flip at w [] b).draft
 later_flip at w b f lt s = later_does (flip_does at w [] b f lt s)
@@ -233,16 +218,16 @@ later_turn_both k l at w b f lt g s =
     (later_turn at k (made w ∷ []) b1 (later_fresh b.draft b1.draft q f)
     (safe_more (length b.draft.wires) (length b1.draft.wires) no_target no_target (under at []) up (λ v lt2 e. e) g) ((lt', refl), tt))
 
-goes_turn_all : (k : ℕ) (s : Flattening) → Good s → Owned s → Goes s (build (turn s.setting k [] s.built) s)
-goes_turn_all k s g o = goes_build (turn s.setting k [] s.built) s g o (later_turn s.setting k [] s.built g.fresh g.condition tt)
+goes_turn_all : (k : ℕ) (s : Flattening) → Good s → Goes s (build (turn s.setting k [] s.built) s)
+goes_turn_all k s g = goes_build (turn s.setting k [] s.built) s g (later_turn s.setting k [] s.built g.fresh g.condition tt)
 
 -- ---- measures
 
-goes_measure_value : (k : Known) (s : Flattening) → Good s → Owned s → IsKnown (length s.built.draft.wires) k → IsOf (λ v. MayTake v s) k → Goes s (measure_value k (drop_last s))
-goes_measure_value (static z) s g o h f = absurd f
-goes_measure_value (lent start size v) s g o h f = absurd f
-goes_measure_value absent s g o h f = absurd f
-goes_measure_value (shown v) s g o h f =
+goes_measure_value : (k : Known) (s : Flattening) → Good s → IsKnown (length s.built.draft.wires) k → IsOf (λ v. MayTake v s) k → Goes s (measure_value k (drop_last s))
+goes_measure_value (static z) s g h f = absurd f
+goes_measure_value (lent start size v) s g h f = absurd f
+goes_measure_value absent s g h f = absurd f
+goes_measure_value (shown v) s g h f =
     let row : Given (List Operand) = taken s.setting v s.built in
     let r : Takes s.setting s.built.draft (length v.operands) row = takes_last s v g h f in
     let ws : List WireId = wires_in row.answer in
@@ -251,9 +236,9 @@ goes_measure_value (shown v) s g o h f =
     let q1 : Later row.built.draft b1.draft = later_measure_all s.setting ws row.built in
     let q2 : Later b1.draft b2.draft = later_end_all Measured ws b1 (below_more (length row.built.draft.wires) (length b1.draft.wires) ws q1.longer (below_in (length row.built.draft.wires) no_target row.answer r.gives.there)) in
     let q : Later row.built.draft b2.draft = later_then row.built.draft b1.draft b2.draft q1 q2 in
-    let d : Goes s (drop_last s) = goes_drop s g o in
+    let d : Goes s (drop_last s) = goes_drop s g in
     goes_then s (drop_last s) (measure_value (shown v) (drop_last s)) d
-    (goes_give true v.shape false v.began (record { answer = row.answer; built = b2 }) (drop_last s) d.good d.owned
+    (goes_give true v.shape false v.began (record { answer = row.answer; built = b2 }) (drop_last s) d.good
     (record {
       later = later_then s.built.draft row.built.draft b2.draft r.gives.later q;
       size = r.gives.size ∙ h.size;
@@ -261,8 +246,8 @@ goes_measure_value (shown v) s g o h f =
     })
     (λ e. no_own e))
 
-pub goes_measure : (s : Flattening) → Good s → Owned s → MayMeasure s → Goes s (measure_value (last s) (drop_last s))
-goes_measure s g o f = goes_measure_value (last s) s g o (last_known s g) f.1
+pub goes_measure : (s : Flattening) → Good s → MayMeasure s → Goes s (measure_value (last s) (drop_last s))
+goes_measure s g f = goes_measure_value (last s) s g (last_known s g) f.1
 
 -- ---- what takes values over
 
@@ -284,20 +269,20 @@ wires_for (result t) at v b f g k = wires_taken at v b f g k
 wires_for (output t) at v b f g k =
     either_wires b.draft (length v.operands) t.classical (copied at v.operands b) (taken at v b) (wires_copied at v.operands b f g k.there) (wires_taken at v b f g k)
 
-goes_receive : (r : Receiver) (k : Known) (s : Flattening) → Good s → Owned s → IsKnown (length s.built.draft.wires) k → IsAny k → Goes s (receive_value r k s)
-goes_receive r (static z) s g o h f = absurd f
-goes_receive r (lent start size v) s g o h f = absurd f
-goes_receive r absent s g o h f = absurd f
-goes_receive r (shown v) s g o h f =
+goes_receive : (r : Receiver) (k : Known) (s : Flattening) → Good s → IsKnown (length s.built.draft.wires) k → IsAny k → Goes s (receive_value r k s)
+goes_receive r (static z) s g h f = absurd f
+goes_receive r (lent start size v) s g h f = absurd f
+goes_receive r absent s g h f = absurd f
+goes_receive r (shown v) s g h f =
     let w : GivesWires s.built.draft (length v.operands) (taken_for r s.setting v s.built) = wires_for r s.setting v s.built g.fresh g.condition h in
-    goes_give (class_for r v) v.shape true 0 (taken_for r s.setting v s.built) s g o
+    goes_give (class_for r v) v.shape true 0 (taken_for r s.setting v s.built) s g
     (gives_size s.built.draft (length v.operands) (shape_bits v.shape) (taken_for r s.setting v s.built) h.size w.gives) (λ e. w.wires)
 
 -- ---- variables
 
-goes_bind : (x : NameId) (k : Known) (s : Flattening) → Good s → Owned s → IsKnown (length s.built.draft.wires) k → IsOwned k → Goes s (bind x k s)
-goes_bind x k s g o h w =
-    goes_still s (bind x k s) g refl refl (known_bind (IsKnown (length s.built.draft.wires)) x k s h g.known) (record { env = bound_all IsOwned s.env x k w o.env; callers = o.callers })
+goes_bind : (x : NameId) (k : Known) (s : Flattening) → Good s → IsKnown (length s.built.draft.wires) k → IsOwned k → Goes s (bind x k s)
+goes_bind x k s g h w =
+    goes_still s (bind x k s) g refl refl (known_bind (IsKnown (length s.built.draft.wires)) x k s h g.known) (record { env = bound_all IsOwned s.env x k w g.owned.env; callers = g.owned.callers })
 
 name_owned : (s : Flattening) (x : NameId) → Owned s → IsOwned (known_in s x)
 name_owned s x o = found_all IsOwned absent s.env x tt o.env
@@ -340,15 +325,15 @@ after_owned need is (shown v) h = pick_all IsOwned (is_consumed need && not v.cl
 after_owned need is (lent start size v) h = h
 after_owned need is absent h = h
 
-goes_use : (need : Need) (x : NameId) (is : List ℤ) (s : Flattening) → Good s → Owned s → MayUse is (known_in s x) → Goes s (use_variable need x is s)
-goes_use need x is s g o f =
+goes_use : (need : Need) (x : NameId) (is : List ℤ) (s : Flattening) → Good s → MayUse is (known_in s x) → Goes s (use_variable need x is s)
+goes_use need x is s g f =
     let n : ℕ = length s.built.draft.wires in
     let old : Known = known_in s x in
     let t : Flattening = record s { env = in_its_block s.env x (after_use need is old) } in
     let q : Goes s t =
     goes_still s t g refl refl (known_its (IsKnown n) x (after_use need is old) s (after_known n need is old (name_known s x g)) g.known)
-    (record { env = its_all IsOwned s.env x (after_use need is old) (after_owned need is old (name_owned s x o)) o.env; callers = o.callers }) in
-    goes_then s t (use_variable need x is s) q (goes_push (use_part (wires_so_far s) need is old) t q.good q.owned (use_known n (wires_so_far s) need is old (name_known s x g) (name_owned s x o) f))
+    (record { env = its_all IsOwned s.env x (after_use need is old) (after_owned need is old (name_owned s x g.owned)) g.owned.env; callers = g.owned.callers }) in
+    goes_then s t (use_variable need x is s) q (goes_push (use_part (wires_so_far s) need is old) t q.good (use_known n (wires_so_far s) need is old (name_known s x g) (name_owned s x g.owned) f))
 
 -- ---- assignments
 
@@ -381,50 +366,50 @@ assigned_owned i is (shown v) new f = absurd f
 assigned_owned i is (lent start size v) new f = f.own
 assigned_owned i is absent new f = absurd f
 
-goes_assign : (x : NameId) (is : List ℤ) (s : Flattening) → Good s → Owned s → MayAssign x is s → Goes s (bind x (assigned is (known_in s x) (last s)) (drop_last s))
-goes_assign x [] s g o f =
-    let d : Goes s (drop_last s) = goes_drop s g o in
-    goes_then s (drop_last s) (bind x (last s) (drop_last s)) d (goes_bind x (last s) (drop_last s) d.good d.owned (last_known s g) (taken_owned (last s) f))
-goes_assign x (i ∷ is) s g o f =
-    let d : Goes s (drop_last s) = goes_drop s g o in
+goes_assign : (x : NameId) (is : List ℤ) (s : Flattening) → Good s → MayAssign x is s → Goes s (bind x (assigned is (known_in s x) (last s)) (drop_last s))
+goes_assign x [] s g f =
+    let d : Goes s (drop_last s) = goes_drop s g in
+    goes_then s (drop_last s) (bind x (last s) (drop_last s)) d (goes_bind x (last s) (drop_last s) d.good (last_known s g) (taken_owned (last s) f))
+goes_assign x (i ∷ is) s g f =
+    let d : Goes s (drop_last s) = goes_drop s g in
     let new : Known = assigned (i ∷ is) (known_in s x) (last s) in
     goes_then s (drop_last s) (bind x new (drop_last s)) d
-    (goes_bind x new (drop_last s) d.good d.owned (assigned_known (length s.built.draft.wires) i is (known_in s x) (last s) (name_known s x g) (last_known s g) f) (assigned_owned i is (known_in s x) (last s) f))
+    (goes_bind x new (drop_last s) d.good (assigned_known (length s.built.draft.wires) i is (known_in s x) (last s) (name_known s x g) (last_known s g) f) (assigned_owned i is (known_in s x) (last s) f))
 
-goes_in_turn : (xs : List NameId) (s : Flattening) → Good s → Owned s → AllOf IsTaken (reverse (take (length xs) s.values)) → Goes s (flat_step (assign_in_turn xs) s)
-goes_in_turn xs s g o f =
+goes_in_turn : (xs : List NameId) (s : Flattening) → Good s → AllOf IsTaken (reverse (take (length xs) s.values)) → Goes s (flat_step (assign_in_turn xs) s)
+goes_in_turn xs s g f =
     let ks : List Known = reverse (take (length xs) s.values) in
     goes_still s (flat_step (assign_in_turn xs) s) g refl refl (known_in_turn (IsKnown (length s.built.draft.wires)) xs s g.known)
-    (record { env = bind_all_all IsOwned s.env xs ks (all_weak IsTaken IsOwned taken_owned ks f) o.env; callers = o.callers })
+    (record { env = bind_all_all IsOwned s.env xs ks (all_weak IsTaken IsOwned taken_owned ks f) g.owned.env; callers = g.owned.callers })
 
-goes_end : (x : NameId) (s : Flattening) → Good s → Owned s → Goes s (bind x absent s)
-goes_end x s g o = goes_bind x absent s g o tt tt
+goes_end : (x : NameId) (s : Flattening) → Good s → Goes s (bind x absent s)
+goes_end x s g = goes_bind x absent s g tt tt
 
-goes_end_compared : (x : NameId) (s : Flattening) → Good s → Owned s → Goes s (drop_last (bind x absent s))
-goes_end_compared x s g o =
-    let q : Goes s (bind x absent s) = goes_end x s g o in
-    goes_then s (bind x absent s) (drop_last (bind x absent s)) q (goes_drop (bind x absent s) q.good q.owned)
+goes_end_compared : (x : NameId) (s : Flattening) → Good s → Goes s (drop_last (bind x absent s))
+goes_end_compared x s g =
+    let q : Goes s (bind x absent s) = goes_end x s g in
+    goes_then s (bind x absent s) (drop_last (bind x absent s)) q (goes_drop (bind x absent s) q.good)
 
 -- ---- blocks and calls
 
-goes_enter_block : (s : Flattening) → Good s → Owned s → Goes s (flat_step enter_block s)
-goes_enter_block s g o =
-    goes_still s (flat_step enter_block s) g refl refl (known_enter_block (IsKnown (length s.built.draft.wires)) s g.known) (record { env = (tt, o.env); callers = o.callers })
+goes_enter_block : (s : Flattening) → Good s → Goes s (flat_step enter_block s)
+goes_enter_block s g =
+    goes_still s (flat_step enter_block s) g refl refl (known_enter_block (IsKnown (length s.built.draft.wires)) s g.known) (record { env = (tt, g.owned.env); callers = g.owned.callers })
 
-goes_leave_block : (s : Flattening) → Good s → Owned s → Goes s (flat_step leave_block s)
-goes_leave_block s g o =
+goes_leave_block : (s : Flattening) → Good s → Goes s (flat_step leave_block s)
+goes_leave_block s g =
     goes_still s (flat_step leave_block s) g refl refl (known_leave_block (IsKnown (length s.built.draft.wires)) s g.known)
-    (record { env = all_drop (AllBlock IsOwned) 1 s.env o.env; callers = o.callers })
+    (record { env = all_drop (AllBlock IsOwned) 1 s.env g.owned.env; callers = g.owned.callers })
 
-goes_enter : (xs : List NameId) (s : Flattening) → Good s → Owned s → AllOf IsTaken (reverse (take (length xs) s.values)) → Goes s (enter xs s)
-goes_enter xs s g o f =
+goes_enter : (xs : List NameId) (s : Flattening) → Good s → AllOf IsTaken (reverse (take (length xs) s.values)) → Goes s (enter xs s)
+goes_enter xs s g f =
     let ks : List Known = reverse (take (length xs) s.values) in
     goes_still s (enter xs s) g refl refl (known_enter (IsKnown (length s.built.draft.wires)) xs s g.known)
-    (record { env = (paired_all IsOwned xs ks (all_weak IsTaken IsOwned taken_owned ks f), tt); callers = (o.env, o.callers) })
+    (record { env = (paired_all IsOwned xs ks (all_weak IsTaken IsOwned taken_owned ks f), tt); callers = (g.owned.env, g.owned.callers) })
 
-goes_back : (s : Flattening) (cs : List Caller) → Good s → Owned s → AllOf (CallerOf (IsKnown (length s.built.draft.wires))) cs → AllOf (λ (c : Caller). AllEnv IsOwned c.env) cs → Goes s (back_to s cs)
-goes_back s [] g o k w = goes_still s s g refl refl g.known o
-goes_back s (c ∷ cs) g o k w =
+goes_back : (s : Flattening) (cs : List Caller) → Good s → AllOf (CallerOf (IsKnown (length s.built.draft.wires))) cs → AllOf (λ (c : Caller). AllEnv IsOwned c.env) cs → Goes s (back_to s cs)
+goes_back s [] g k w = goes_still s s g refl refl g.known g.owned
+goes_back s (c ∷ cs) g k w =
     goes_still s (back_to s (c ∷ cs)) g refl refl (known_back (IsKnown (length s.built.draft.wires)) s (c ∷ cs) g.known k) (record { env = w.0; callers = w.1 })
 
 -- ---- updates and claims
@@ -445,11 +430,11 @@ later_update updates.Add at ws ps b f e be di g s = later_does (add_into_does at
 later_update updates.Sub at ws ps b f e be di g s = later_does (sub_into_does at ws ps b f e be di g s)
 later_update updates.Xor at ws ps b f e be di g s = later_does (flip_each_does at ws ps b f e be di g s)
 
-goes_update_known : (k : Known) (x : NameId) (is : List ℤ) (op : UpdateOp) (s : Flattening) → Good s → Owned s → IsKnown (length s.built.draft.wires) k → IsOf (UpdatesPart x is op s) k → Goes s (update_variable k is op (last s) s)
-goes_update_known (static z) x is op s g o h f = absurd f
-goes_update_known (lent start size v) x is op s g o h f = absurd f
-goes_update_known absent x is op s g o h f = absurd f
-goes_update_known (shown v) x is op s g o h f =
+goes_update_known : (k : Known) (x : NameId) (is : List ℤ) (op : UpdateOp) (s : Flattening) → Good s → IsKnown (length s.built.draft.wires) k → IsOf (UpdatesPart x is op s) k → Goes s (update_variable k is op (last s) s)
+goes_update_known (static z) x is op s g h f = absurd f
+goes_update_known (lent start size v) x is op s g h f = absurd f
+goes_update_known absent x is op s g h f = absurd f
+goes_update_known (shown v) x is op s g h f =
     let n : ℕ = length s.built.draft.wires in
     let t : Shape = part_shape v.shape is in
     let part : List Operand = part_of v.shape is v.operands in
@@ -457,22 +442,22 @@ goes_update_known (shown v) x is op s g o h f =
     let operand : Known = typed_as 0 t (last s) in
     let e : length ws ≡ length (operands_of operand) =
     length-in part (wires_part v is f.wires) ∙ (length-part v is f.there ∙ sym (size_of n t operand (typed_as_known n 0 t (last s) (last_known s g)) f.operand)) in
-    goes_build (update_by op s.setting ws (operands_of operand) s.built) s g o
+    goes_build (update_by op s.setting ws (operands_of operand) s.built) s g
     (later_update op s.setting ws (operands_of operand) s.built g.fresh e (below_targets s.built.draft ws f.change.targets) (different_wires ws f.change.distinct) f.change.condition
     (typed_as_safe n 0 (among ws) t (last s) (last_known s g) (last_spared (among ws) (without_part x is v s) f.change.spared)))
 
-goes_update : (x : NameId) (is : List ℤ) (op : UpdateOp) (s : Flattening) → Good s → Owned s → MayUpdate x is op s → Goes s (drop_last (update_variable (known_in s x) is op (last s) s))
-goes_update x is op s g o f =
-    let q : Goes s (update_variable (known_in s x) is op (last s) s) = goes_update_known (known_in s x) x is op s g o (name_known s x g) f in
+goes_update : (x : NameId) (is : List ℤ) (op : UpdateOp) (s : Flattening) → Good s → MayUpdate x is op s → Goes s (drop_last (update_variable (known_in s x) is op (last s) s))
+goes_update x is op s g f =
+    let q : Goes s (update_variable (known_in s x) is op (last s) s) = goes_update_known (known_in s x) x is op s g (name_known s x g) f in
     goes_then s (update_variable (known_in s x) is op (last s) s) (drop_last (update_variable (known_in s x) is op (last s) s)) q
-    (goes_drop (update_variable (known_in s x) is op (last s) s) q.good q.owned)
+    (goes_drop (update_variable (known_in s x) is op (last s) s) q.good)
 
-goes_claim_known : (k : Known) (x : NameId) (s : Flattening) → Good s → Owned s → IsKnown (length s.built.draft.wires) k
+goes_claim_known : (k : Known) (x : NameId) (s : Flattening) → Good s → IsKnown (length s.built.draft.wires) k
     → IsOf (λ v. IsOf (λ w. w.shape ≡ v.shape) (typed_like 0 (shown v) (last s)) × (are_wires v.operands ≡ true) × MayChange (wires_in v.operands) s (record s { env = in_its_block s.env x absent })) k → Goes s (zero_variable k (last s) s)
-goes_claim_known (static z) x s g o h f = absurd f
-goes_claim_known (lent start size v) x s g o h f = absurd f
-goes_claim_known absent x s g o h f = absurd f
-goes_claim_known (shown v) x s g o h f =
+goes_claim_known (static z) x s g h f = absurd f
+goes_claim_known (lent start size v) x s g h f = absurd f
+goes_claim_known absent x s g h f = absurd f
+goes_claim_known (shown v) x s g h f =
     let n : ℕ = length s.built.draft.wires in
     let ws : List WireId = wires_in v.operands in
     let operand : Known = typed_like 0 (shown v) (last s) in
@@ -484,52 +469,52 @@ goes_claim_known (shown v) x s g o h f =
     let q : Later s.built.draft b1.draft =
     later_does (flip_each_does s.setting ws ps s.built g.fresh e be (different_wires ws f.2.distinct) f.2.condition
     (typed_like_safe n 0 (among ws) (shown v) (last s) (last_known s g) (last_spared (among ws) (record s { env = in_its_block s.env x absent }) f.2.spared))) in
-    goes_build (end_all Zeroed ws b1) s g o
+    goes_build (end_all Zeroed ws b1) s g
     (later_then s.built.draft b1.draft (end_all Zeroed ws b1).draft q (later_end_all Zeroed ws b1 (below_more n (length b1.draft.wires) ws q.longer be)))
 
-pub goes_claim : (x : NameId) (s : Flattening) → Good s → Owned s → MayClaim x s → Goes s (zero_variable (known_in s x) (last s) s)
-goes_claim x s g o f = goes_claim_known (known_in s x) x s g o (name_known s x g) f
+pub goes_claim : (x : NameId) (s : Flattening) → Good s → MayClaim x s → Goes s (zero_variable (known_in s x) (last s) s)
+goes_claim x s g f = goes_claim_known (known_in s x) x s g (name_known s x g) f
 
 -- ---- steps
 
-pub goes_step : (st : Step) (s : Flattening) → Good s → Owned s → FineStep st s → Goes s (flat_step st s)
-goes_step (give_static z) s g o f = goes_push (static z) s g o tt
-goes_step (give_typed k z) s g o f = goes_push (typed (wires_so_far s) k z) s g o (typed_known (length s.built.draft.wires) (wires_so_far s) k z)
-goes_step (give_part need x is) s g o f = goes_use need x is s g o f
-goes_step (one_operand op) s g o f =
-    let d : Goes s (drop_last s) = goes_drop s g o in
-    goes_then s (drop_last s) (on_one op (last s) (drop_last s)) d (goes_one op (last s) (drop_last s) d.good d.owned (last_known s g) f)
-goes_step (two_operands op) s g o f =
-    let d : Goes s (drop_last s) = goes_drop s g o in
-    let e : Goes (drop_last s) (drop_last (drop_last s)) = goes_drop (drop_last s) d.good d.owned in
+pub goes_step : (st : Step) (s : Flattening) → Good s → FineStep st s → Goes s (flat_step st s)
+goes_step (give_static z) s g f = goes_push (static z) s g tt
+goes_step (give_typed k z) s g f = goes_push (typed (wires_so_far s) k z) s g (typed_known (length s.built.draft.wires) (wires_so_far s) k z)
+goes_step (give_part need x is) s g f = goes_use need x is s g f
+goes_step (one_operand op) s g f =
+    let d : Goes s (drop_last s) = goes_drop s g in
+    goes_then s (drop_last s) (on_one op (last s) (drop_last s)) d (goes_one op (last s) (drop_last s) d.good (last_known s g) f)
+goes_step (two_operands op) s g f =
+    let d : Goes s (drop_last s) = goes_drop s g in
+    let e : Goes (drop_last s) (drop_last (drop_last s)) = goes_drop (drop_last s) d.good in
     goes_then s (drop_last s) (flat_step (two_operands op) s) d
     (goes_then (drop_last s) (drop_last (drop_last s)) (flat_step (two_operands op) s) e
-    (goes_two op (last (drop_last s)) (last s) (drop_last (drop_last s)) e.good e.owned (last_known (drop_last s) d.good) (last_known s g) f))
-goes_step copy_last s g o f =
-    let d : Goes s (drop_last s) = goes_drop s g o in
-    goes_then s (drop_last s) (give_copy (last s) (drop_last s)) d (goes_copy (last s) (drop_last s) d.good d.owned (last_known s g) f)
-goes_step repeat_last s g o f =
-    let d : Goes s (drop_last s) = goes_drop s g o in
-    let e : Goes (drop_last s) (drop_last (drop_last s)) = goes_drop (drop_last s) d.good d.owned in
+    (goes_two op (last (drop_last s)) (last s) (drop_last (drop_last s)) e.good (last_known (drop_last s) d.good) (last_known s g) f))
+goes_step copy_last s g f =
+    let d : Goes s (drop_last s) = goes_drop s g in
+    goes_then s (drop_last s) (give_copy (last s) (drop_last s)) d (goes_copy (last s) (drop_last s) d.good (last_known s g) f)
+goes_step repeat_last s g f =
+    let d : Goes s (drop_last s) = goes_drop s g in
+    let e : Goes (drop_last s) (drop_last (drop_last s)) = goes_drop (drop_last s) d.good in
     goes_then s (drop_last s) (flat_step repeat_last s) d
     (goes_then (drop_last s) (drop_last (drop_last s)) (flat_step repeat_last s) e
-    (goes_repeated (last (drop_last s)) (last s) (drop_last (drop_last s)) e.good e.owned (last_known s g) f))
-goes_step flip_last s g o f = goes_gate (λ at w b. flip at w [] b) (λ at w b x lt c u. later_flip at w b x lt u) s g o f
-goes_step (turn_by k l) s g o f = goes_gate (turn_both k l) (later_turn_both k l) s g o f
-goes_step (turn_all k) s g o f = goes_turn_all k s g o
-goes_step (receive r) s g o f =
-    let d : Goes s (drop_last s) = goes_drop s g o in
+    (goes_repeated (last (drop_last s)) (last s) (drop_last (drop_last s)) e.good (last_known s g) f))
+goes_step flip_last s g f = goes_gate (λ at w b. flip at w [] b) (λ at w b x lt c u. later_flip at w b x lt u) s g f
+goes_step (turn_by k l) s g f = goes_gate (turn_both k l) (later_turn_both k l) s g f
+goes_step (turn_all k) s g f = goes_turn_all k s g
+goes_step (receive r) s g f =
+    let d : Goes s (drop_last s) = goes_drop s g in
     goes_then s (drop_last s) (receive_value r (shape_for r (last s)) (drop_last s)) d
-    (goes_receive r (shape_for r (last s)) (drop_last s) d.good d.owned (shape_for_known (length s.built.draft.wires) r (last s) (last_known s g)) f)
-goes_step (assign_to x is) s g o f = goes_assign x is s g o f
-goes_step (assign_in_turn xs) s g o f = goes_in_turn xs s g o f
-goes_step (update_to x is op) s g o f = goes_update x is op s g o f
-goes_step (end_name x) s g o f = goes_end x s g o
-goes_step (end_compared x) s g o f = goes_end_compared x s g o
-goes_step enter_block s g o f = goes_enter_block s g o
-goes_step leave_block s g o f = goes_leave_block s g o
-goes_step (enter_body xs) s g o f = goes_enter xs s g o f
-goes_step leave_body s g o f = goes_back s s.callers g o g.known.callers o.callers
+    (goes_receive r (shape_for r (last s)) (drop_last s) d.good (shape_for_known (length s.built.draft.wires) r (last s) (last_known s g)) f)
+goes_step (assign_to x is) s g f = goes_assign x is s g f
+goes_step (assign_in_turn xs) s g f = goes_in_turn xs s g f
+goes_step (update_to x is op) s g f = goes_update x is op s g f
+goes_step (end_name x) s g f = goes_end x s g
+goes_step (end_compared x) s g f = goes_end_compared x s g
+goes_step enter_block s g f = goes_enter_block s g
+goes_step leave_block s g f = goes_leave_block s g
+goes_step (enter_body xs) s g f = goes_enter xs s g f
+goes_step leave_body s g f = goes_back s s.callers g g.known.callers g.owned.callers
 
 -- ---- conditions
 
@@ -586,13 +571,12 @@ pub record Branches (s u : Flattening) : Type 0 where
   pub later : Later s.built.draft u.built.draft
   pub line : u.setting.line ≡ s.setting.line
   pub good : Good u
-  pub owned : Owned u
 
-pub goes_branch : (c : Operand) (s : Flattening) → Good s → Owned s → Safe (length s.built.draft.wires) no_target c → Branches s (enter_branch c s)
-goes_branch c s g o h =
+pub goes_branch : (c : Operand) (s : Flattening) → Good s → Safe (length s.built.draft.wires) no_target c → Branches s (enter_branch c s)
+goes_branch c s g h =
     let e : Given (Option Operand) = entered s.setting c s.built in
     let r : Enters s.built.draft e = enters s.setting.line s.setting.condition c s.built g.fresh g.condition h in
-    let q : Goes s (build e.built s) = goes_build e.built s g o r.later in
+    let q : Goes s (build e.built s) = goes_build e.built s g r.later in
     record {
       later = r.later;
       line = refl;
@@ -601,8 +585,8 @@ goes_branch c s g o h =
         known = record { env = q.good.known.env; values = q.good.known.values; callers = q.good.known.callers };
         condition = r.safe;
         read = r.read;
+        owned = record { env = g.owned.env; callers = g.owned.callers };
       };
-      owned = record { env = o.env; callers = o.callers };
     }
 
 -- ---- effects
@@ -617,24 +601,24 @@ chosen_safe s g = go (last s) (last_known s g)
     go absent h = tt
 
 -- where the first branch begins
-pub goes_first : (s : Flattening) → Good s → Owned s → Branches (drop_last s) (first_branch s)
-goes_first s g o =
-    let d : Goes s (drop_last s) = goes_drop s g o in
-    goes_branch (chosen_by s) (drop_last s) d.good d.owned (chosen_safe s g)
+pub goes_first : (s : Flattening) → Good s → Branches (drop_last s) (first_branch s)
+goes_first s g =
+    let d : Goes s (drop_last s) = goes_drop s g in
+    goes_branch (chosen_by s) (drop_last s) d.good (chosen_safe s g)
 
 -- the names and values at the choice, with the steps of the first branch
 abbrev pub at_second : Flattening → Flattening → Flattening
 at_second one s = record (drop_last s) { built = one.built; statements = one.statements }
 
 -- where the second branch begins
-pub goes_second : (s one : Flattening) → Good s → Owned s → Later s.built.draft one.built.draft → Branches (at_second one s) (second_branch one s)
-goes_second s one g o q =
+pub goes_second : (s one : Flattening) → Good s → Later s.built.draft one.built.draft → Branches (at_second one s) (second_branch one s)
+goes_second s one g q =
     let n : ℕ = length s.built.draft.wires in
     let m : ℕ = length one.built.draft.wires in
-    let d : Goes s (drop_last s) = goes_drop s g o in
+    let d : Goes s (drop_last s) = goes_drop s g in
     let k : AllKnown (IsKnown m) (drop_last s) = all_known_more n m (drop_last s) q.longer d.good.known in
-    let e : Goes s (at_second one s) = goes_on s (at_second one s) g q refl (record { env = k.env; values = k.values; callers = k.callers }) (record { env = o.env; callers = o.callers }) in
-    goes_branch (negated (chosen_by s)) (at_second one s) e.good e.owned
+    let e : Goes s (at_second one s) = goes_on s (at_second one s) g q refl (record { env = k.env; values = k.values; callers = k.callers }) (record { env = g.owned.env; callers = g.owned.callers }) in
+    goes_branch (negated (chosen_by s)) (at_second one s) e.good
     (negated_safe m no_target (chosen_by s) (safe_one n m no_target no_target (chosen_by s) q.longer (λ w lt x. x) (chosen_safe s g)))
 
 -- back on the line and under the condition of an earlier state
@@ -644,7 +628,7 @@ goes_back_under s t u g q l r =
     let k : AllKnown (IsKnown (length u.built.draft.wires)) u = r.good.known in
     goes_on s (with_condition s.setting.condition u) g all
     (ap (λ (n : ℕ). record { line = n; condition = s.setting.condition }) (ap (λ (at : Setting). at.line) r.setting ∙ l))
-    (record { env = k.env; values = k.values; callers = k.callers }) (record { env = r.owned.env; callers = r.owned.callers })
+    (record { env = k.env; values = k.values; callers = k.callers }) (record { env = r.good.owned.env; callers = r.good.owned.callers })
 
 -- a statement on its line
 pub good_statement : (line : ℕ) (s : Flattening) → Good s → Good (on_line line (count_statement s))
@@ -653,6 +637,7 @@ good_statement line s g = record {
   known = record { env = g.known.env; values = g.known.values; callers = g.known.callers };
   condition = g.condition;
   read = g.read;
+  owned = record { env = g.owned.env; callers = g.owned.callers };
 }
 
 goes_on_line : (line : ℕ) (s u : Flattening) → Good s → Goes (on_line line (count_statement s)) u → Goes s (on_line s.setting.line u)
@@ -660,50 +645,44 @@ goes_on_line line s u g r =
     let k : AllKnown (IsKnown (length u.built.draft.wires)) u = r.good.known in
     goes_on s (on_line s.setting.line u) g r.later
     (ap (λ (c : Option Operand). record { line = s.setting.line; condition = c }) (ap (λ (at : Setting). at.condition) r.setting))
-    (record { env = k.env; values = k.values; callers = k.callers }) (record { env = r.owned.env; callers = r.owned.callers })
+    (record { env = k.env; values = k.values; callers = k.callers }) (record { env = r.good.owned.env; callers = r.good.owned.callers })
 
-pub goes_mix : (s : Flattening) → Good s → Owned s → MayTurn s → Goes s (on_last_wire had s)
-goes_mix s g o f = goes_gate had (λ at w b x lt c u. later_had at w b lt) s g o f
+pub goes_mix : (s : Flattening) → Good s → MayTurn s → Goes s (on_last_wire had s)
+goes_mix s g f = goes_gate had (λ at w b x lt c u. later_had at w b lt) s g f
 
-pub goes_flat : (e : Effect) (s : Flattening) → Good s → Owned s → Fine e s → Goes s (flat e s)
-goes_flat nothing s g o f = goes_still s s g refl refl g.known o
-goes_flat (a >> b) s g o f =
-    let q : Goes s (flat a s) = goes_flat a s g o f.0 in
-    goes_then s (flat a s) (flat (a >> b) s) q (goes_flat b (flat a s) q.good q.owned f.1)
-goes_flat (statement line e) s g o f =
+pub goes_flat : (e : Effect) (s : Flattening) → Good s → Fine e s → Goes s (flat e s)
+goes_flat nothing s g f = goes_still s s g refl refl g.known g.owned
+goes_flat (a >> b) s g f =
+    let q : Goes s (flat a s) = goes_flat a s g f.0 in
+    goes_then s (flat a s) (flat (a >> b) s) q (goes_flat b (flat a s) q.good f.1)
+goes_flat (statement line e) s g f =
     goes_on_line line s (flat e (on_line line (count_statement s))) g
-    (goes_flat e (on_line line (count_statement s)) (good_statement line s g) (record { env = o.env; callers = o.callers }) f)
-goes_flat (step st) s g o f = goes_step st s g o f
-goes_flat mix s g o f = goes_mix s g o f
-goes_flat measured s g o f = goes_measure s g o f
-goes_flat (claim line x) s g o f = goes_claim x s g o f
-goes_flat (choice a b) s g o f =
+    (goes_flat e (on_line line (count_statement s)) (good_statement line s g) f)
+goes_flat (step st) s g f = goes_step st s g f
+goes_flat mix s g f = goes_mix s g f
+goes_flat measured s g f = goes_measure s g f
+goes_flat (claim line x) s g f = goes_claim x s g f
+goes_flat (choice a b) s g f =
     let one : Flattening = flat a (first_branch s) in
     let two : Flattening = second_branch one s in
-    let p : Branches (drop_last s) (first_branch s) = goes_first s g o in
-    let q : Goes (first_branch s) one = goes_flat a (first_branch s) p.good p.owned f.1 in
+    let p : Branches (drop_last s) (first_branch s) = goes_first s g in
+    let q : Goes (first_branch s) one = goes_flat a (first_branch s) p.good f.1 in
     let l : Later s.built.draft one.built.draft = later_then s.built.draft (first_branch s).built.draft one.built.draft p.later q.later in
-    let r : Branches (at_second one s) two = goes_second s one g o l in
-    goes_back_under s two (flat b two) g (later_then s.built.draft one.built.draft two.built.draft l r.later) r.line (goes_flat b two r.good r.owned f.2)
+    let r : Branches (at_second one s) two = goes_second s one g l in
+    goes_back_under s two (flat b two) g (later_then s.built.draft one.built.draft two.built.draft l r.later) r.line (goes_flat b two r.good f.2)
 
 -- ---- in short
 
-pub good_step : (st : Step) (s : Flattening) → Good s → Owned s → FineStep st s → Good (flat_step st s)
-good_step st s g o f = (goes_step st s g o f).good
+pub good_step : (st : Step) (s : Flattening) → Good s → FineStep st s → Good (flat_step st s)
+good_step st s g f = (goes_step st s g f).good
 
-pub owned_step : (st : Step) (s : Flattening) → Good s → Owned s → FineStep st s → Owned (flat_step st s)
-owned_step st s g o f = (goes_step st s g o f).owned
-
-pub good_flat : (e : Effect) (s : Flattening) → Good s → Owned s → Fine e s → Good (flat e s)
-good_flat e s g o f = (goes_flat e s g o f).good
-
-pub owned_flat : (e : Effect) (s : Flattening) → Good s → Owned s → Fine e s → Owned (flat e s)
-owned_flat e s g o f = (goes_flat e s g o f).owned
+pub good_flat : (e : Effect) (s : Flattening) → Good s → Fine e s → Good (flat e s)
+good_flat e s g f = (goes_flat e s g f).good
 
 -- no step of an effect changes a wire that is blank after it, and it was blank before
-pub blank_flat : (e : Effect) (s : Flattening) (g : Good s) (o : Owned s) (f : Fine e s) (w : WireId) → blank (flat e s).built.draft w ≡ true → (blank s.built.draft w ≡ true) × (label_after (goes_flat e s g o f).later.new w ≡ 0)
-blank_flat e s g o f w b = later_blank s.built.draft (flat e s).built.draft (goes_flat e s g o f).later g.fresh w b
+pub blank_flat : (e : Effect) (s : Flattening) (g : Good s) (f : Fine e s) (w : WireId) → blank (flat e s).built.draft w ≡ true → (blank s.built.draft w ≡ true) × (label_after (goes_flat e s g f).later.new w ≡ 0)
+blank_flat e s g f w b = later_blank s.built.draft (flat e s).built.draft (goes_flat e s g f).later g.fresh w b
 
 -- wires that were there stay inputs or no inputs
-pub inputs_flat : (e : Effect) (s : Flattening) → Good s → Owned s → Fine e s → (w : WireId) → w.number < length s.built.draft.wires → (wire_in (flat e s).built.draft.wires w).input ≡ (wire_in s.built.draft.wires w).input
-inputs_flat e s g o f w lt = (goes_flat e s g o f).later.inputs w lt
+pub inputs_flat : (e : Effect) (s : Flattening) → Good s → Fine e s → (w : WireId) → w.number < length s.built.draft.wires → (wire_in (flat e s).built.draft.wires w).input ≡ (wire_in s.built.draft.wires w).input
+inputs_flat e s g f w lt = (goes_flat e s g f).later.inputs w lt
