@@ -1,1 +1,12 @@
 pub mod Samples
+pub mod Both
+pub mod Numbers
+pub mod Pieces
+pub mod Digits
+pub mod Bits
+pub mod Operators
+pub mod Kept
+pub mod Later
+pub mod Giving
+pub mod Goods
+pub mod Begins
