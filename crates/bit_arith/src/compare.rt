@@ -6,6 +6,7 @@ ghost use Rattle.bit_arith.specs.Rows.{both, either, equal, less};
 ghost use Rattle.bit_arith.specs.Calls.{AllSafe, no_target, Went, Refused};
 
 use crate::builder::Builder;
+use crate::made::made;
 use crate::operand::Operand;
 use silq_io::LimitFault;
 
@@ -17,7 +18,9 @@ impl Builder {
         ensures ok { IfOk result (λ _. Went self.old self.new (both self.old.setting a b (begun self.old.draft)).built) }
         ensures refused { IfErr result (λ e. Refused e (both self.old.setting a b (begun self.old.draft)).built) }
     {
-        Err(LimitFault::Memory)
+        let wire = self.new_wire()?;
+        self.flip(wire, &[a, b])?;
+        Ok(made(wire))
     }
 
     /// `a || b`, by a new wire.
@@ -27,7 +30,8 @@ impl Builder {
         ensures ok { IfOk result (λ _. Went self.old self.new (either self.old.setting a b (begun self.old.draft)).built) }
         ensures refused { IfErr result (λ e. Refused e (either self.old.setting a b (begun self.old.draft)).built) }
     {
-        Err(LimitFault::Memory)
+        let neither = self.both(a.negated(), b.negated())?;
+        Ok(neither.negated())
     }
 
     /// Whether two values are equal, bit by bit.

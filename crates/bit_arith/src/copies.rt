@@ -18,7 +18,9 @@ impl Builder {
         ensures ok { IfOk result (λ _. Went self.old self.new (copy self.old.setting list.now (begun self.old.draft)).built) }
         ensures refused { IfErr result (λ e. Refused e (copy self.old.setting list.now (begun self.old.draft)).built) }
     {
-        Err(LimitFault::Memory)
+        let wires = self.new_wires(list.len())?;
+        self.flip_each(wires.as_slice(), list)?;
+        Ok(wires)
     }
 
     /// Flips each wire by its operand, from the low end up.
@@ -29,6 +31,9 @@ impl Builder {
         ensures ok { IfOk result (λ _. Went self.old self.new (flip_each self.old.setting wires.now list.now (begun self.old.draft))) }
         ensures refused { IfErr result (λ e. Refused e (flip_each self.old.setting wires.now list.now (begun self.old.draft))) }
     {
-        Err(LimitFault::Memory)
+        for (i, wire) in wires.iter().enumerate() {
+            self.flip(*wire, &[list[i]])?;
+        }
+        Ok(())
     }
 }

@@ -5,6 +5,7 @@ pub mod builder;
 mod compare;
 mod conjunction;
 mod copies;
+mod made;
 pub mod operand;
 mod product;
 mod sums;

@@ -1,0 +1,80 @@
+-- Calls one after another: what is built by them, and what refuses them.
+use Rattle.std.proofs.Common.{◌≡◌, Option, Some, None, refl, sym, ap, ◌∙◌, subst}
+use Rattle.silq_io.specs.declared.limit.OverLimit.{OverLimit}
+use Rattle.silq_io.specs.declared.limit.LimitFault.{LimitFault}
+use Rattle.silq_io.specs.declared.limit.LimitFault.TheVariants.{Memory, Limit}
+use Rattle.flat_core.specs.Form.{DraftForm}
+use Rattle.bit_arith.specs.Built.{Built, Setting, begun}
+use Rattle.bit_arith.specs.Calls.{Building, Went, Refused}
+use Rattle.bit_arith.proofs.Grows.{Grows, XGrows, x_same, x_then}
+
+-- what was built goes on from its draft
+pub went_is : (old new : Building) (row : Built) → Went old new row → begun new.draft ≡ row
+went_is old new row w =
+    let family : (d : DraftForm) → Built = λ (d : DraftForm). begun d in
+    ap family w.built ∙ ap (λ (o : Option OverLimit). record { draft = row.draft; over = o }) (sym w.within)
+
+pub went_as : (old new : Building) (row other : Built) → row ≡ other → Went old new row → Went old new other
+went_as old new row other e w = subst (λ (r : Built). Went old new r) e w
+
+pub refused_as : (fault : LimitFault) (row other : Built) → row ≡ other → Refused fault row → Refused fault other
+refused_as fault row other e r = subst (λ (b : Built). Refused fault b) e r
+
+-- a limit that was passed stays the first
+pub refused_on : (fault : LimitFault) (row more : Built) → Grows row more → Refused fault row → Refused fault more
+refused_on Memory row more g r = tt
+refused_on (Limit over) row more g r = g.stays over r
+
+-- a row of steps in a setting
+abbrev pub Row : Type 0
+Row = Setting → Built → Built
+
+-- a call, and another one on what it built
+pub went_then : (old mid new : Building) (row : Built) (next : Row) → Went old mid row → Went mid new (next mid.setting (begun mid.draft)) → Went old new (next old.setting row)
+went_then old mid new row next w v =
+    let same : next mid.setting (begun mid.draft) ≡ next old.setting row = ap (λ (s : Setting). next s (begun mid.draft)) w.kept ∙ ap (next old.setting) (went_is old mid row w) in
+    let u : Went mid new (next old.setting row) = went_as mid new _ _ same v in
+    record { within = u.within; built = u.built; kept = v.kept ∙ w.kept }
+
+pub refused_then : (old mid : Building) (row : Built) (next : Row) (fault : LimitFault) → Went old mid row → Refused fault (next mid.setting (begun mid.draft)) → Refused fault (next old.setting row)
+refused_then old mid row next fault w r =
+    refused_as fault _ _ (ap (λ (s : Setting). next s (begun mid.draft)) w.kept ∙ ap (next old.setting) (went_is old mid row w)) r
+
+-- what is built now: the rest of a row from here is all of it, from the start
+pub record Going (old now : Building) (rest : Row) (all : Built) : Type 0 where
+  pub same : rest now.setting (begun now.draft) ≡ all
+  pub kept : now.setting ≡ old.setting
+  pub grown : XGrows (begun old.draft) (begun now.draft)
+
+pub going_start : (old : Building) (rest : Row) → Going old old rest (rest old.setting (begun old.draft))
+going_start old rest = record { same = refl; kept = refl; grown = x_same (begun old.draft) }
+
+-- a first call stands before all of it
+pub going_from : (old now : Building) (row : Built) (rest : Row) → XGrows (begun old.draft) row → Went old now row → Going old now rest (rest old.setting row)
+going_from old now row rest g w = record {
+  same = ap (λ (s : Setting). rest s (begun now.draft)) w.kept ∙ ap (rest old.setting) (went_is old now row w);
+  kept = w.kept;
+  grown = subst (λ (b : Built). XGrows (begun old.draft) b) (sym (went_is old now row w)) g;
+}
+
+-- one more call of it went well
+pub going_more : (old now new : Building) (rest step next : Row) (all : Built) → ((at : Setting) (b : Built) → rest at b ≡ next at (step at b)) → ((at : Setting) (b : Built) → XGrows b (step at b)) → Going old now rest all → Went now new (step now.setting (begun now.draft)) → Going old new next all
+going_more old now new rest step next all turn grows g w =
+    let here : begun new.draft ≡ step now.setting (begun now.draft) = went_is now new _ w in
+    record {
+      same = ap (λ (s : Setting). next s (begun new.draft)) w.kept ∙ ap (next now.setting) here ∙ sym (turn now.setting (begun now.draft)) ∙ g.same;
+      kept = w.kept ∙ g.kept;
+      grown = x_then g.grown (subst (λ (b : Built). XGrows (begun now.draft) b) (sym here) (grows now.setting (begun now.draft)));
+    }
+
+-- one more call of it was refused
+pub going_refused : (old now : Building) (rest step next : Row) (all : Built) (fault : LimitFault) → ((at : Setting) (b : Built) → rest at b ≡ next at (step at b)) → ((at : Setting) (b : Built) → XGrows b (next at b)) → Going old now rest all → Refused fault (step now.setting (begun now.draft)) → Refused fault all
+going_refused old now rest step next all fault turn grows g r =
+    let here : Built = step now.setting (begun now.draft) in
+    refused_as fault _ _ (sym (turn now.setting (begun now.draft)) ∙ g.same) (refused_on fault here (next now.setting here) (grows now.setting here).grows r)
+
+-- nothing of it is left
+pub going_end : (old now : Building) (rest : Row) (all : Built) → ((at : Setting) (b : Built) → rest at b ≡ b) → Going old now rest all → Went old now all
+going_end old now rest all ends g =
+    let here : begun now.draft ≡ all = sym (ends now.setting (begun now.draft)) ∙ g.same in
+    record { within = sym (ap (λ (b : Built). b.over) here); built = ap (λ (b : Built). b.draft) here; kept = g.kept }

@@ -1,0 +1,4 @@
+pub mod Grows
+pub mod Going
+pub mod Safe
+pub mod Keeps
