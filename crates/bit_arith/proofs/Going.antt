@@ -1,5 +1,6 @@
 -- Calls one after another: what is built by them, and what refuses them.
 use Rattle.std.proofs.Common.{◌≡◌, Option, Some, None, refl, sym, ap, ◌∙◌, subst}
+use Rattle.std.specs.Prelude.{Result, Ok, Err, IfErr, IsErrAnd}
 use Rattle.silq_io.specs.declared.limit.OverLimit.{OverLimit}
 use Rattle.silq_io.specs.declared.limit.LimitFault.{LimitFault}
 use Rattle.silq_io.specs.declared.limit.LimitFault.TheVariants.{Memory, Limit}
@@ -14,6 +15,10 @@ went_is old new row w =
     let family : (d : DraftForm) → Built = λ (d : DraftForm). begun d in
     ap family w.built ∙ ap (λ (o : Option OverLimit). record { draft = row.draft; over = o }) (sym w.within)
 
+-- what a row keeps, its call keeps
+pub went_grows : (old new : Building) (row : Built) → XGrows (begun old.draft) row → Went old new row → XGrows (begun old.draft) (begun new.draft)
+went_grows old new row x w = subst (λ (b : Built). XGrows (begun old.draft) b) (sym (went_is old new row w)) x
+
 pub went_as : (old new : Building) (row other : Built) → row ≡ other → Went old new row → Went old new other
 went_as old new row other e w = subst (λ (r : Built). Went old new r) e w
 
@@ -24,6 +29,11 @@ refused_as fault row other e r = subst (λ (b : Built). Refused fault b) e r
 pub refused_on : (fault : LimitFault) (row more : Built) → Grows row more → Refused fault row → Refused fault more
 refused_on Memory row more g r = tt
 refused_on (Limit over) row more g r = g.stays over r
+
+-- what a `?` gives back
+pub refused_out : {A : Type 0} (result : Result A LimitFault) (fault : LimitFault) (row : Built) → IsErrAnd result (λ x. x ≡ fault) → Refused fault row → IfErr result (λ e. Refused e row)
+refused_out (Err x) fault row e r = subst (λ (f : LimitFault). Refused f row) (sym e) r
+refused_out (Ok a) fault row e r = tt
 
 -- a row of steps in a setting
 abbrev pub Row : Type 0
@@ -54,7 +64,7 @@ pub going_from : (old now : Building) (row : Built) (rest : Row) → XGrows (beg
 going_from old now row rest g w = record {
   same = ap (λ (s : Setting). rest s (begun now.draft)) w.kept ∙ ap (rest old.setting) (went_is old now row w);
   kept = w.kept;
-  grown = subst (λ (b : Built). XGrows (begun old.draft) b) (sym (went_is old now row w)) g;
+  grown = went_grows old now row g w;
 }
 
 -- one more call of it went well
@@ -78,3 +88,12 @@ pub going_end : (old now : Building) (rest : Row) (all : Built) → ((at : Setti
 going_end old now rest all ends g =
     let here : begun now.draft ≡ all = sym (ends now.setting (begun now.draft)) ∙ g.same in
     record { within = sym (ap (λ (b : Built). b.over) here); built = ap (λ (b : Built). b.draft) here; kept = g.kept }
+
+-- the same where the next call has the answer of the first
+pub went_with : {A : Type 0} (old mid new : Building) (row : Built) (next : A → Row) (a given : A) → a ≡ given → Went old mid row → Went mid new (next a mid.setting (begun mid.draft)) → Went old new (next given old.setting row)
+went_with old mid new row next a given e w v =
+    went_as old new _ _ (ap (λ (x : _). next x old.setting row) e) (went_then old mid new row (next a) w v)
+
+pub refused_with : {A : Type 0} (old mid : Building) (row : Built) (next : A → Row) (a given : A) (fault : LimitFault) → a ≡ given → Went old mid row → Refused fault (next a mid.setting (begun mid.draft)) → Refused fault (next given old.setting row)
+refused_with old mid row next a given fault e w r =
+    refused_as fault _ _ (ap (λ (x : _). next x old.setting row) e) (refused_then old mid row (next a) fault w r)

@@ -2,3 +2,4 @@ pub mod Grows
 pub mod Going
 pub mod Safe
 pub mod Keeps
+pub mod Turns

@@ -9,7 +9,7 @@ use Rattle.flat_core.specs.Label.{same_wire, wire_id}
 use Rattle.bit_arith.specs.declared.operand.Operand.{Operand}
 use Rattle.bit_arith.specs.declared.operand.Operand.TheVariants.{Const, Literal}
 use Rattle.bit_arith.specs.Built.{Built, Setting, under_condition, under, negated, all_negated, top_negated, made, all_made, wires_from}
-use Rattle.bit_arith.specs.Calls.{Targets, among, no_target, SafeLit, Safe, AllSafe, IsTarget, AreTargets}
+use Rattle.bit_arith.specs.Calls.{Building, Targets, among, no_target, SafeLit, Safe, AllSafe, IsTarget, AreTargets}
 use Rattle.bit_arith.proofs.Grows.{XGrows}
 
 -- what is safe in one place is safe in another
@@ -140,3 +140,11 @@ made_safe d w lt = (lt, refl)
 pub all_made_safe : (d : DraftForm) (ws : List WireId) → AreTargets d ws → AllSafe (length d.wires) no_target (all_made ws)
 all_made_safe d [] t = tt
 all_made_safe d (w ∷ ws) t = ((t.0.0, refl), all_made_safe d ws t.1)
+
+-- what was safe before a call is so after it
+pub now_safe : (old now : Building) (T U : Targets) (ps : List Operand) → now.setting ≡ old.setting → Wider (length old.draft.wires) T (length now.draft.wires) U → AllSafe (length old.draft.wires) T (under old.setting []) → AllSafe (length old.draft.wires) T ps → AllSafe (length now.draft.wires) U (under now.setting ps)
+now_safe old now T U ps kept wide front s =
+    subst (λ (at : Setting). AllSafe (length now.draft.wires) U (under at ps)) (sym kept)
+    (under_safe (length now.draft.wires) U old.setting ps
+     (under_in (length old.draft.wires) T (length now.draft.wires) U wide old.setting [] front)
+     (all_safe_in (length old.draft.wires) T (length now.draft.wires) U wide ps s))
