@@ -1,6 +1,6 @@
 -- Calls one after another: what is built by them, and what refuses them.
 use Rattle.std.proofs.Common.{◌≡◌, Option, Some, None, refl, sym, ap, ◌∙◌, subst}
-use Rattle.std.specs.Prelude.{Result, Ok, Err, IfErr, IsErrAnd}
+use Rattle.std.specs.Prelude.{Result, Ok, Err, IfOk, IfErr, IsErrAnd}
 use Rattle.silq_io.specs.declared.limit.OverLimit.{OverLimit}
 use Rattle.silq_io.specs.declared.limit.LimitFault.{LimitFault}
 use Rattle.silq_io.specs.declared.limit.LimitFault.TheVariants.{Memory, Limit}
@@ -51,16 +51,16 @@ refused_then old mid row next fault w r =
     refused_as fault _ _ (ap (λ (s : Setting). next s (begun mid.draft)) w.kept ∙ ap (next old.setting) (went_is old mid row w)) r
 
 -- what is built now: the rest of a row from here is all of it, from the start
-pub record Going (old now : Building) (rest : Row) (all : Built) : Type 0 where
+pub record Going {G : Type 0} (old now : Building) (rest : Setting → Built → G) (all : G) : Type 0 where
   pub same : rest now.setting (begun now.draft) ≡ all
   pub kept : now.setting ≡ old.setting
   pub grown : XGrows (begun old.draft) (begun now.draft)
 
-pub going_start : (old : Building) (rest : Row) → Going old old rest (rest old.setting (begun old.draft))
+pub going_start : {G : Type 0} (old : Building) (rest : Setting → Built → G) → Going old old rest (rest old.setting (begun old.draft))
 going_start old rest = record { same = refl; kept = refl; grown = x_same (begun old.draft) }
 
 -- a first call stands before all of it
-pub going_from : (old now : Building) (row : Built) (rest : Row) → XGrows (begun old.draft) row → Went old now row → Going old now rest (rest old.setting row)
+pub going_from : {G : Type 0} (old now : Building) (row : Built) (rest : Setting → Built → G) → XGrows (begun old.draft) row → Went old now row → Going old now rest (rest old.setting row)
 going_from old now row rest g w = record {
   same = ap (λ (s : Setting). rest s (begun now.draft)) w.kept ∙ ap (rest old.setting) (went_is old now row w);
   kept = w.kept;
@@ -68,26 +68,30 @@ going_from old now row rest g w = record {
 }
 
 -- one more call of it went well
-pub going_more : (old now new : Building) (rest step next : Row) (all : Built) → ((at : Setting) (b : Built) → rest at b ≡ next at (step at b)) → ((at : Setting) (b : Built) → XGrows b (step at b)) → Going old now rest all → Went now new (step now.setting (begun now.draft)) → Going old new next all
+pub going_more : {G : Type 0} (old now new : Building) (rest : Setting → Built → G) (step : Row) (next : Setting → Built → G) (all : G) → rest now.setting (begun now.draft) ≡ next now.setting (step now.setting (begun now.draft)) → ((at : Setting) (b : Built) → XGrows b (step at b)) → Going old now rest all → Went now new (step now.setting (begun now.draft)) → Going old new next all
 going_more old now new rest step next all turn grows g w =
     let here : begun new.draft ≡ step now.setting (begun now.draft) = went_is now new _ w in
     record {
-      same = ap (λ (s : Setting). next s (begun new.draft)) w.kept ∙ ap (next now.setting) here ∙ sym (turn now.setting (begun now.draft)) ∙ g.same;
+      same = ap (λ (s : Setting). next s (begun new.draft)) w.kept ∙ ap (next now.setting) here ∙ sym turn ∙ g.same;
       kept = w.kept ∙ g.kept;
-      grown = x_then g.grown (subst (λ (b : Built). XGrows (begun now.draft) b) (sym here) (grows now.setting (begun now.draft)));
+      grown = x_then g.grown (went_grows now new _ (grows now.setting (begun now.draft)) w);
     }
 
 -- one more call of it was refused
-pub going_refused : (old now : Building) (rest step next : Row) (all : Built) (fault : LimitFault) → ((at : Setting) (b : Built) → rest at b ≡ next at (step at b)) → ((at : Setting) (b : Built) → XGrows b (next at b)) → Going old now rest all → Refused fault (step now.setting (begun now.draft)) → Refused fault all
-going_refused old now rest step next all fault turn grows g r =
+pub going_refused : {G : Type 0} (built : G → Built) (old now : Building) (rest : Setting → Built → G) (step : Row) (next : Setting → Built → G) (all : G) (fault : LimitFault) → rest now.setting (begun now.draft) ≡ next now.setting (step now.setting (begun now.draft)) → ((at : Setting) (b : Built) → XGrows b (built (next at b))) → Going old now rest all → Refused fault (step now.setting (begun now.draft)) → Refused fault (built all)
+going_refused built old now rest step next all fault turn grows g r =
     let here : Built = step now.setting (begun now.draft) in
-    refused_as fault _ _ (sym (turn now.setting (begun now.draft)) ∙ g.same) (refused_on fault here (next now.setting here) (grows now.setting here).grows r)
+    refused_as fault _ _ (ap built (sym turn ∙ g.same)) (refused_on fault here (built (next now.setting here)) (grows now.setting here).grows r)
 
 -- nothing of it is left
-pub going_end : (old now : Building) (rest : Row) (all : Built) → ((at : Setting) (b : Built) → rest at b ≡ b) → Going old now rest all → Went old now all
-going_end old now rest all ends g =
-    let here : begun now.draft ≡ all = sym (ends now.setting (begun now.draft)) ∙ g.same in
+pub going_end : {G : Type 0} (built : G → Built) (old now : Building) (rest : Setting → Built → G) (all : G) → ((at : Setting) (b : Built) → built (rest at b) ≡ b) → Going old now rest all → Went old now (built all)
+going_end built old now rest all ends g =
+    let here : begun now.draft ≡ built all = sym (ends now.setting (begun now.draft)) ∙ ap built g.same in
     record { within = sym (ap (λ (b : Built). b.over) here); built = ap (λ (b : Built). b.draft) here; kept = g.kept }
+
+-- a row as it is
+abbrev pub whole : Built → Built
+whole b = b
 
 -- the same where the next call has the answer of the first
 pub went_with : {A : Type 0} (old mid new : Building) (row : Built) (next : A → Row) (a given : A) → a ≡ given → Went old mid row → Went mid new (next a mid.setting (begun mid.draft)) → Went old new (next given old.setting row)
@@ -97,3 +101,16 @@ went_with old mid new row next a given e w v =
 pub refused_with : {A : Type 0} (old mid : Building) (row : Built) (next : A → Row) (a given : A) (fault : LimitFault) → a ≡ given → Went old mid row → Refused fault (next a mid.setting (begun mid.draft)) → Refused fault (next given old.setting row)
 refused_with old mid row next a given fault e w r =
     refused_as fault _ _ (ap (λ (x : _). next x old.setting row) e) (refused_then old mid row (next a) fault w r)
+
+-- a last call, whose `Result` is returned as it is
+pub ok_last : {A E : Type 0} (result : Result A E) (P Q : Type 0) → (P → Q) → IfOk result (λ _. P) → IfOk result (λ _. Q)
+ok_last (Ok a) P Q f p = f p
+ok_last (Err e) P Q f p = tt
+
+pub refused_last : {A : Type 0} (result : Result A LimitFault) (row other : Built) → ((fault : LimitFault) → Refused fault row → Refused fault other) → IfErr result (λ e. Refused e row) → IfErr result (λ e. Refused e other)
+refused_last (Ok a) row other f p = tt
+refused_last (Err e) row other f p = f e p
+
+-- want of memory
+pub memory_out : {A : Type 0} (result : Result A LimitFault) (row : Built) → IsErrAnd result (λ x. x ≡ Memory) → IfErr result (λ e. Refused e row)
+memory_out result row is = refused_out result Memory row is tt

@@ -148,3 +148,6 @@ now_safe old now T U ps kept wide front s =
     (under_safe (length now.draft.wires) U old.setting ps
      (under_in (length old.draft.wires) T (length now.draft.wires) U wide old.setting [] front)
      (all_safe_in (length old.draft.wires) T (length now.draft.wires) U wide ps s))
+
+pub more_wires : (n m : ℕ) (T : Targets) → n ≤ m → Wider n T m T
+more_wires n m T le = λ l s. (let h = s.0 in omega arith, s.1)

@@ -1,15 +1,18 @@
 -- Rows over lists, place by place.
-use Rattle.std.proofs.Common.{◌≡◌, ℕ, zero, suc, ◌+◌, ◌<◌, ◌≤◌, Bool, true, false, List, [], ◌∷◌, length, map, get_or, take, drop, Option, Some, None, refl, sym, ap, ◌∙◌, subst, arith}
+use Rattle.std.proofs.Common.{◌≡◌, ℕ, zero, suc, ◌+◌, ◌<◌, ◌≤◌, Bool, true, false, List, [], ◌∷◌, ◌++◌, length, map, get_or, take, drop, Option, Some, None, refl, sym, ap, ◌∙◌, subst, arith}
 use Rattle.std.proofs.lemmas.List.{drop_more, drop_all}
+use Rattle.silq_io.specs.declared.limit.LimitFault.{LimitFault}
 use Rattle.flat_core.specs.declared.step.WireId.{WireId}
 use Rattle.flat_core.specs.Label.{same_wire, wire_id}
 use Rattle.bit_arith.specs.declared.operand.Operand.{Operand}
 use Rattle.bit_arith.specs.declared.operand.Operand.TheVariants.{Const, Literal}
-use Rattle.bit_arith.specs.Built.{Built, Setting, new_wire, new_wires, next_wire, next_wires, wires_from, made, all_made, under}
-use Rattle.bit_arith.specs.Rows.{flip, flip_by, flip_up, flip_down, singles, triples, products, pairs, flip_each, carry_bit, carries}
-use Rattle.bit_arith.specs.Calls.{Building, Targets, among, no_target, Safe, AllSafe}
-use Rattle.bit_arith.proofs.Grows.{XGrows}
-use Rattle.bit_arith.proofs.Safe.{Wider, safe_at, all_safe_in, condition_safe, operands_safe, now_safe, beside_one}
+use Rattle.bit_arith.specs.Built.{Built, Setting, new_wire, new_wires, next_wire, next_wires, wires_from, made, all_made, under, begun}
+use Rattle.bit_arith.specs.Rows.{alone, flip, flip_by, flip_up, flip_down, singles, triples, products, pairs, flip_each, carry_bit, carries}
+use Rattle.bit_arith.specs.Calls.{Building, Went, Refused, Targets, among, no_target, Safe, AllSafe}
+use Rattle.bit_arith.proofs.Grows.{XGrows, x_then, x_same, all_safe_front, all_safe_back}
+use Rattle.bit_arith.proofs.Keeps.{flip_by_x}
+use Rattle.bit_arith.proofs.Going.{went_as, went_then, refused_on, refused_as, refused_then}
+use Rattle.bit_arith.proofs.Safe.{Wider, safe_at, all_safe_in, condition_safe, operands_safe, now_safe, beside_one, more_wires}
 
 -- what is read past the end of a list
 abbrev pub wire_at : List WireId → ℕ → WireId
@@ -42,3 +45,106 @@ each_safe old now ws ps i lt same kept few safe =
     (beside_one n (length now.draft.wires) ws i (wire_id 0) few lt)
     (condition_safe n (among ws) old.setting ps safe)
     (safe_at n (among ws) ps i (Const false) (omega arith) (operands_safe n (among ws) old.setting ps safe), tt)
+
+-- ---- one wire by several operands
+
+pub alone_turn : (w : WireId) (ps : List Operand) (i : ℕ) → i < length ps → (at : Setting) (b : Built) → flip_by at w (map alone (drop i ps)) b ≡ flip_by at w (map alone (drop (i + 1) ps)) (flip at w (bit_at ps i ∷ []) b)
+alone_turn w ps i lt at b = let e = drop_more ps i (Const false) lt in rw e
+
+pub alone_end : (w : WireId) (ps : List Operand) (i : ℕ) → length ps ≤ i → (at : Setting) (b : Built) → flip_by at w (map alone (drop i ps)) b ≡ b
+alone_end w ps i le at b = let e = drop_all i ps le in rw e
+
+pub alone_safe : (old now : Building) (w : WireId) (ps : List Operand) (i : ℕ) → i < length ps → now.setting ≡ old.setting → length old.draft.wires ≤ length now.draft.wires → AllSafe (length old.draft.wires) (same_wire w) (under old.setting ps) → AllSafe (length now.draft.wires) (same_wire w) (under now.setting (bit_at ps i ∷ []))
+alone_safe old now w ps i lt kept few safe =
+    let n : ℕ = length old.draft.wires in
+    now_safe old now (same_wire w) (same_wire w) (bit_at ps i ∷ []) kept (more_wires n (length now.draft.wires) (same_wire w) few)
+    (condition_safe n (same_wire w) old.setting ps safe)
+    (safe_at n (same_wire w) ps i (Const false) lt (operands_safe n (same_wire w) old.setting ps safe), tt)
+
+-- ---- by three operands at each place
+
+pub three_turn : (ws : List WireId) (ps qs cs : List Operand) (i : ℕ) → i < length ws → length ws ≡ length ps → length ws ≡ length qs → length ws ≡ length cs → (at : Setting) (b : Built) → flip_up at (drop i ws) (triples (drop i ps) (drop i qs) (drop i cs)) b ≡ flip_up at (drop (i + 1) ws) (triples (drop (i + 1) ps) (drop (i + 1) qs) (drop (i + 1) cs)) (flip_by at (wire_at ws i) (map alone (bit_at ps i ∷ bit_at qs i ∷ bit_at cs i ∷ [])) b)
+three_turn ws ps qs cs i lt first second third at b =
+    let e = drop_more ws i (wire_id 0) lt in
+    let f = drop_more ps i (Const false) (omega arith) in
+    let g = drop_more qs i (Const false) (omega arith) in
+    let h = drop_more cs i (Const false) (omega arith) in
+    rw (e, f, g, h)
+
+pub up_end : (ws : List WireId) (cs : List (List (List Operand))) (i : ℕ) → length ws ≤ i → (at : Setting) (b : Built) → flip_up at (drop i ws) cs b ≡ b
+up_end ws cs i le at b = let e = drop_all i ws le in rw e
+
+pub three_safe : (old now : Building) (ws : List WireId) (ps qs cs : List Operand) (i : ℕ) → i < length ws → length ws ≡ length ps → length ws ≡ length qs → length ws ≡ length cs → now.setting ≡ old.setting → length old.draft.wires ≤ length now.draft.wires → AllSafe (length old.draft.wires) (among ws) (under old.setting (ps ++ qs ++ cs)) → AllSafe (length now.draft.wires) (same_wire (wire_at ws i)) (under now.setting (bit_at ps i ∷ bit_at qs i ∷ bit_at cs i ∷ []))
+three_safe old now ws ps qs cs i lt first second third kept few safe =
+    let n : ℕ = length old.draft.wires in
+    let all : AllSafe n (among ws) (ps ++ qs ++ cs) = operands_safe n (among ws) old.setting (ps ++ qs ++ cs) safe in
+    let front : AllSafe n (among ws) (ps ++ qs) = all_safe_front n (among ws) (ps ++ qs) cs all in
+    now_safe old now (among ws) (same_wire (wire_at ws i)) (bit_at ps i ∷ bit_at qs i ∷ bit_at cs i ∷ []) kept
+    (beside_one n (length now.draft.wires) ws i (wire_id 0) few lt)
+    (condition_safe n (among ws) old.setting (ps ++ qs ++ cs) safe)
+    (safe_at n (among ws) ps i (Const false) (omega arith) (all_safe_front n (among ws) ps qs front),
+     (safe_at n (among ws) qs i (Const false) (omega arith) (all_safe_back n (among ws) ps qs front),
+      (safe_at n (among ws) cs i (Const false) (omega arith) (all_safe_back n (among ws) (ps ++ qs) cs all), tt)))
+
+-- ---- by a product with one operand
+
+pub products_turn : (ws : List WireId) (p : Operand) (qs : List Operand) (i : ℕ) → i < length ws → length ws ≡ length qs → (at : Setting) (b : Built) → flip_up at (drop i ws) (products p (drop i qs)) b ≡ flip_up at (drop (i + 1) ws) (products p (drop (i + 1) qs)) (flip at (wire_at ws i) (p ∷ bit_at qs i ∷ []) b)
+products_turn ws p qs i lt same at b =
+    let e = drop_more ws i (wire_id 0) lt in
+    let f = drop_more qs i (Const false) (omega arith) in
+    rw (e, f)
+
+pub products_safe : (old now : Building) (ws : List WireId) (p : Operand) (qs : List Operand) (i : ℕ) → i < length ws → length ws ≡ length qs → now.setting ≡ old.setting → length old.draft.wires ≤ length now.draft.wires → AllSafe (length old.draft.wires) (among ws) (under old.setting (p ∷ qs)) → AllSafe (length now.draft.wires) (same_wire (wire_at ws i)) (under now.setting (p ∷ bit_at qs i ∷ []))
+products_safe old now ws p qs i lt same kept few safe =
+    let n : ℕ = length old.draft.wires in
+    let all : AllSafe n (among ws) (p ∷ qs) = operands_safe n (among ws) old.setting (p ∷ qs) safe in
+    now_safe old now (among ws) (same_wire (wire_at ws i)) (p ∷ bit_at qs i ∷ []) kept
+    (beside_one n (length now.draft.wires) ws i (wire_id 0) few lt)
+    (condition_safe n (among ws) old.setting (p ∷ qs) safe)
+    (all.0, (safe_at n (among ws) qs i (Const false) (omega arith) all.1, tt))
+
+-- ---- from the top down, by two operands at each place
+
+-- one place more is done
+pub down_turn : (ws : List WireId) (ps qs : List Operand) (i : ℕ) → i < length ws → length ws ≡ length ps → length ws ≡ length qs → (at : Setting) (b : Built) → flip_down at (drop i ws) (pairs (drop i ps) (drop i qs)) b ≡ flip_by at (wire_at ws i) (map alone (bit_at ps i ∷ bit_at qs i ∷ [])) (flip_down at (drop (i + 1) ws) (pairs (drop (i + 1) ps) (drop (i + 1) qs)) b)
+down_turn ws ps qs i lt first second at b =
+    let e = drop_more ws i (wire_id 0) lt in
+    let f = drop_more ps i (Const false) (omega arith) in
+    let g = drop_more qs i (Const false) (omega arith) in
+    rw (e, f, g)
+
+pub down_end : (ws : List WireId) (cs : List (List (List Operand))) (i : ℕ) → length ws ≤ i → (at : Setting) (b : Built) → flip_down at (drop i ws) cs b ≡ b
+down_end ws cs i le at b = let e = drop_all i ws le in rw e
+
+-- what is done so far is kept by the rest
+pub down_rest : (ws : List WireId) (ps qs : List Operand) (i : ℕ) → length ws ≡ length ps → length ws ≡ length qs → (at : Setting) (b : Built) → XGrows (flip_down at (drop i ws) (pairs (drop i ps) (drop i qs)) b) (flip_down at ws (pairs ps qs) b)
+down_rest ws ps qs zero first second at b = x_same (flip_down at ws (pairs ps qs) b)
+down_rest [] ps qs (suc i) first second at b = x_same b
+down_rest (w ∷ ws) [] qs (suc i) first second at b = absurd (omega arith)
+down_rest (w ∷ ws) (p ∷ ps) [] (suc i) first second at b = absurd (omega arith)
+down_rest (w ∷ ws) (p ∷ ps) (q ∷ qs) (suc i) first second at b =
+    x_then (down_rest ws ps qs i (omega (arith, first)) (omega (arith, second)) at b)
+    (flip_by_x at w (alone p ∷ alone q ∷ []) (flip_down at ws (pairs ps qs) b))
+
+pub two_safe : (old now : Building) (ws : List WireId) (ps qs : List Operand) (i : ℕ) → i < length ws → length ws ≡ length ps → length ws ≡ length qs → now.setting ≡ old.setting → length old.draft.wires ≤ length now.draft.wires → AllSafe (length old.draft.wires) (among ws) (under old.setting (ps ++ qs)) → AllSafe (length now.draft.wires) (same_wire (wire_at ws i)) (under now.setting (bit_at ps i ∷ bit_at qs i ∷ []))
+two_safe old now ws ps qs i lt first second kept few safe =
+    let n : ℕ = length old.draft.wires in
+    let all : AllSafe n (among ws) (ps ++ qs) = operands_safe n (among ws) old.setting (ps ++ qs) safe in
+    now_safe old now (among ws) (same_wire (wire_at ws i)) (bit_at ps i ∷ bit_at qs i ∷ []) kept
+    (beside_one n (length now.draft.wires) ws i (wire_id 0) few lt)
+    (condition_safe n (among ws) old.setting (ps ++ qs) safe)
+    (safe_at n (among ws) ps i (Const false) (omega arith) (all_safe_front n (among ws) ps qs all),
+     (safe_at n (among ws) qs i (Const false) (omega arith) (all_safe_back n (among ws) ps qs all), tt))
+
+pub down_went : (old now new : Building) (ws : List WireId) (ps qs : List Operand) (i j : ℕ) → i ≡ j + 1 → j < length ws → length ws ≡ length ps → length ws ≡ length qs → Went old now (flip_down old.setting (drop i ws) (pairs (drop i ps) (drop i qs)) (begun old.draft)) → Went now new (flip_by now.setting (wire_at ws j) (map alone (bit_at ps j ∷ bit_at qs j ∷ [])) (begun now.draft)) → Went old new (flip_down old.setting (drop j ws) (pairs (drop j ps) (drop j qs)) (begun old.draft))
+down_went old now new ws ps qs i j next lt first second w v =
+    let u : Went old now (flip_down old.setting (drop (j + 1) ws) (pairs (drop (j + 1) ps) (drop (j + 1) qs)) (begun old.draft)) = subst (λ (k : ℕ). Went old now (flip_down old.setting (drop k ws) (pairs (drop k ps) (drop k qs)) (begun old.draft))) next w in
+    went_as old new _ _ (sym (down_turn ws ps qs j lt first second old.setting (begun old.draft)))
+    (went_then old now new _ (λ at b. flip_by at (wire_at ws j) (map alone (bit_at ps j ∷ bit_at qs j ∷ [])) b) u v)
+
+pub down_refused : (old now : Building) (ws : List WireId) (ps qs : List Operand) (i j : ℕ) (fault : LimitFault) → i ≡ j + 1 → j < length ws → length ws ≡ length ps → length ws ≡ length qs → Went old now (flip_down old.setting (drop i ws) (pairs (drop i ps) (drop i qs)) (begun old.draft)) → Refused fault (flip_by now.setting (wire_at ws j) (map alone (bit_at ps j ∷ bit_at qs j ∷ [])) (begun now.draft)) → Refused fault (flip_down old.setting ws (pairs ps qs) (begun old.draft))
+down_refused old now ws ps qs i j fault next lt first second w r =
+    let u : Went old now (flip_down old.setting (drop (j + 1) ws) (pairs (drop (j + 1) ps) (drop (j + 1) qs)) (begun old.draft)) = subst (λ (k : ℕ). Went old now (flip_down old.setting (drop k ws) (pairs (drop k ps) (drop k qs)) (begun old.draft))) next w in
+    refused_on fault _ _ (down_rest ws ps qs j first second old.setting (begun old.draft)).grows
+    (refused_as fault _ _ (sym (down_turn ws ps qs j lt first second old.setting (begun old.draft)))
+     (refused_then old now _ (λ at b. flip_by at (wire_at ws j) (map alone (bit_at ps j ∷ bit_at qs j ∷ [])) b) fault u r))

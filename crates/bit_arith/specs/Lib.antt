@@ -1,3 +1,4 @@
 pub mod Built
 pub mod Rows
 pub mod Calls
+pub mod Multiples

@@ -7,7 +7,7 @@ use Rattle.bit_arith.specs.Calls.{Building}
 use Rattle.bit_arith.proofs.Grows.{flip_x, target_more}
 use Rattle.bit_arith.proofs.Keeps.{flip_each_x}
 use Rattle.bit_arith.proofs.Safe.{target_at}
-use Rattle.bit_arith.proofs.Going.{Row, refused_out, going_more, going_refused, going_end}
+use Rattle.bit_arith.proofs.Going.{Row, whole, refused_out, going_more, going_refused, going_end}
 use Rattle.bit_arith.proofs.Turns.{wire_at, bit_at, each_turn, each_end, each_safe}
 use Rattle.bit_arith.proofs.builder.Builder.flip_each.Goals as goal
 
@@ -32,8 +32,8 @@ returns-in_err-flip-clause-refused c =
     let ws : List WireId = c.args.wires.now in
     let ps : List Operand = c.args.list.now in
     refused_out _ _ _ c.from_residual.ensures.1
-    (going_refused _ _ (rest ws ps c.loop-i.i) (step ws ps c.loop-i.i) (rest ws ps (c.loop-i.i + 1)) _ _
-     (each_turn ws ps c.loop-i.i c.loop-i-test.true c.requires.lengths)
+    (going_refused whole _ _ (rest ws ps c.loop-i.i) (step ws ps c.loop-i.i) (rest ws ps (c.loop-i.i + 1)) _ _
+     (each_turn ws ps c.loop-i.i c.loop-i-test.true c.requires.lengths _ _)
      (λ at b. flip_each_x at (drop (c.loop-i.i + 1) ws) (drop (c.loop-i.i + 1) ps) b)
      c.loop-i.invariant c.in_err-flip.ensures.refused)
 
@@ -42,7 +42,7 @@ loop-i-preserved c =
     let ws : List WireId = c.args.wires.now in
     let ps : List Operand = c.args.list.now in
     going_more _ _ _ (rest ws ps c.loop-i.i) (step ws ps c.loop-i.i) (rest ws ps (c.loop-i.i + 1)) _
-    (each_turn ws ps c.loop-i.i c.loop-i-test.true c.requires.lengths)
+    (each_turn ws ps c.loop-i.i c.loop-i-test.true c.requires.lengths _ _)
     (λ at b. flip_x at (wire_at ws c.loop-i.i) (bit_at ps c.loop-i.i ∷ []) b)
     c.loop-i.invariant c.in_ok-flip.ensures.ok
 
@@ -50,4 +50,4 @@ pub returns-clause-ok : goal.returns-clause-ok
 returns-clause-ok c =
     let ws : List WireId = c.args.wires.now in
     let ps : List Operand = c.args.list.now in
-    going_end _ _ (rest ws ps c.loop-i.i) _ (each_end ws ps c.loop-i.i (omega arith)) c.loop-i.invariant
+    going_end whole _ _ (rest ws ps c.loop-i.i) _ (each_end ws ps c.loop-i.i (omega arith)) c.loop-i.invariant
