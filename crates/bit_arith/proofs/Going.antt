@@ -39,16 +39,19 @@ refused_out (Ok a) fault row e r = tt
 abbrev pub Row : Type 0
 Row = Setting → Built → Built
 
+-- what a next call starts from
+pub went_same : {G : Type 0} (old mid : Building) (row : Built) (next : Setting → Built → G) → Went old mid row → next mid.setting (begun mid.draft) ≡ next old.setting row
+went_same old mid row next w = ap (λ (s : Setting). next s (begun mid.draft)) w.kept ∙ ap (next old.setting) (went_is old mid row w)
+
 -- a call, and another one on what it built
 pub went_then : (old mid new : Building) (row : Built) (next : Row) → Went old mid row → Went mid new (next mid.setting (begun mid.draft)) → Went old new (next old.setting row)
 went_then old mid new row next w v =
-    let same : next mid.setting (begun mid.draft) ≡ next old.setting row = ap (λ (s : Setting). next s (begun mid.draft)) w.kept ∙ ap (next old.setting) (went_is old mid row w) in
-    let u : Went mid new (next old.setting row) = went_as mid new _ _ same v in
+    let u : Went mid new (next old.setting row) = went_as mid new _ _ (went_same old mid row next w) v in
     record { within = u.within; built = u.built; kept = v.kept ∙ w.kept }
 
 pub refused_then : (old mid : Building) (row : Built) (next : Row) (fault : LimitFault) → Went old mid row → Refused fault (next mid.setting (begun mid.draft)) → Refused fault (next old.setting row)
 refused_then old mid row next fault w r =
-    refused_as fault _ _ (ap (λ (s : Setting). next s (begun mid.draft)) w.kept ∙ ap (next old.setting) (went_is old mid row w)) r
+    refused_as fault _ _ (went_same old mid row next w) r
 
 -- what is built now: the rest of a row from here is all of it, from the start
 pub record Going {G : Type 0} (old now : Building) (rest : Setting → Built → G) (all : G) : Type 0 where
@@ -62,7 +65,7 @@ going_start old rest = record { same = refl; kept = refl; grown = x_same (begun 
 -- a first call stands before all of it
 pub going_from : {G : Type 0} (old now : Building) (row : Built) (rest : Setting → Built → G) → XGrows (begun old.draft) row → Went old now row → Going old now rest (rest old.setting row)
 going_from old now row rest g w = record {
-  same = ap (λ (s : Setting). rest s (begun now.draft)) w.kept ∙ ap (rest old.setting) (went_is old now row w);
+  same = went_same old now row rest w;
   kept = w.kept;
   grown = went_grows old now row g w;
 }

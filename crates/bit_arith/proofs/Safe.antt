@@ -142,12 +142,22 @@ all_made_safe d [] t = tt
 all_made_safe d (w ∷ ws) t = ((t.0.0, refl), all_made_safe d ws t.1)
 
 -- what was safe before a call is so after it
-pub now_safe : (old now : Building) (T U : Targets) (ps : List Operand) → now.setting ≡ old.setting → Wider (length old.draft.wires) T (length now.draft.wires) U → AllSafe (length old.draft.wires) T (under old.setting []) → AllSafe (length old.draft.wires) T ps → AllSafe (length now.draft.wires) U (under now.setting ps)
-now_safe old now T U ps kept wide front s =
+pub under_now : (old now : Building) (T U : Targets) (ps : List Operand) → now.setting ≡ old.setting → Wider (length old.draft.wires) T (length now.draft.wires) U → AllSafe (length old.draft.wires) T (under old.setting []) → AllSafe (length now.draft.wires) U ps → AllSafe (length now.draft.wires) U (under now.setting ps)
+under_now old now T U ps kept wide front s =
     subst (λ (at : Setting). AllSafe (length now.draft.wires) U (under at ps)) (sym kept)
     (under_safe (length now.draft.wires) U old.setting ps
-     (under_in (length old.draft.wires) T (length now.draft.wires) U wide old.setting [] front)
-     (all_safe_in (length old.draft.wires) T (length now.draft.wires) U wide ps s))
+     (under_in (length old.draft.wires) T (length now.draft.wires) U wide old.setting [] front) s)
+
+pub now_safe : (old now : Building) (T U : Targets) (ps : List Operand) → now.setting ≡ old.setting → Wider (length old.draft.wires) T (length now.draft.wires) U → AllSafe (length old.draft.wires) T (under old.setting []) → AllSafe (length old.draft.wires) T ps → AllSafe (length now.draft.wires) U (under now.setting ps)
+now_safe old now T U ps kept wide front s =
+    under_now old now T U ps kept wide front (all_safe_in (length old.draft.wires) T (length now.draft.wires) U wide ps s)
 
 pub more_wires : (n m : ℕ) (T : Targets) → n ≤ m → Wider n T m T
 more_wires n m T le = λ l s. (let h = s.0 in omega arith, s.1)
+
+-- wires that are there are below those that are not
+pub among_past : (d : DraftForm) (ws : List WireId) (w : WireId) → AreTargets d ws → length d.wires ≤ w.number → among ws w ≡ false
+among_past d [] w t past = refl
+among_past d (v ∷ ws) w t past =
+    let one : same_wire w v ≡ false = number_differs v.number w.number (length d.wires) t.0.0 past in
+    ap (λ (x : Bool). x || among ws w) one ∙ among_past d ws w t.1 past

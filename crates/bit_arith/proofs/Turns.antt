@@ -1,18 +1,18 @@
 -- Rows over lists, place by place.
-use Rattle.std.proofs.Common.{◌≡◌, ℕ, zero, suc, ◌+◌, ◌<◌, ◌≤◌, Bool, true, false, List, [], ◌∷◌, ◌++◌, length, map, get_or, take, drop, Option, Some, None, refl, sym, ap, ◌∙◌, subst, arith}
+use Rattle.std.proofs.Common.{◌≡◌, ℕ, zero, suc, ◌+◌, ◌<◌, ◌≤◌, Bool, true, false, List, [], ◌∷◌, ◌++◌, length, map, get_or, take, drop, Option, Some, None, refl, sym, ap, ◌∙◌, subst, append_assoc, arith}
 use Rattle.std.proofs.lemmas.List.{drop_more, drop_all}
 use Rattle.silq_io.specs.declared.limit.LimitFault.{LimitFault}
 use Rattle.flat_core.specs.declared.step.WireId.{WireId}
 use Rattle.flat_core.specs.Label.{same_wire, wire_id}
 use Rattle.bit_arith.specs.declared.operand.Operand.{Operand}
 use Rattle.bit_arith.specs.declared.operand.Operand.TheVariants.{Const, Literal}
-use Rattle.bit_arith.specs.Built.{Built, Setting, new_wire, new_wires, next_wire, next_wires, wires_from, made, all_made, under, begun}
-use Rattle.bit_arith.specs.Rows.{alone, flip, flip_by, flip_up, flip_down, singles, triples, products, pairs, flip_each, carry_bit, carries}
+use Rattle.bit_arith.specs.Built.{Built, Setting, Given, new_wire, new_wires, next_wire, next_wires, wires_from, made, all_made, under, begun}
+use Rattle.bit_arith.specs.Rows.{alone, flip, flip_by, flip_up, flip_down, singles, triples, products, pairs, flip_each, carry_bit, carries, carry}
 use Rattle.bit_arith.specs.Calls.{Building, Went, Refused, Targets, among, no_target, Safe, AllSafe}
-use Rattle.bit_arith.proofs.Grows.{XGrows, x_then, x_same, all_safe_front, all_safe_back}
-use Rattle.bit_arith.proofs.Keeps.{flip_by_x}
-use Rattle.bit_arith.proofs.Going.{went_as, went_then, refused_on, refused_as, refused_then}
-use Rattle.bit_arith.proofs.Safe.{Wider, safe_at, all_safe_in, condition_safe, operands_safe, now_safe, beside_one, more_wires}
+use Rattle.bit_arith.proofs.Grows.{XGrows, x_then, x_same, new_wire_x, length-new_wire, safe_more, all_safe_front, all_safe_back}
+use Rattle.bit_arith.proofs.Keeps.{flip_by_x, carry_bit_x, carries_x}
+use Rattle.bit_arith.proofs.Going.{went_as, went_then, went_grows, refused_on, refused_as, refused_then}
+use Rattle.bit_arith.proofs.Safe.{Wider, safe_at, all_safe_in, condition_safe, operands_safe, now_safe, under_now, beside_one, beside_new, more_wires}
 
 -- what is read past the end of a list
 abbrev pub wire_at : List WireId → ℕ → WireId
@@ -148,3 +148,76 @@ down_refused old now ws ps qs i j fault next lt first second w r =
     refused_on fault _ _ (down_rest ws ps qs j first second old.setting (begun old.draft)).grows
     (refused_as fault _ _ (sym (down_turn ws ps qs j lt first second old.setting (begun old.draft)))
      (refused_then old now _ (λ at b. flip_by at (wire_at ws j) (map alone (bit_at ps j ∷ bit_at qs j ∷ [])) b) fault u r))
+
+-- a call on a new wire, by operands that were safe
+pub wire_safe : (old now : Building) (w : WireId) (ps : List Operand) → w ≡ next_wire (begun old.draft) → Went old now (new_wire (begun old.draft)) → AllSafe (length old.draft.wires) no_target (under old.setting ps) → AllSafe (length now.draft.wires) (same_wire w) (under now.setting ps)
+wire_safe old now w ps is went safe =
+    let n : ℕ = length old.draft.wires in
+    let g : XGrows (begun old.draft) (begun now.draft) = went_grows old now _ (new_wire_x (begun old.draft)) went in
+    let at : w.number ≡ n = ap (λ (v : WireId). v.number) is in
+    now_safe old now no_target (same_wire w) ps went.kept
+    (beside_new n (length now.draft.wires) no_target w g.grows.few (omega arith))
+    (condition_safe n no_target old.setting ps safe) (operands_safe n no_target old.setting ps safe)
+
+-- ---- carries
+
+-- operands that stand in front of what a row gives
+abbrev pub prepend : List Operand → Given (List Operand) → Given (List Operand)
+prepend done g = record { answer = done ++ g.answer; built = g.built }
+
+abbrev pub built_of : Given (List Operand) → Built
+built_of g = g.built
+
+pub carries_turn : (done ps qs : List Operand) (c : Operand) (i : ℕ) → i + 1 < length ps → length ps ≡ length qs → (at : Setting) (b : Built) → prepend done (carries at c (drop i ps) (drop i qs) b) ≡ prepend (done ++ c ∷ []) (carries at (made (next_wire b)) (drop (i + 1) ps) (drop (i + 1) qs) (carry_bit at (next_wire b) (bit_at ps i) (bit_at qs i) c (new_wire b)))
+carries_turn done ps qs c i lt same at b =
+    let e = drop_more ps i (Const false) (omega arith) in
+    let f = drop_more qs i (Const false) (omega arith) in
+    let g = drop_more ps (i + 1) (Const false) lt in
+    rw (e, f, g, append_assoc)
+
+pub carries_end : (done ps qs : List Operand) (c : Operand) (i : ℕ) → i + 1 ≡ length ps → (at : Setting) (b : Built) → prepend done (carries at c (drop i ps) (drop i qs) b) ≡ record { answer = done ++ c ∷ []; built = b }
+carries_end done ps qs c i last at b =
+    let e = drop_more ps i (Const false) (omega arith) in
+    let f = drop_all (i + 1) ps (omega arith) in
+    rw (e, f)
+
+pub length-carries : (at : Setting) (c : Operand) (ps qs : List Operand) (b : Built) → length ps ≡ length qs → length (carries at c ps qs b).answer ≡ length ps
+length-carries at c [] qs b same = refl
+length-carries at c (p ∷ []) qs b same = refl
+length-carries at c (p ∷ p' ∷ ps) [] b same = absurd (omega arith)
+length-carries at c (p ∷ p' ∷ ps) (q ∷ qs) b same =
+    let e = length-carries at (made (next_wire b)) (p' ∷ ps) qs (carry_bit at (next_wire b) p q c (new_wire b)) (omega (arith, same)) in
+    omega (arith, e)
+
+-- carries are on new wires
+pub carries_safe : (T : Targets) (at : Setting) (c : Operand) (ps qs : List Operand) (b : Built) → ((w : WireId) → length b.draft.wires ≤ w.number → T w ≡ false) → Safe (length b.draft.wires) T c → AllSafe (length (carries at c ps qs b).built.draft.wires) T (carries at c ps qs b).answer
+carries_safe T at c [] qs b new safe = tt
+carries_safe T at c (p ∷ []) qs b new safe = (safe, tt)
+carries_safe T at c (p ∷ p' ∷ ps) [] b new safe = (safe, tt)
+carries_safe T at c (p ∷ p' ∷ ps) (q ∷ qs) b new safe =
+    let next : Built = carry_bit at (next_wire b) p q c (new_wire b) in
+    let longer = length-new_wire b in
+    let more = (carry_bit_x at (next_wire b) p q c (new_wire b)).grows.few in
+    let all = (carries_x at c (p ∷ p' ∷ ps) (q ∷ qs) b).grows.few in
+    (safe_more (length b.draft.wires) _ T c all safe,
+     carries_safe T at (made (next_wire b)) (p' ∷ ps) qs next (λ w past. new w (omega arith)) (omega arith, new (next_wire b) (omega arith)))
+
+-- the operands of one place, and a carry
+pub places_safe : (old now : Building) (p : Operand → Operand) (ps qs : List Operand) (c : Operand) (i : ℕ) → ((x : Operand) → Safe (length now.draft.wires) no_target x → Safe (length now.draft.wires) no_target (p x)) → i < length ps → length ps ≡ length qs → now.setting ≡ old.setting → length old.draft.wires ≤ length now.draft.wires → AllSafe (length old.draft.wires) no_target (under old.setting (ps ++ qs)) → Safe (length now.draft.wires) no_target c → AllSafe (length now.draft.wires) no_target (under now.setting (p (bit_at ps i) ∷ bit_at qs i ∷ c ∷ []))
+places_safe old now p ps qs c i keeps lt same kept few safe carry_safe =
+    let n : ℕ = length old.draft.wires in
+    let m : ℕ = length now.draft.wires in
+    let all : AllSafe n no_target (ps ++ qs) = operands_safe n no_target old.setting (ps ++ qs) safe in
+    under_now old now no_target no_target (p (bit_at ps i) ∷ bit_at qs i ∷ c ∷ []) kept (more_wires n m no_target few)
+    (condition_safe n no_target old.setting (ps ++ qs) safe)
+    (keeps (bit_at ps i) (safe_more n m no_target (bit_at ps i) few (safe_at n no_target ps i (Const false) lt (all_safe_front n no_target ps qs all))),
+     (safe_more n m no_target (bit_at qs i) few (safe_at n no_target qs i (Const false) (omega arith) (all_safe_back n no_target ps qs all)),
+      (carry_safe, tt)))
+
+pub length-carry : (at : Setting) (ps qs : List Operand) (b : Built) → length ps ≡ length qs → length (carry at ps qs b).answer ≡ length ps
+unfolding carry
+length-carry at ps qs b same = length-carries at (Const false) ps qs b same
+
+pub carry_safe : (T : Targets) (at : Setting) (ps qs : List Operand) (b : Built) → ((w : WireId) → length b.draft.wires ≤ w.number → T w ≡ false) → AllSafe (length (carry at ps qs b).built.draft.wires) T (carry at ps qs b).answer
+unfolding carry
+carry_safe T at ps qs b new = carries_safe T at (Const false) ps qs b new tt
