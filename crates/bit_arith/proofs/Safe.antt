@@ -10,7 +10,7 @@ use Rattle.bit_arith.specs.declared.operand.Operand.{Operand}
 use Rattle.bit_arith.specs.declared.operand.Operand.TheVariants.{Const, Literal}
 use Rattle.bit_arith.specs.Built.{Built, Setting, under_condition, under, negated, all_negated, top_negated, made, all_made, wires_from}
 use Rattle.bit_arith.specs.Calls.{Building, Targets, among, no_target, SafeLit, Safe, AllSafe, IsTarget, AreTargets}
-use Rattle.bit_arith.proofs.Grows.{XGrows}
+use Rattle.bit_arith.proofs.Grows.{all_safe_append, all_safe_front, all_safe_back}
 
 -- what is safe in one place is safe in another
 abbrev pub Wider : ℕ → Targets → ℕ → Targets → Type 0
@@ -161,3 +161,11 @@ among_past d [] w t past = refl
 among_past d (v ∷ ws) w t past =
     let one : same_wire w v ≡ false = number_differs v.number w.number (length d.wires) t.0.0 past in
     ap (λ (x : Bool). x || among ws w) one ∙ among_past d ws w t.1 past
+
+-- operands in front of two lists
+pub front_safe : (n : ℕ) (T : Targets) (at : Setting) (cs ps qs : List Operand) → (AllSafe n T ps → AllSafe n T cs) → AllSafe n T (under at (ps ++ qs)) → AllSafe n T (under at (cs ++ ps ++ qs))
+front_safe n T at cs ps qs gives safe =
+    let all : AllSafe n T (ps ++ qs) = operands_safe n T at (ps ++ qs) safe in
+    let first : AllSafe n T ps = all_safe_front n T ps qs all in
+    under_safe n T at (cs ++ ps ++ qs) (condition_safe n T at (ps ++ qs) safe)
+    (all_safe_append n T (cs ++ ps) qs (all_safe_append n T cs ps (gives first) first) (all_safe_back n T ps qs all))

@@ -1,18 +1,19 @@
 -- Rows over lists, place by place.
-use Rattle.std.proofs.Common.{◌≡◌, ℕ, zero, suc, ◌+◌, ◌<◌, ◌≤◌, Bool, true, false, List, [], ◌∷◌, ◌++◌, length, map, get_or, take, drop, Option, Some, None, refl, sym, ap, ◌∙◌, subst, append_assoc, arith}
+use Rattle.std.proofs.Common.{◌≡◌, ℕ, zero, suc, ◌+◌, ◌<◌, ◌≤◌, Bool, true, false, List, [], ◌∷◌, ◌++◌, length, map, get_or, take, drop, Option, Some, None, refl, sym, ap, ◌∙◌, subst, append_assoc, append-nil, arith}
 use Rattle.std.proofs.lemmas.List.{drop_more, drop_all}
 use Rattle.silq_io.specs.declared.limit.LimitFault.{LimitFault}
 use Rattle.flat_core.specs.declared.step.WireId.{WireId}
+use Rattle.flat_core.specs.Form.{DraftForm}
 use Rattle.flat_core.specs.Label.{same_wire, wire_id}
 use Rattle.bit_arith.specs.declared.operand.Operand.{Operand}
 use Rattle.bit_arith.specs.declared.operand.Operand.TheVariants.{Const, Literal}
-use Rattle.bit_arith.specs.Built.{Built, Setting, Given, new_wire, new_wires, next_wire, next_wires, wires_from, made, all_made, under, begun}
-use Rattle.bit_arith.specs.Rows.{alone, flip, flip_by, flip_up, flip_down, singles, triples, products, pairs, flip_each, carry_bit, carries, carry}
+use Rattle.bit_arith.specs.Built.{Built, Setting, Given, new_wire, new_wires, next_wire, next_wires, wires_from, made, all_made, negated, read, under, begun}
+use Rattle.bit_arith.specs.Rows.{alone, flip, flip_by, flip_up, flip_down, singles, triples, products, pairs, flip_each, carry_bit, carries, carry, signed, differ_as, differ, matches}
 use Rattle.bit_arith.specs.Calls.{Building, Went, Refused, Targets, among, no_target, Safe, AllSafe}
-use Rattle.bit_arith.proofs.Grows.{XGrows, x_then, x_same, new_wire_x, length-new_wire, safe_more, all_safe_front, all_safe_back}
-use Rattle.bit_arith.proofs.Keeps.{flip_by_x, carry_bit_x, carries_x}
-use Rattle.bit_arith.proofs.Going.{went_as, went_then, went_grows, refused_on, refused_as, refused_then}
-use Rattle.bit_arith.proofs.Safe.{Wider, safe_at, all_safe_in, condition_safe, operands_safe, now_safe, under_now, beside_one, beside_new, more_wires}
+use Rattle.bit_arith.proofs.Grows.{XGrows, x_then, x_same, new_wire_x, length-new_wire, safe_more, all_safe_more, all_safe_front, all_safe_back}
+use Rattle.bit_arith.proofs.Keeps.{flip_by_x, carry_bit_x, carries_x, differ_x, matches_x}
+use Rattle.bit_arith.proofs.Going.{Row, went_as, went_then, went_grows, refused_on, refused_as, refused_then}
+use Rattle.bit_arith.proofs.Safe.{Wider, safe_at, all_safe_in, condition_safe, operands_safe, now_safe, under_now, beside_one, beside_new, more_wires, negated_safe}
 
 -- what is read past the end of a list
 abbrev pub wire_at : List WireId → ℕ → WireId
@@ -221,3 +222,63 @@ length-carry at ps qs b same = length-carries at (Const false) ps qs b same
 pub carry_safe : (T : Targets) (at : Setting) (ps qs : List Operand) (b : Built) → ((w : WireId) → length b.draft.wires ≤ w.number → T w ≡ false) → AllSafe (length (carry at ps qs b).built.draft.wires) T (carry at ps qs b).answer
 unfolding carry
 carry_safe T at ps qs b new = carries_safe T at (Const false) ps qs b new tt
+
+-- the carry out of a place
+abbrev pub out_of : Operand → Operand → Operand → Row
+out_of p q c at b = carry_bit at (next_wire b) p q c (new_wire b)
+
+pub out_x : (p q c : Operand) (at : Setting) (b : Built) → XGrows b (out_of p q c at b)
+out_x p q c at b = x_then (new_wire_x b) (carry_bit_x at (next_wire b) p q c (new_wire b))
+
+pub out_safe : (now new : Building) (p q c out : Operand) → out ≡ made (next_wire (begun now.draft)) → Went now new (out_of p q c now.setting (begun now.draft)) → Safe (length new.draft.wires) no_target out
+out_safe now new p q c out is went =
+    let b : Built = begun now.draft in
+    let longer = length-new_wire b in
+    let more = (carry_bit_x now.setting (next_wire b) p q c (new_wire b)).grows.few in
+    let same = ap (λ (d : DraftForm). length d.wires) went.built in
+    subst (λ (x : Operand). Safe (length new.draft.wires) no_target x) (sym is) (omega arith, refl)
+
+-- ---- tests
+
+-- two operands of one place
+pub pair_safe : (old now : Building) (ps qs : List Operand) (i : ℕ) → i < length ps → length ps ≡ length qs → now.setting ≡ old.setting → length old.draft.wires ≤ length now.draft.wires → AllSafe (length old.draft.wires) no_target (under old.setting (ps ++ qs)) → AllSafe (length now.draft.wires) no_target (under now.setting (bit_at ps i ∷ bit_at qs i ∷ []))
+pair_safe old now ps qs i lt same kept few safe =
+    let n : ℕ = length old.draft.wires in
+    let all : AllSafe n no_target (ps ++ qs) = operands_safe n no_target old.setting (ps ++ qs) safe in
+    now_safe old now no_target no_target (bit_at ps i ∷ bit_at qs i ∷ []) kept (more_wires n (length now.draft.wires) no_target few)
+    (condition_safe n no_target old.setting (ps ++ qs) safe)
+    (safe_at n no_target ps i (Const false) lt (all_safe_front n no_target ps qs all),
+     (safe_at n no_target qs i (Const false) (omega arith) (all_safe_back n no_target ps qs all), tt))
+
+pub matches_turn : (done ps qs : List Operand) (i : ℕ) → i < length ps → length ps ≡ length qs → (at : Setting) (b : Built) → prepend done (matches at (drop i ps) (drop i qs) b) ≡ prepend (done ++ negated (differ at (bit_at ps i) (bit_at qs i) b).answer ∷ []) (matches at (drop (i + 1) ps) (drop (i + 1) qs) (differ at (bit_at ps i) (bit_at qs i) b).built)
+matches_turn done ps qs i lt same at b =
+    let e = drop_more ps i (Const false) lt in
+    let f = drop_more qs i (Const false) (omega arith) in
+    rw (e, f, append_assoc)
+
+pub matches_end : (done ps qs : List Operand) (i : ℕ) → length ps ≤ i → (at : Setting) (b : Built) → prepend done (matches at (drop i ps) (drop i qs) b) ≡ record { answer = done; built = b }
+matches_end done ps qs i le at b = let e = drop_all i ps le in rw (e, append-nil)
+
+signed_safe : (n : ℕ) (bit : Bool) (p : Operand) → Safe n no_target p → Safe n no_target (signed bit p)
+signed_safe n true p s = negated_safe n no_target p s
+signed_safe n false p s = s
+
+pub differ_as_safe : (at : Setting) (s t p q : Operand) (b : Built) → Safe (length b.draft.wires) no_target p → Safe (length b.draft.wires) no_target q → Safe (length (differ_as at s t p q b).built.draft.wires) no_target (differ_as at s t p q b).answer
+differ_as_safe at (Const x) t p q b f g = signed_safe (length b.draft.wires) x q g
+differ_as_safe at (Literal l) (Const y) p q b f g = signed_safe (length b.draft.wires) y p f
+differ_as_safe at (Literal l) (Literal m) p q b f g =
+    let longer = length-new_wire b in
+    let more = (flip_by_x at (next_wire b) (alone p ∷ alone q ∷ []) (new_wire b)).grows.few in
+    (omega arith, refl)
+
+pub matches_safe : (at : Setting) (ps qs : List Operand) (b : Built) → AllSafe (length b.draft.wires) no_target ps → AllSafe (length b.draft.wires) no_target qs → AllSafe (length (matches at ps qs b).built.draft.wires) no_target (matches at ps qs b).answer
+matches_safe at [] qs b f g = tt
+matches_safe at (p ∷ ps) [] b f g = tt
+matches_safe at (p ∷ ps) (q ∷ qs) b f g =
+    let here : Given Operand = differ at p q b in
+    let n : ℕ = length b.draft.wires in
+    let m : ℕ = length here.built.draft.wires in
+    let more : n ≤ m = (differ_x at p q b).grows.few in
+    let rest = (matches_x at ps qs here.built).grows.few in
+    (safe_more m _ no_target (negated here.answer) rest (negated_safe m no_target here.answer (differ_as_safe at (read b.draft p) (read b.draft q) p q b f.0 g.0)),
+     matches_safe at ps qs here.built (all_safe_more n m no_target ps more f.1) (all_safe_more n m no_target qs more g.1))

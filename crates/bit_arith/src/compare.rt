@@ -105,8 +105,8 @@ impl Builder {
         ensures ok { IfOk result (λ _. Went self.old self.new (all_of self.old.setting list.now (begun self.old.draft)).built) }
         ensures refused { IfErr result (λ e. Refused e (all_of self.old.setting list.now (begun self.old.draft)).built) }
     {
-        if let [only] = list {
-            return Ok(*only);
+        if list.len() == 1 {
+            return Ok(list[0]);
         }
         let wire = self.new_wire()?;
         self.flip(wire, list)?;

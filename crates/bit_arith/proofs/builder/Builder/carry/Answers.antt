@@ -11,18 +11,12 @@ use Rattle.bit_arith.specs.Calls.{Building, Safe, no_target, Went}
 use Rattle.bit_arith.proofs.Grows.{XGrows, x_then, new_wire_x, length-new_wire}
 use Rattle.bit_arith.proofs.Keeps.{carry_bit_x, carries_x}
 use Rattle.bit_arith.proofs.Going.{Row, Going, refused_out, memory_out, going_start, going_more, going_refused, going_end, went_grows}
-use Rattle.bit_arith.proofs.Turns.{bit_at, prepend, built_of, carries_turn, carries_end, places_safe}
+use Rattle.bit_arith.proofs.Turns.{bit_at, prepend, built_of, carries_turn, carries_end, places_safe, out_of, out_x, out_safe}
 use Rattle.bit_arith.proofs.builder.Builder.carry.Goals as goal
 
--- the carries from a place on, after those before it, and the one that comes out of it
+-- the carries from a place on, after those before it
 abbrev rest : List Operand → Operand → List Operand → List Operand → ℕ → Setting → Built → Given (List Operand)
 rest done c ps qs i at b = prepend done (carries at c (drop i ps) (drop i qs) b)
-
-abbrev step : Operand → Operand → Operand → Row
-step p q c at b = carry_bit at (next_wire b) p q c (new_wire b)
-
-step_x : (p q c : Operand) (at : Setting) (b : Built) → XGrows b (step p q c at b)
-step_x p q c at b = x_then (new_wire_x b) (carry_bit_x at (next_wire b) p q c (new_wire b))
 
 empty : (at : Setting) (ps qs : List Operand) (b : Built) → length ps ≡ 0 → carry at ps qs b ≡ record { answer = []; built = b }
 unfolding carry
@@ -33,19 +27,11 @@ start : (old : Building) (done ps qs : List Operand) → done ≡ [] → Going o
 unfolding carry
 start old done ps qs none = subst (λ (xs : List Operand). Going old old (rest xs (Const false) ps qs 0) (carry old.setting ps qs (begun old.draft))) (sym none) (going_start old (rest [] (Const false) ps qs 0))
 
-turn : (done more ps qs : List Operand) (c out : Operand) (i : ℕ) (at : Setting) (b : Built) → i + 1 < length ps → length ps ≡ length qs → more ≡ done ++ c ∷ [] → out ≡ made (next_wire b) → rest done c ps qs i at b ≡ rest more out ps qs (i + 1) at (step (bit_at ps i) (bit_at qs i) c at b)
+turn : (done more ps qs : List Operand) (c out : Operand) (i : ℕ) (at : Setting) (b : Built) → i + 1 < length ps → length ps ≡ length qs → more ≡ done ++ c ∷ [] → out ≡ made (next_wire b) → rest done c ps qs i at b ≡ rest more out ps qs (i + 1) at (out_of (bit_at ps i) (bit_at qs i) c at b)
 turn done more ps qs c out i at b lt same e f =
     carries_turn done ps qs c i lt same at b
-    ∙ ap (λ (xs : List Operand). rest xs (made (next_wire b)) ps qs (i + 1) at (step (bit_at ps i) (bit_at qs i) c at b)) (sym e)
-    ∙ ap (λ (x : Operand). rest more x ps qs (i + 1) at (step (bit_at ps i) (bit_at qs i) c at b)) (sym f)
-
-out_safe : (now new : Building) (p q c out : Operand) → out ≡ made (next_wire (begun now.draft)) → Went now new (step p q c now.setting (begun now.draft)) → Safe (length new.draft.wires) no_target out
-out_safe now new p q c out is went =
-    let b : Built = begun now.draft in
-    let longer = length-new_wire b in
-    let more = (carry_bit_x now.setting (next_wire b) p q c (new_wire b)).grows.few in
-    let same = ap (λ (d : _). length d.wires) went.built in
-    subst (λ (x : Operand). Safe (length new.draft.wires) no_target x) (sym is) (omega arith, refl)
+    ∙ ap (λ (xs : List Operand). rest xs (made (next_wire b)) ps qs (i + 1) at (out_of (bit_at ps i) (bit_at qs i) c at b)) (sym e)
+    ∙ ap (λ (x : Operand). rest more x ps qs (i + 1) at (out_of (bit_at ps i) (bit_at qs i) c at b)) (sym f)
 
 no_items : (n : ℕ) → true ≡ nat_eq n 0 → n ≡ 0
 no_items n e = eqb-true n 0 (sym e)
@@ -71,7 +57,7 @@ returns-in_err-carry-clause-refused c =
     let i : ℕ = c.loop-i.i in
     let out : Operand = made (next_wire (begun c.loop-i.self.draft)) in
     refused_out _ _ _ c.from_residual-in_err-carry.ensures.1
-    (going_refused built_of _ _ (rest c.loop-i.carries.items c.loop-i.carry ps qs i) (step (bit_at ps i) (bit_at qs i) c.loop-i.carry) (rest c.push.new.self.items out ps qs (i + 1)) _ _
+    (going_refused built_of _ _ (rest c.loop-i.carries.items c.loop-i.carry ps qs i) (out_of (bit_at ps i) (bit_at qs i) c.loop-i.carry) (rest c.push.new.self.items out ps qs (i + 1)) _ _
      (turn _ _ ps qs _ out i _ _ (let h = c.loop-i-test.true in omega arith) c.requires.lengths c.in_ok-push.ensures.items refl)
      (λ at b. carries_x at out (drop (i + 1) ps) (drop (i + 1) qs) b)
      c.loop-i.invariant.going c.in_err-carry.ensures.refused)
@@ -83,9 +69,9 @@ loop-i-preserved c =
     let i : ℕ = c.loop-i.i in
     let out : Operand = c.in_ok-carry.carry in
     record {
-      going = going_more _ _ _ (rest c.loop-i.carries.items c.loop-i.carry ps qs i) (step (bit_at ps i) (bit_at qs i) c.loop-i.carry) (rest c.push.new.self.items out ps qs (i + 1)) _
+      going = going_more _ _ _ (rest c.loop-i.carries.items c.loop-i.carry ps qs i) (out_of (bit_at ps i) (bit_at qs i) c.loop-i.carry) (rest c.push.new.self.items out ps qs (i + 1)) _
         (turn _ _ ps qs _ out i _ _ (let h = c.loop-i-test.true in omega arith) c.requires.lengths c.in_ok-push.ensures.items c.in_ok-carry.ensures.answer)
-        (step_x (bit_at ps i) (bit_at qs i) c.loop-i.carry)
+        (out_x (bit_at ps i) (bit_at qs i) c.loop-i.carry)
         c.loop-i.invariant.going c.in_ok-carry.ensures.ok;
       safe = out_safe c.loop-i.self c.carry_out.new.self (bit_at ps i) (bit_at qs i) c.loop-i.carry out c.in_ok-carry.ensures.answer c.in_ok-carry.ensures.ok;
     }
