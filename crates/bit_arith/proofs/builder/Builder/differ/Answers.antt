@@ -35,10 +35,17 @@ flip_alone-requires-clause-safe c =
     wire_safe c.args.self.now c.new_wire.new.self at.wire (c.args.a ∷ c.args.b ∷ []) at.ensures.answer at.ensures.ok c.requires.safe
 
 pub returns-in_err-flip_alone-in-Literal-Literal-clause-refused : goal.returns-in_err-flip_alone-in-Literal-Literal-clause-refused
-returns-in_err-flip_alone-in-Literal-Literal-clause-refused c = ?
+returns-in_err-flip_alone-in-Literal-Literal-clause-refused c =
+    refused_out _ _ _ c.from_residual-in_err-flip_alone-in-Literal-Literal.ensures.1
+    (refused_as _ _ _ (on_wire_built c.args.self.now.setting c.args.a c.args.b (begun c.args.self.now.draft) _ _ c.in-Literal-Literal.ensures c.in-Literal-Literal.ensures')
+     (refused_with _ _ _ (next c.args.a c.args.b) _ _ _ c.in_ok-wire-in-Literal-Literal.ensures.answer c.in_ok-wire-in-Literal-Literal.ensures.ok c.in_err-flip_alone-in-Literal-Literal.ensures.refused))
 
 pub returns-in_ok-flip_alone-in-Literal-Literal-clause-answer : goal.returns-in_ok-flip_alone-in-Literal-Literal-clause-answer
-returns-in_ok-flip_alone-in-Literal-Literal-clause-answer c = ?
+returns-in_ok-flip_alone-in-Literal-Literal-clause-answer c =
+    c.made.ensures ∙ ap made c.in_ok-wire-in-Literal-Literal.ensures.answer
+    ∙ ap (λ (g : Given Operand). g.answer) (on_wire c.args.self.now.setting c.args.a c.args.b (begun c.args.self.now.draft) _ _ c.in-Literal-Literal.ensures c.in-Literal-Literal.ensures')
 
 pub returns-in_ok-flip_alone-in-Literal-Literal-clause-ok : goal.returns-in_ok-flip_alone-in-Literal-Literal-clause-ok
-returns-in_ok-flip_alone-in-Literal-Literal-clause-ok c = ?
+returns-in_ok-flip_alone-in-Literal-Literal-clause-ok c =
+    went_as _ _ _ _ (on_wire_built c.args.self.now.setting c.args.a c.args.b (begun c.args.self.now.draft) _ _ c.in-Literal-Literal.ensures c.in-Literal-Literal.ensures')
+    (went_with _ _ _ _ (next c.args.a c.args.b) _ _ c.in_ok-wire-in-Literal-Literal.ensures.answer c.in_ok-wire-in-Literal-Literal.ensures.ok c.in_ok-flip_alone-in-Literal-Literal.ensures.ok)
