@@ -77,7 +77,7 @@ among_at [] i d v h f = absurd (omega arith)
 among_at (w ∷ ws) zero d v h f = same_wire-sym w v ∙ (neither (same_wire v w) (among ws v) f).0
 among_at (w ∷ ws) (suc i) d v h f = among_at ws i d v (omega arith) (neither (same_wire v w) (among ws v) f).1
 
-among_drop : (ws : List WireId) (i : ℕ) (v : WireId) → among ws v ≡ false → among (drop i ws) v ≡ false
+pub among_drop : (ws : List WireId) (i : ℕ) (v : WireId) → among ws v ≡ false → among (drop i ws) v ≡ false
 among_drop [] zero v f = refl
 among_drop [] (suc i) v f = refl
 among_drop (w ∷ ws) zero v f = f

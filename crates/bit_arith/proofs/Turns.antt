@@ -1,5 +1,5 @@
 -- Rows over lists, place by place.
-use Rattle.std.proofs.Common.{◌≡◌, ℕ, zero, suc, ◌+◌, ◌<◌, ◌≤◌, Bool, true, false, List, [], ◌∷◌, ◌++◌, length, map, get_or, take, drop, Option, Some, None, refl, sym, ap, ◌∙◌, subst, append_assoc, append-nil, arith}
+use Rattle.std.proofs.Common.{◌≡◌, ℕ, zero, suc, ◌+◌, ◌-◌, ◌<◌, ◌≤◌, Bool, true, false, List, [], ◌∷◌, ◌++◌, length, map, get_or, take, drop, Option, Some, None, refl, sym, ap, ◌∙◌, subst, append_assoc, append-nil, arith}
 use Rattle.std.proofs.lemmas.List.{drop_more, drop_all}
 use Rattle.silq_io.specs.declared.limit.LimitFault.{LimitFault}
 use Rattle.flat_core.specs.declared.step.WireId.{WireId}
@@ -8,7 +8,8 @@ use Rattle.flat_core.specs.Label.{same_wire, wire_id}
 use Rattle.bit_arith.specs.declared.operand.Operand.{Operand}
 use Rattle.bit_arith.specs.declared.operand.Operand.TheVariants.{Const, Literal}
 use Rattle.bit_arith.specs.Built.{Built, Setting, Given, new_wire, new_wires, next_wire, next_wires, wires_from, made, all_made, negated, read, under, begun}
-use Rattle.bit_arith.specs.Rows.{alone, flip, flip_by, flip_up, flip_down, singles, triples, products, pairs, flip_each, carry_bit, carries, carry, signed, differ_as, differ, matches}
+use Rattle.bit_arith.specs.Rows.{alone, flip, flip_by, flip_up, flip_down, singles, triples, products, pairs, flip_each, carry_bit, carries, carry, signed, differ_as, differ, matches, lower, product_into}
+use Rattle.bit_arith.specs.Multiples.{multiple_into}
 use Rattle.bit_arith.specs.Calls.{Building, Went, Refused, Targets, among, no_target, Safe, AllSafe}
 use Rattle.bit_arith.proofs.Grows.{XGrows, x_then, x_same, new_wire_x, length-new_wire, safe_more, all_safe_more, all_safe_front, all_safe_back}
 use Rattle.bit_arith.proofs.Keeps.{flip_by_x, carry_bit_x, carries_x, differ_x, matches_x}
@@ -282,3 +283,37 @@ matches_safe at (p ∷ ps) (q ∷ qs) b f g =
     let rest = (matches_x at ps qs here.built).grows.few in
     (safe_more m _ no_target (negated here.answer) rest (negated_safe m no_target here.answer (differ_as_safe at (read b.draft p) (read b.draft q) p q b f.0 g.0)),
      matches_safe at ps qs here.built (all_safe_more n m no_target ps more f.1) (all_safe_more n m no_target qs more g.1))
+
+-- ---- products
+
+pub length-all_made : (ws : List WireId) → length (all_made ws) ≡ length ws
+length-all_made [] = refl
+length-all_made (w ∷ ws) = let e = length-all_made ws in omega (arith, e)
+
+-- the bits of wires that are none of the targets
+pub new_made_safe : (T : Targets) (m first n : ℕ) → first + n ≤ m → ((w : WireId) → first ≤ w.number → T w ≡ false) → AllSafe m T (all_made (wires_from first n))
+new_made_safe T m first zero there new = tt
+new_made_safe T m first (suc n) there new =
+    ((omega arith, new (wire_id first) (omega arith)), new_made_safe T m (suc first) n (omega arith) (λ w past. new w (omega arith)))
+
+lower-take : (qs : List Operand) (k : ℕ) → k + 1 ≤ length qs → lower (take (suc k) qs) ≡ take k qs
+lower-take [] k h = absurd (omega arith)
+lower-take (q ∷ qs) zero h = refl
+lower-take (q ∷ []) (suc k) h = absurd (omega arith)
+lower-take (q ∷ q' ∷ qs) (suc k) h = ap (λ (xs : List Operand). q ∷ xs) (lower-take (q' ∷ qs) k (omega arith))
+
+lower-take_at : (qs : List Operand) (m k : ℕ) → m ≡ suc k → k + 1 ≤ length qs → lower (take m qs) ≡ take k qs
+lower-take_at qs m k is h = subst (λ (x : ℕ). lower (take x qs) ≡ take k qs) (sym is) (lower-take qs k h)
+
+product_step : (w : WireId) (ws : List WireId) (p : Operand) (ps qs rest : List Operand) (at : Setting) (b : Built) → lower qs ≡ rest → product_into at (w ∷ ws) (p ∷ ps) qs b ≡ product_into at ws ps rest (multiple_into at (w ∷ ws) p qs b)
+product_step w ws p ps qs rest at b e = ap (λ (xs : List Operand). product_into at ws ps xs (multiple_into at (w ∷ ws) p qs b)) e
+
+pub product_turn : (ws : List WireId) (ps qs : List Operand) (i : ℕ) → i < length ps → length ws ≡ length ps → length ps ≡ length qs → (at : Setting) (b : Built) → product_into at (drop i ws) (drop i ps) (take (length qs - i) qs) b ≡ product_into at (drop (i + 1) ws) (drop (i + 1) ps) (take (length qs - (i + 1)) qs) (multiple_into at (drop i ws) (bit_at ps i) (take (length qs - i) qs) b)
+product_turn ws ps qs i lt same lengths at b =
+    let e = drop_more ws i (wire_id 0) (omega arith) in
+    let f = drop_more ps i (Const false) lt in
+    let h : lower (take (length qs - i) qs) ≡ take (length qs - (i + 1)) qs = lower-take_at qs (length qs - i) (length qs - (i + 1)) (omega arith) (omega arith) in
+    rw (e, f) (product_step (wire_at ws i) (drop (i + 1) ws) (bit_at ps i) (drop (i + 1) ps) (take (length qs - i) qs) (take (length qs - (i + 1)) qs) at b h)
+
+pub product_end : (ws : List WireId) (ps qs : List Operand) (i : ℕ) → length ws ≤ i → (at : Setting) (b : Built) → product_into at (drop i ws) ps qs b ≡ b
+product_end ws ps qs i le at b = let e = drop_all i ws le in rw e
