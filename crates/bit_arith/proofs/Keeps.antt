@@ -6,6 +6,7 @@ use Rattle.bit_arith.specs.declared.operand.Operand.{Operand}
 use Rattle.bit_arith.specs.declared.operand.Operand.TheVariants.{Const, Literal}
 use Rattle.bit_arith.specs.Built.{Built, Setting, new_wire, new_wires, next_wire, next_wires, made, all_made, negated, all_negated, top_negated, read}
 use Rattle.bit_arith.specs.Rows.{flip, flip_by, flip_up, flip_down, singles, triples, products, pairs, copy, flip_each, carry_bit, carries, carry, sum_by, sum, difference, into_by, add_into, sub_into, lower, product_into, product, both, either, differ_as, differ, matches, all_of, equal, borrow, less}
+use Rattle.bit_arith.specs.Multiples.{multiple_into}
 use Rattle.bit_arith.proofs.Grows.{XGrows, x_same, x_then, new_wire_x, new_wires_x, flip_x}
 
 -- ---- several flips
@@ -134,3 +135,9 @@ pub less_x : (at : Setting) (signed : Bool) (ps qs : List Operand) (b : Built) â
 unfolding less
 less_x at true ps qs b = borrow_x at (Const false) (top_negated ps) (top_negated qs) b
 less_x at false ps qs b = borrow_x at (Const false) ps qs b
+
+pub multiple_into_x : (at : Setting) (ws : List WireId) (p : Operand) (qs : List Operand) (b : Built) â†’ XGrows b (multiple_into at ws p qs b)
+multiple_into_x at ws p qs b =
+    let multiple = next_wires (length qs) b in
+    let b' = flip_up at multiple (products p qs) (new_wires (length qs) b) in
+    x_then (new_wires_x (length qs) b) (x_then (flip_up_x at multiple (products p qs) (new_wires (length qs) b)) (add_into_x at ws (all_made multiple) b'))
