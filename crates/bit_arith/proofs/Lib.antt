@@ -1,4 +1,8 @@
 pub mod Grows
+pub mod Chained
+pub mod Fits
+pub mod Parts
+pub mod Gathers
 pub mod Going
 pub mod Safe
 pub mod Keeps

@@ -1,4 +1,5 @@
 pub mod Built
 pub mod Rows
 pub mod Calls
+pub mod Fits
 pub mod Multiples

@@ -1,14 +1,14 @@
 //! A flat form that is built row by row.
 
 ghost use Rattle.std.specs.Prelude.{◌≡◌, ◌<◌, [], length, IfOk, IfErr, Option, None};
-ghost use Rattle.flat_core.specs.Drafts.{empty_draft, with_wire, with_end, finished, over_by_wire};
+ghost use Rattle.flat_core.specs.Drafts.{empty_draft, with_wire, with_end, finished, over_by_wire, IsNextStep};
 ghost use Rattle.flat_core.specs.Sound.{IsFlat};
-ghost use Rattle.bit_arith.specs.Built.{begun, new_wire, new_wires, next_wire, next_wires, blank, read};
+ghost use Rattle.bit_arith.specs.Built.{begun, push, new_wire, new_wires, next_wire, next_wires, blank, read, made};
 ghost use Rattle.bit_arith.specs.Rows.{measure};
 ghost use Rattle.bit_arith.specs.Calls.{Building, Safe, no_target, IsTarget, AreTargets, Went, Refused};
 
 use crate::operand::Operand;
-use flat_core::{Draft, End, Flat, WireId, WireLists};
+use flat_core::{Draft, End, Flat, Step, WireId, WireLists};
 use silq_io::LimitFault;
 use std::alloc::Global;
 use std::marker::Model;
@@ -74,7 +74,7 @@ impl Builder {
         ensures ok { IfOk result (λ _. over_by_wire self.old.draft ≡ None) }
         ensures refused { IfErr result (λ e. Refused e (record { draft = with_wire self.old.draft input; over = over_by_wire self.old.draft })) }
     {
-        Err(LimitFault::Memory)
+        self.draft.wire(input)
     }
 
     // Makes the next wire, which is no input.
@@ -84,7 +84,9 @@ impl Builder {
         ensures target { IfOk result (λ w. IsTarget self.new.draft w) }
         ensures refused { IfErr result (λ e. Refused e (new_wire (begun self.old.draft))) }
     {
-        Err(LimitFault::Memory)
+        // A draft tells that no step names a wire that is not there yet.
+        let _outcomes = self.draft.outcomes();
+        self.wire(false)
     }
 
     // Makes the next n wires.
@@ -94,16 +96,33 @@ impl Builder {
         ensures targets { IfOk result (λ ws. AreTargets self.new.draft ws.items) }
         ensures refused { IfErr result (λ e. Refused e (new_wires n (begun self.old.draft))) }
     {
-        Err(LimitFault::Memory)
+        let mut wires = Vec::new(self.alloc);
+        for _ in 0..n {
+            let w = self.new_wire()?;
+            wires.push(w)?;
+        }
+        Ok(wires)
+    }
+
+    // Makes the next step.
+    pub(crate) fn push(&mut self, step: Step) -> Result<(), LimitFault>
+        requires { IsNextStep self.old.draft step }
+        ensures ok { IfOk result (λ _. Went self.old self.new (push self.old.setting step (begun self.old.draft))) }
+        ensures refused { IfErr result (λ e. Refused e (push self.old.setting step (begun self.old.draft))) }
+    {
+        self.draft.step(step, self.line)?;
+        Ok(())
     }
 
     /// Measures a wire with the next outcome number.
+    #[tactic(auto, unfolding(crate::specs::Rows::measure))]
     pub fn measure(&mut self, w: WireId) -> Result<(), LimitFault>
         requires { IsTarget self.old.draft w }
         ensures ok { IfOk result (λ _. Went self.old self.new (measure self.old.setting w (begun self.old.draft))) }
         ensures refused { IfErr result (λ e. Refused e (measure self.old.setting w (begun self.old.draft))) }
     {
-        Err(LimitFault::Memory)
+        let number = self.draft.outcomes();
+        self.push(Step::M { wire: w, number })
     }
 
     /// Sets the end of a wire.
@@ -146,5 +165,97 @@ impl Builder {
     {
         let Builder { draft, .. } = self;
         draft.finish(ins, outs)
+    }
+}
+
+#[cfg(test)]
+mod tests {
+    use super::*;
+    use flat_core::Lit;
+    use std::test::Fail;
+
+    // An operand that shows a wire's own bit.
+    fn of_wire(wire: WireId) -> Operand
+        ensures { result ≡ made wire }
+    {
+        Operand::Literal(Lit {
+            wire,
+            positive: true,
+        })
+    }
+
+    #[test]
+    fn three_operands_gather_two_on_a_new_wire(rt: HostRuntime) -> Result<(), Fail> {
+        let mut builder = Builder::new(rt.alloc());
+        let a = builder.wire(true)?;
+        let b = builder.wire(true)?;
+        let c = builder.wire(true)?;
+        let target = builder.wire(false)?;
+        builder.flip(target, &[of_wire(a), of_wire(b), of_wire(c)])?;
+        assert_eq!(rt; builder.wires(), 5);
+        assert_eq!(rt; builder.draft.label(target), 1);
+        assert_eq!(rt; builder.draft.label(WireId { number: 4 }), 1);
+        assert_eq!(rt; builder.draft.outcomes(), 0);
+        Ok(())
+    }
+
+    #[test]
+    fn blank_wires_are_read_as_constants(rt: HostRuntime) -> Result<(), Fail> {
+        let mut builder = Builder::new(rt.alloc());
+        let a = builder.wire(true)?;
+        let blank = builder.wire(false)?;
+        let target = builder.wire(false)?;
+        builder.flip(target, &[of_wire(blank).negated(), of_wire(a)])?;
+        assert_eq!(rt; builder.wires(), 3);
+        assert_eq!(rt; builder.draft.label(target), 1);
+        Ok(())
+    }
+
+    #[test]
+    fn conjunctions_have_a_wire(rt: HostRuntime) -> Result<(), Fail> {
+        let mut builder = Builder::new(rt.alloc());
+        let a = builder.wire(true)?;
+        let b = builder.wire(true)?;
+        let both = builder.and(&[of_wire(a), of_wire(b)])?;
+        assert_eq!(rt; both, of_wire(WireId { number: 2 }));
+        assert_eq!(rt; builder.wires(), 3);
+        Ok(())
+    }
+
+    #[test]
+    fn phases_of_nothing_stand_on_a_new_wire(rt: HostRuntime) -> Result<(), Fail> {
+        let mut builder = Builder::new(rt.alloc());
+        builder.turn(8, &[])?;
+        assert_eq!(rt; builder.wires(), 0);
+        builder.turn(9, &[])?;
+        assert_eq!(rt; builder.wires(), 1);
+        assert_eq!(rt; builder.draft.label(WireId { number: 0 }), 1);
+        Ok(())
+    }
+
+    #[test]
+    fn hadamard_gates_change_and_measures_count(rt: HostRuntime) -> Result<(), Fail> {
+        let mut builder = Builder::new(rt.alloc());
+        let a = builder.wire(true)?;
+        builder.had(a)?;
+        assert_eq!(rt; builder.wires(), 1);
+        assert_eq!(rt; builder.draft.label(a), 1);
+        let mut measured = Builder::new(rt.alloc());
+        let b = measured.wire(true)?;
+        measured.measure(b)?;
+        assert_eq!(rt; measured.draft.outcomes(), 1);
+        Ok(())
+    }
+
+    #[test]
+    fn new_wires_come_in_order(rt: HostRuntime) -> Result<(), Fail> {
+        let mut builder = Builder::new(rt.alloc());
+        builder.wire(true)?;
+        let wires = builder.new_wires(2)?;
+        assert_eq!(rt;
+            wires.as_slice(),
+            [WireId { number: 1 }, WireId { number: 2 }].as_slice()
+        );
+        Ok(())
     }
 }
