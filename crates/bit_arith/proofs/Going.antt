@@ -7,13 +7,12 @@ use Rattle.silq_io.specs.declared.limit.LimitFault.TheVariants.{Memory, Limit}
 use Rattle.flat_core.specs.Form.{DraftForm}
 use Rattle.bit_arith.specs.Built.{Built, Setting, begun}
 use Rattle.bit_arith.specs.Calls.{Building, Went, Refused}
+use Rattle.bit_arith.proofs.Chained.{built_by, refused_later}
 use Rattle.bit_arith.proofs.Grows.{Grows, XGrows, x_same, x_then}
 
 -- what was built goes on from its draft
 pub went_is : (old new : Building) (row : Built) → Went old new row → begun new.draft ≡ row
-went_is old new row w =
-    let family : (d : DraftForm) → Built = λ (d : DraftForm). begun d in
-    ap family w.built ∙ ap (λ (o : Option OverLimit). record { draft = row.draft; over = o }) (sym w.within)
+went_is old new row w = sym (built_by w)
 
 -- what a row keeps, its call keeps
 pub went_grows : (old new : Building) (row : Built) → XGrows (begun old.draft) row → Went old new row → XGrows (begun old.draft) (begun new.draft)
@@ -27,8 +26,7 @@ refused_as fault row other e r = subst (λ (b : Built). Refused fault b) e r
 
 -- a limit that was passed stays the first
 pub refused_on : (fault : LimitFault) (row more : Built) → Grows row more → Refused fault row → Refused fault more
-refused_on Memory row more g r = tt
-refused_on (Limit over) row more g r = g.stays over r
+refused_on fault row more g r = refused_later fault g r
 
 -- what a `?` gives back
 pub refused_out : {A : Type 0} (result : Result A LimitFault) (fault : LimitFault) (row : Built) → IsErrAnd result (λ x. x ≡ fault) → Refused fault row → IfErr result (λ e. Refused e row)

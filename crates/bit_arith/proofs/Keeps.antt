@@ -86,7 +86,7 @@ product_into_x at (w ∷ ws) (p ∷ ps) qs b =
     let b' = flip_up at multiple (products p qs) (new_wires (length qs) b) in
     x_then (new_wires_x (length qs) b)
     (x_then (flip_up_x at multiple (products p qs) (new_wires (length qs) b))
-     (x_then (add_into_x at (w ∷ ws) (all_made multiple) b') (product_into_x at ws ps (lower qs) (add_into at (w ∷ ws) (all_made multiple) b'))))
+    (x_then (add_into_x at (w ∷ ws) (all_made multiple) b') (product_into_x at ws ps (lower qs) (add_into at (w ∷ ws) (all_made multiple) b'))))
 
 pub product_x : (at : Setting) (ps qs : List Operand) (b : Built) → XGrows b (product at ps qs b).built
 unfolding product

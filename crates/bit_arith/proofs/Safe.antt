@@ -146,7 +146,7 @@ pub under_now : (old now : Building) (T U : Targets) (ps : List Operand) → now
 under_now old now T U ps kept wide front s =
     subst (λ (at : Setting). AllSafe (length now.draft.wires) U (under at ps)) (sym kept)
     (under_safe (length now.draft.wires) U old.setting ps
-     (under_in (length old.draft.wires) T (length now.draft.wires) U wide old.setting [] front) s)
+    (under_in (length old.draft.wires) T (length now.draft.wires) U wide old.setting [] front) s)
 
 pub now_safe : (old now : Building) (T U : Targets) (ps : List Operand) → now.setting ≡ old.setting → Wider (length old.draft.wires) T (length now.draft.wires) U → AllSafe (length old.draft.wires) T (under old.setting []) → AllSafe (length old.draft.wires) T ps → AllSafe (length now.draft.wires) U (under now.setting ps)
 now_safe old now T U ps kept wide front s =

@@ -83,10 +83,13 @@ three_safe old now ws ps qs cs i lt first second third kept few safe =
     let front : AllSafe n (among ws) (ps ++ qs) = all_safe_front n (among ws) (ps ++ qs) cs all in
     now_safe old now (among ws) (same_wire (wire_at ws i)) (bit_at ps i ∷ bit_at qs i ∷ bit_at cs i ∷ []) kept
     (beside_one n (length now.draft.wires) ws i (wire_id 0) few lt)
-    (condition_safe n (among ws) old.setting (ps ++ qs ++ cs) safe)
-    (safe_at n (among ws) ps i (Const false) (omega arith) (all_safe_front n (among ws) ps qs front),
-     (safe_at n (among ws) qs i (Const false) (omega arith) (all_safe_back n (among ws) ps qs front),
-      (safe_at n (among ws) cs i (Const false) (omega arith) (all_safe_back n (among ws) (ps ++ qs) cs all), tt)))
+    (condition_safe n (among ws) old.setting (ps ++ qs ++ cs) safe) (
+      safe_at n (among ws) ps i (Const false) (omega arith) (all_safe_front n (among ws) ps qs front),
+      (
+        safe_at n (among ws) qs i (Const false) (omega arith) (all_safe_back n (among ws) ps qs front),
+        (safe_at n (among ws) cs i (Const false) (omega arith) (all_safe_back n (among ws) (ps ++ qs) cs all), tt),
+      ),
+    )
 
 -- ---- by a product with one operand
 
@@ -134,9 +137,10 @@ two_safe old now ws ps qs i lt first second kept few safe =
     let all : AllSafe n (among ws) (ps ++ qs) = operands_safe n (among ws) old.setting (ps ++ qs) safe in
     now_safe old now (among ws) (same_wire (wire_at ws i)) (bit_at ps i ∷ bit_at qs i ∷ []) kept
     (beside_one n (length now.draft.wires) ws i (wire_id 0) few lt)
-    (condition_safe n (among ws) old.setting (ps ++ qs) safe)
-    (safe_at n (among ws) ps i (Const false) (omega arith) (all_safe_front n (among ws) ps qs all),
-     (safe_at n (among ws) qs i (Const false) (omega arith) (all_safe_back n (among ws) ps qs all), tt))
+    (condition_safe n (among ws) old.setting (ps ++ qs) safe) (
+      safe_at n (among ws) ps i (Const false) (omega arith) (all_safe_front n (among ws) ps qs all),
+      (safe_at n (among ws) qs i (Const false) (omega arith) (all_safe_back n (among ws) ps qs all), tt),
+    )
 
 pub down_went : (old now new : Building) (ws : List WireId) (ps qs : List Operand) (i j : ℕ) → i ≡ j + 1 → j < length ws → length ws ≡ length ps → length ws ≡ length qs → Went old now (flip_down old.setting (drop i ws) (pairs (drop i ps) (drop i qs)) (begun old.draft)) → Went now new (flip_by now.setting (wire_at ws j) (map alone (bit_at ps j ∷ bit_at qs j ∷ [])) (begun now.draft)) → Went old new (flip_down old.setting (drop j ws) (pairs (drop j ps) (drop j qs)) (begun old.draft))
 down_went old now new ws ps qs i j next lt first second w v =
@@ -149,7 +153,7 @@ down_refused old now ws ps qs i j fault next lt first second w r =
     let u : Went old now (flip_down old.setting (drop (j + 1) ws) (pairs (drop (j + 1) ps) (drop (j + 1) qs)) (begun old.draft)) = subst (λ (k : ℕ). Went old now (flip_down old.setting (drop k ws) (pairs (drop k ps) (drop k qs)) (begun old.draft))) next w in
     refused_on fault _ _ (down_rest ws ps qs j first second old.setting (begun old.draft)).grows
     (refused_as fault _ _ (sym (down_turn ws ps qs j lt first second old.setting (begun old.draft)))
-     (refused_then old now _ (λ at b. flip_by at (wire_at ws j) (map alone (bit_at ps j ∷ bit_at qs j ∷ [])) b) fault u r))
+    (refused_then old now _ (λ at b. flip_by at (wire_at ws j) (map alone (bit_at ps j ∷ bit_at qs j ∷ [])) b) fault u r))
 
 -- a call on a new wire, by operands that were safe
 pub wire_safe : (old now : Building) (w : WireId) (ps : List Operand) → w ≡ next_wire (begun old.draft) → Went old now (new_wire (begun old.draft)) → AllSafe (length old.draft.wires) no_target (under old.setting ps) → AllSafe (length now.draft.wires) (same_wire w) (under now.setting ps)
@@ -200,9 +204,10 @@ carries_safe T at c (p ∷ p' ∷ ps) (q ∷ qs) b new safe =
     let next : Built = carry_bit at (next_wire b) p q c (new_wire b) in
     let longer = length-new_wire b in
     let more = (carry_bit_x at (next_wire b) p q c (new_wire b)).grows.few in
-    let all = (carries_x at c (p ∷ p' ∷ ps) (q ∷ qs) b).grows.few in
-    (safe_more (length b.draft.wires) _ T c all safe,
-     carries_safe T at (made (next_wire b)) (p' ∷ ps) qs next (λ w past. new w (omega arith)) (omega arith, new (next_wire b) (omega arith)))
+    let all = (carries_x at c (p ∷ p' ∷ ps) (q ∷ qs) b).grows.few in (
+      safe_more (length b.draft.wires) _ T c all safe,
+      carries_safe T at (made (next_wire b)) (p' ∷ ps) qs next (λ w past. new w (omega arith)) (omega arith, new (next_wire b) (omega arith)),
+    )
 
 -- the operands of one place, and a carry
 pub places_safe : (old now : Building) (p : Operand → Operand) (ps qs : List Operand) (c : Operand) (i : ℕ) → ((x : Operand) → Safe (length now.draft.wires) no_target x → Safe (length now.draft.wires) no_target (p x)) → i < length ps → length ps ≡ length qs → now.setting ≡ old.setting → length old.draft.wires ≤ length now.draft.wires → AllSafe (length old.draft.wires) no_target (under old.setting (ps ++ qs)) → Safe (length now.draft.wires) no_target c → AllSafe (length now.draft.wires) no_target (under now.setting (p (bit_at ps i) ∷ bit_at qs i ∷ c ∷ []))
@@ -211,10 +216,13 @@ places_safe old now p ps qs c i keeps lt same kept few safe carry_safe =
     let m : ℕ = length now.draft.wires in
     let all : AllSafe n no_target (ps ++ qs) = operands_safe n no_target old.setting (ps ++ qs) safe in
     under_now old now no_target no_target (p (bit_at ps i) ∷ bit_at qs i ∷ c ∷ []) kept (more_wires n m no_target few)
-    (condition_safe n no_target old.setting (ps ++ qs) safe)
-    (keeps (bit_at ps i) (safe_more n m no_target (bit_at ps i) few (safe_at n no_target ps i (Const false) lt (all_safe_front n no_target ps qs all))),
-     (safe_more n m no_target (bit_at qs i) few (safe_at n no_target qs i (Const false) (omega arith) (all_safe_back n no_target ps qs all)),
-      (carry_safe, tt)))
+    (condition_safe n no_target old.setting (ps ++ qs) safe) (
+      keeps (bit_at ps i) (safe_more n m no_target (bit_at ps i) few (safe_at n no_target ps i (Const false) lt (all_safe_front n no_target ps qs all))),
+      (
+        safe_more n m no_target (bit_at qs i) few (safe_at n no_target qs i (Const false) (omega arith) (all_safe_back n no_target ps qs all)),
+        (carry_safe, tt),
+      ),
+    )
 
 pub length-carry : (at : Setting) (ps qs : List Operand) (b : Built) → length ps ≡ length qs → length (carry at ps qs b).answer ≡ length ps
 unfolding carry
@@ -247,9 +255,10 @@ pair_safe old now ps qs i lt same kept few safe =
     let n : ℕ = length old.draft.wires in
     let all : AllSafe n no_target (ps ++ qs) = operands_safe n no_target old.setting (ps ++ qs) safe in
     now_safe old now no_target no_target (bit_at ps i ∷ bit_at qs i ∷ []) kept (more_wires n (length now.draft.wires) no_target few)
-    (condition_safe n no_target old.setting (ps ++ qs) safe)
-    (safe_at n no_target ps i (Const false) lt (all_safe_front n no_target ps qs all),
-     (safe_at n no_target qs i (Const false) (omega arith) (all_safe_back n no_target ps qs all), tt))
+    (condition_safe n no_target old.setting (ps ++ qs) safe) (
+      safe_at n no_target ps i (Const false) lt (all_safe_front n no_target ps qs all),
+      (safe_at n no_target qs i (Const false) (omega arith) (all_safe_back n no_target ps qs all), tt),
+    )
 
 pub matches_turn : (done ps qs : List Operand) (i : ℕ) → i < length ps → length ps ≡ length qs → (at : Setting) (b : Built) → prepend done (matches at (drop i ps) (drop i qs) b) ≡ prepend (done ++ negated (differ at (bit_at ps i) (bit_at qs i) b).answer ∷ []) (matches at (drop (i + 1) ps) (drop (i + 1) qs) (differ at (bit_at ps i) (bit_at qs i) b).built)
 matches_turn done ps qs i lt same at b =
@@ -280,9 +289,10 @@ matches_safe at (p ∷ ps) (q ∷ qs) b f g =
     let n : ℕ = length b.draft.wires in
     let m : ℕ = length here.built.draft.wires in
     let more : n ≤ m = (differ_x at p q b).grows.few in
-    let rest = (matches_x at ps qs here.built).grows.few in
-    (safe_more m _ no_target (negated here.answer) rest (negated_safe m no_target here.answer (differ_as_safe at (read b.draft p) (read b.draft q) p q b f.0 g.0)),
-     matches_safe at ps qs here.built (all_safe_more n m no_target ps more f.1) (all_safe_more n m no_target qs more g.1))
+    let rest = (matches_x at ps qs here.built).grows.few in (
+      safe_more m _ no_target (negated here.answer) rest (negated_safe m no_target here.answer (differ_as_safe at (read b.draft p) (read b.draft q) p q b f.0 g.0)),
+      matches_safe at ps qs here.built (all_safe_more n m no_target ps more f.1) (all_safe_more n m no_target qs more g.1),
+    )
 
 -- ---- products
 

@@ -48,7 +48,12 @@ impl Builder {
     }
 
     /// Whether the first number is below the second; `signed` reads both in two's complement.
-    pub fn less(&mut self, a: &[Operand], b: &[Operand], signed: bool) -> Result<Operand, LimitFault>
+    pub fn less(
+        &mut self,
+        a: &[Operand],
+        b: &[Operand],
+        signed: bool,
+    ) -> Result<Operand, LimitFault>
         requires lengths { length a.now ≡ length b.now }
         requires safe { AllSafe (length self.old.draft.wires) no_target (under self.old.setting (a.now ++ b.now)) }
         ensures answer { IfOk result (λ p. p ≡ (less self.old.setting signed a.now b.now (begun self.old.draft)).answer) }
@@ -126,5 +131,75 @@ impl Builder {
             carry = self.carry_out(p.negated(), b[i], carry)?;
         }
         Ok(carry)
+    }
+}
+
+#[cfg(test)]
+mod tests {
+    use super::*;
+    use flat_core::{Lit, WireId};
+    use std::test::Fail;
+
+    // A wire's bit negated.
+    fn opposite_of(number: u32) -> Operand {
+        Operand::Literal(Lit {
+            wire: WireId { number },
+            positive: false,
+        })
+    }
+
+    #[test]
+    fn both_stand_on_a_new_wire(rt: HostRuntime) -> Result<(), Fail> {
+        let mut builder = Builder::new(rt.alloc());
+        let a = made(builder.wire(true)?);
+        let b = made(builder.wire(true)?);
+        let both = builder.both(a, b)?;
+        assert_eq!(rt; both, made(WireId { number: 2 }));
+        assert_eq!(rt; builder.draft.label(WireId { number: 2 }), 1);
+        Ok(())
+    }
+
+    #[test]
+    fn either_is_not_neither(rt: HostRuntime) -> Result<(), Fail> {
+        let mut builder = Builder::new(rt.alloc());
+        let a = made(builder.wire(true)?);
+        let b = made(builder.wire(true)?);
+        let either = builder.either(a, b)?;
+        assert_eq!(rt; either, opposite_of(2));
+        assert_eq!(rt; builder.wires(), 3);
+        Ok(())
+    }
+
+    #[test]
+    fn equal_bits_are_a_difference_negated(rt: HostRuntime) -> Result<(), Fail> {
+        let mut builder = Builder::new(rt.alloc());
+        let a = made(builder.wire(true)?);
+        let b = made(builder.wire(true)?);
+        let equal = builder.equal(&[a], &[b])?;
+        assert_eq!(rt; equal, opposite_of(2));
+        assert_eq!(rt; builder.draft.label(WireId { number: 2 }), 2);
+        Ok(())
+    }
+
+    #[test]
+    fn a_constant_needs_no_wire_to_be_equal(rt: HostRuntime) -> Result<(), Fail> {
+        let mut builder = Builder::new(rt.alloc());
+        let a = made(builder.wire(true)?);
+        let equal = builder.equal(&[a], &[Operand::Const(false)])?;
+        assert_eq!(rt; equal, opposite_of(0));
+        assert_eq!(rt; builder.wires(), 1);
+        Ok(())
+    }
+
+    #[test]
+    fn less_is_the_carry_out(rt: HostRuntime) -> Result<(), Fail> {
+        let mut builder = Builder::new(rt.alloc());
+        let a = made(builder.wire(true)?);
+        let b = made(builder.wire(true)?);
+        let less = builder.less(&[a], &[b], true)?;
+        assert_eq!(rt; less, made(WireId { number: 2 }));
+        assert_eq!(rt; builder.wires(), 3);
+        assert_eq!(rt; builder.draft.label(WireId { number: 2 }), 1);
+        Ok(())
     }
 }

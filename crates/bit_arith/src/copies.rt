@@ -74,7 +74,12 @@ impl Builder {
     }
 
     // Flips each wire by the operands of two lists, from the top down.
-    pub(crate) fn flip_down(&mut self, wires: &[WireId], a: &[Operand], b: &[Operand]) -> Result<(), LimitFault>
+    pub(crate) fn flip_down(
+        &mut self,
+        wires: &[WireId],
+        a: &[Operand],
+        b: &[Operand],
+    ) -> Result<(), LimitFault>
         requires first { length wires.now ≡ length a.now }
         requires second { length wires.now ≡ length b.now }
         requires targets { AreTargets self.old.draft wires.now }
@@ -91,7 +96,12 @@ impl Builder {
     }
 
     // Flips each wire by the product of one operand and its own.
-    pub(crate) fn flip_products(&mut self, wires: &[WireId], p: Operand, list: &[Operand]) -> Result<(), LimitFault>
+    pub(crate) fn flip_products(
+        &mut self,
+        wires: &[WireId],
+        p: Operand,
+        list: &[Operand],
+    ) -> Result<(), LimitFault>
         requires lengths { length wires.now ≡ length list.now }
         requires targets { AreTargets self.old.draft wires.now }
         requires safe { AllSafe (length self.old.draft.wires) (among wires.now) (under self.old.setting (p ∷ list.now)) }
@@ -101,6 +111,37 @@ impl Builder {
         for (i, wire) in wires.iter().enumerate() {
             self.flip(*wire, &[p, list[i]])?;
         }
+        Ok(())
+    }
+}
+
+#[cfg(test)]
+mod tests {
+    use super::*;
+    use crate::made::made;
+    use std::test::Fail;
+
+    #[test]
+    fn copies_stand_on_new_wires(rt: HostRuntime) -> Result<(), Fail> {
+        let mut builder = Builder::new(rt.alloc());
+        let a = made(builder.wire(true)?);
+        let copies = builder.copy(&[a, Operand::Const(true), Operand::Const(false)])?;
+        assert_eq!(rt; copies.len(), 3);
+        assert_eq!(rt; builder.wires(), 4);
+        assert_eq!(rt; builder.draft.label(WireId { number: 1 }), 1);
+        assert_eq!(rt; builder.draft.label(WireId { number: 2 }), 1);
+        assert_eq!(rt; builder.draft.label(WireId { number: 3 }), 0);
+        Ok(())
+    }
+
+    #[test]
+    fn each_wire_is_flipped_by_its_operand(rt: HostRuntime) -> Result<(), Fail> {
+        let mut builder = Builder::new(rt.alloc());
+        let x = builder.wire(true)?;
+        let a = made(builder.wire(true)?);
+        builder.flip_each(&[x], &[a])?;
+        assert_eq!(rt; builder.wires(), 2);
+        assert_eq!(rt; builder.draft.label(x), 1);
         Ok(())
     }
 }

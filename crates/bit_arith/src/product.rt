@@ -29,7 +29,12 @@ impl Builder {
     }
 
     // Adds the product of a number and one bit to wires.
-    fn add_multiple(&mut self, wires: &[WireId], p: Operand, list: &[Operand]) -> Result<(), LimitFault>
+    fn add_multiple(
+        &mut self,
+        wires: &[WireId],
+        p: Operand,
+        list: &[Operand],
+    ) -> Result<(), LimitFault>
         requires lengths { length wires.now ≡ length list.now }
         requires targets { AreTargets self.old.draft wires.now }
         requires safe { AllSafe (length self.old.draft.wires) (among wires.now) (under self.old.setting (p ∷ list.now)) }
@@ -40,5 +45,25 @@ impl Builder {
         self.flip_products(multiple.as_slice(), p, list)?;
         let bits = all_made(self.alloc, multiple.as_slice())?;
         self.add_into(wires, bits.as_slice())
+    }
+}
+
+#[cfg(test)]
+mod tests {
+    use super::*;
+    use crate::made::made;
+    use std::test::Fail;
+
+    #[test]
+    fn products_of_one_place(rt: HostRuntime) -> Result<(), Fail> {
+        let mut builder = Builder::new(rt.alloc());
+        let a = made(builder.wire(true)?);
+        let b = made(builder.wire(true)?);
+        let product = builder.product(&[a], &[b])?;
+        assert_eq!(rt; product.as_slice(), [made(WireId { number: 2 })].as_slice());
+        assert_eq!(rt; builder.wires(), 4);
+        assert_eq!(rt; builder.draft.label(WireId { number: 2 }), 1);
+        assert_eq!(rt; builder.draft.label(WireId { number: 3 }), 1);
+        Ok(())
     }
 }

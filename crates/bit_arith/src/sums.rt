@@ -83,7 +83,12 @@ impl Builder {
     }
 
     // The carry out of one place, on a new wire.
-    pub(crate) fn carry_out(&mut self, a: Operand, b: Operand, carry: Operand) -> Result<Operand, LimitFault>
+    pub(crate) fn carry_out(
+        &mut self,
+        a: Operand,
+        b: Operand,
+        carry: Operand,
+    ) -> Result<Operand, LimitFault>
         requires safe { AllSafe (length self.old.draft.wires) no_target (under self.old.setting (a ∷ b ∷ carry ∷ [])) }
         ensures answer { IfOk result (λ p. p ≡ made_of (next_wire (begun self.old.draft))) }
         ensures ok { IfOk result (λ _. Went self.old self.new (carry_bit self.old.setting (next_wire (begun self.old.draft)) a b carry (new_wire (begun self.old.draft)))) }
@@ -95,7 +100,13 @@ impl Builder {
     }
 
     // Flips a wire where two of three bits are 1.
-    fn carry_bit(&mut self, w: WireId, a: Operand, b: Operand, carry: Operand) -> Result<(), LimitFault>
+    fn carry_bit(
+        &mut self,
+        w: WireId,
+        a: Operand,
+        b: Operand,
+        carry: Operand,
+    ) -> Result<(), LimitFault>
         requires target { IsTarget self.old.draft w }
         requires safe { AllSafe (length self.old.draft.wires) (same_wire w) (under self.old.setting (a ∷ b ∷ carry ∷ [])) }
         ensures ok { IfOk result (λ _. Went self.old self.new (carry_bit self.old.setting w a b carry (begun self.old.draft))) }
@@ -107,7 +118,12 @@ impl Builder {
     }
 
     // New wires with the sums of two bits and the carries of the first list and the last.
-    fn sum_by(&mut self, carriers: &[Operand], a: &[Operand], b: &[Operand]) -> Result<Vec<Operand>, LimitFault>
+    fn sum_by(
+        &mut self,
+        carriers: &[Operand],
+        a: &[Operand],
+        b: &[Operand],
+    ) -> Result<Vec<Operand>, LimitFault>
         requires carriers { length carriers.now ≡ length b.now }
         requires lengths { length a.now ≡ length b.now }
         requires safe { AllSafe (length self.old.draft.wires) no_target (under self.old.setting (carriers.now ++ a.now ++ b.now)) }
@@ -122,7 +138,12 @@ impl Builder {
     }
 
     // Adds the last list to wires, with the carries of the first list.
-    fn into_by(&mut self, carriers: &[Operand], x: &[WireId], y: &[Operand]) -> Result<(), LimitFault>
+    fn into_by(
+        &mut self,
+        carriers: &[Operand],
+        x: &[WireId],
+        y: &[Operand],
+    ) -> Result<(), LimitFault>
         requires carriers { length carriers.now ≡ length y.now }
         requires lengths { length x.now ≡ length y.now }
         requires targets { AreTargets self.old.draft x.now }
@@ -133,5 +154,74 @@ impl Builder {
     {
         let carries = self.carry(carriers, y)?;
         self.flip_down(x, y, carries.as_slice())
+    }
+}
+
+#[cfg(test)]
+mod tests {
+    use super::*;
+    use std::test::Fail;
+
+    #[test]
+    fn carries_of_two_places(rt: HostRuntime) -> Result<(), Fail> {
+        let mut builder = Builder::new(rt.alloc());
+        let a = [made(builder.wire(true)?), Operand::Const(false)];
+        let b = [made(builder.wire(true)?), Operand::Const(true)];
+        let carries = builder.carry(&a, &b)?;
+        let expected = [Operand::Const(false), made(WireId { number: 2 })];
+        assert_eq!(rt; carries.as_slice(), expected.as_slice());
+        assert_eq!(rt; builder.draft.label(WireId { number: 2 }), 1);
+        Ok(())
+    }
+
+    #[test]
+    fn sums_have_a_carry_for_each_place_but_the_first(rt: HostRuntime) -> Result<(), Fail> {
+        let mut builder = Builder::new(rt.alloc());
+        let a = [made(builder.wire(true)?), made(builder.wire(true)?)];
+        let b = [made(builder.wire(true)?), made(builder.wire(true)?)];
+        let sum = builder.sum(&a, &b)?;
+        assert_eq!(rt; sum.len(), 2);
+        assert_eq!(rt; builder.wires(), 7);
+        assert_eq!(rt; builder.draft.label(WireId { number: 4 }), 2);
+        assert_eq!(rt; builder.draft.label(WireId { number: 5 }), 3);
+        assert_eq!(rt; builder.draft.label(WireId { number: 6 }), 1);
+        Ok(())
+    }
+
+    #[test]
+    fn differences_of_one_place(rt: HostRuntime) -> Result<(), Fail> {
+        let mut builder = Builder::new(rt.alloc());
+        let a = made(builder.wire(true)?);
+        let b = made(builder.wire(true)?);
+        let difference = builder.difference(&[a], &[b])?;
+        assert_eq!(rt;
+            difference.as_slice(),
+            [made(WireId { number: 2 })].as_slice()
+        );
+        assert_eq!(rt; builder.wires(), 3);
+        assert_eq!(rt; builder.draft.label(WireId { number: 2 }), 2);
+        Ok(())
+    }
+
+    #[test]
+    fn additions_change_their_wires(rt: HostRuntime) -> Result<(), Fail> {
+        let mut builder = Builder::new(rt.alloc());
+        let x = builder.wire(true)?;
+        let y = made(builder.wire(true)?);
+        builder.add_into(&[x], &[y])?;
+        assert_eq!(rt; builder.wires(), 2);
+        assert_eq!(rt; builder.draft.label(x), 1);
+        Ok(())
+    }
+
+    #[test]
+    fn subtractions_change_their_wires(rt: HostRuntime) -> Result<(), Fail> {
+        let mut builder = Builder::new(rt.alloc());
+        let x = builder.wire(true)?;
+        let y = made(builder.wire(true)?);
+        builder.sub_into(&[x], &[y])?;
+        assert_eq!(rt; builder.wires(), 2);
+        assert_eq!(rt; builder.draft.label(x), 1);
+        Ok(())
     }
 }

@@ -78,8 +78,8 @@ flip_products-requires-clause-safe c =
     let grown = (went_grows old now _ (new_wires_x k (begun old.draft)) c.in_ok-multiple.ensures.ok).grows.few in
     subst (λ (vs : List WireId). AllSafe (length now.draft.wires) (among vs) (under now.setting ps)) (sym (c.as_slice.ensures.value ∙ c.in_ok-multiple.ensures.answer))
     (now_safe old now T (among (next_wires k (begun old.draft))) ps c.in_ok-multiple.ensures.ok.kept
-     (beside_new_wires n (length now.draft.wires) n k T grown (omega arith))
-     (condition_safe n T old.setting ps c.requires.safe) (operands_safe n T old.setting ps c.requires.safe))
+    (beside_new_wires n (length now.draft.wires) n k T grown (omega arith))
+    (condition_safe n T old.setting ps c.requires.safe) (operands_safe n T old.setting ps c.requires.safe))
 
 pub returns-in_err-flip_products-clause-refused : goal.returns-in_err-flip_products-clause-refused
 returns-in_err-flip_products-clause-refused c =
@@ -89,7 +89,7 @@ returns-in_err-flip_products-clause-refused c =
     let b' : Built = flipped c.args.p c.args.list.now vs at (new_wires n (begun c.args.self.now.draft)) in
     refused_out _ _ _ c.from_residual-in_err-flip_products.ensures.1
     (refused_on _ b' _ (add_into_x at c.args.wires.now (all_made vs) b').grows
-     (refused_with _ _ _ (flipped c.args.p c.args.list.now) _ _ _ (c.as_slice.ensures.value ∙ c.in_ok-multiple.ensures.answer) c.in_ok-multiple.ensures.ok c.in_err-flip_products.ensures.refused))
+    (refused_with _ _ _ (flipped c.args.p c.args.list.now) _ _ _ (c.as_slice.ensures.value ∙ c.in_ok-multiple.ensures.answer) c.in_ok-multiple.ensures.ok c.in_err-flip_products.ensures.refused))
 
 pub add_into-requires-clause-lengths : goal.add_into-requires-clause-lengths
 add_into-requires-clause-lengths c =

@@ -26,7 +26,7 @@ returns-in_err-wire-clause-refused c =
     let at : Setting = c.args.self.now.setting in
     refused_out _ _ _ c.from_residual.ensures.1
     (refused_as _ _ _ (on_wire_built at c.args.list.now b c.if-list-eq1.false)
-     (refused_on _ (new_wire b) _ (flip_x at (next_wire b) c.args.list.now (new_wire b)).grows c.in_err-wire.ensures.refused))
+    (refused_on _ (new_wire b) _ (flip_x at (next_wire b) c.args.list.now (new_wire b)).grows c.in_err-wire.ensures.refused))
 
 pub flip-requires-clause-safe : goal.flip-requires-clause-safe
 flip-requires-clause-safe c =
@@ -36,7 +36,7 @@ pub returns-in_err-flip-clause-refused : goal.returns-in_err-flip-clause-refused
 returns-in_err-flip-clause-refused c =
     refused_out _ _ _ c.from_residual-in_err-flip.ensures.1
     (refused_as _ _ _ (on_wire_built c.args.self.now.setting c.args.list.now (begun c.args.self.now.draft) c.if-list-eq1.false)
-     (refused_with _ _ _ (next c.args.list.now) _ _ _ c.in_ok-wire.ensures.answer c.in_ok-wire.ensures.ok c.in_err-flip.ensures.refused))
+    (refused_with _ _ _ (next c.args.list.now) _ _ _ c.in_ok-wire.ensures.answer c.in_ok-wire.ensures.ok c.in_err-flip.ensures.refused))
 
 pub returns-clause-answer : goal.returns-clause-answer
 returns-clause-answer c =

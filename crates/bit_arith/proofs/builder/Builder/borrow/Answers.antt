@@ -33,8 +33,8 @@ loop-i-init c = record { going = going_start c.args.self.now (rest (Const false)
 pub carry_out-requires : goal.carry_out-requires
 carry_out-requires c = record {
   safe = subst (λ (p : Operand). AllSafe (length c.loop-i.self.draft.wires) no_target (under c.loop-i.self.setting (p ∷ bit_at c.args.b.now c.loop-i.i ∷ c.loop-i.carry ∷ []))) (sym c.negated.ensures)
-    (places_safe c.args.self.now c.loop-i.self negated c.args.a.now c.args.b.now c.loop-i.carry c.loop-i.i (negated_safe _ no_target) c.loop-i-test.true c.requires.lengths
-     c.loop-i.invariant.going.kept c.loop-i.invariant.going.grown.grows.few c.requires.safe c.loop-i.invariant.safe);
+      (places_safe c.args.self.now c.loop-i.self negated c.args.a.now c.args.b.now c.loop-i.carry c.loop-i.i (negated_safe _ no_target) c.loop-i-test.true c.requires.lengths
+      c.loop-i.invariant.going.kept c.loop-i.invariant.going.grown.grows.few c.requires.safe c.loop-i.invariant.safe);
 }
 
 pub returns-in_err-carry-clause-refused : goal.returns-in_err-carry-clause-refused
@@ -45,9 +45,9 @@ returns-in_err-carry-clause-refused c =
     let out : Operand = made (next_wire (begun c.loop-i.self.draft)) in
     refused_out _ _ _ c.from_residual.ensures.1
     (going_refused built_of_one _ _ (rest c.loop-i.carry ps qs i) (out_of c.negated.result (bit_at qs i) c.loop-i.carry) (rest out ps qs (i + 1)) _ _
-     (turn ps qs _ c.negated.result out i _ _ c.loop-i-test.true c.requires.lengths c.negated.ensures refl)
-     (λ at b. borrow_x at out (drop (i + 1) ps) (drop (i + 1) qs) b)
-     c.loop-i.invariant.going c.in_err-carry.ensures.refused)
+    (turn ps qs _ c.negated.result out i _ _ c.loop-i-test.true c.requires.lengths c.negated.ensures refl)
+    (λ at b. borrow_x at out (drop (i + 1) ps) (drop (i + 1) qs) b)
+    c.loop-i.invariant.going c.in_err-carry.ensures.refused)
 
 pub loop-i-preserved : goal.loop-i-preserved
 loop-i-preserved c =
@@ -57,9 +57,9 @@ loop-i-preserved c =
     let out : Operand = c.in_ok-carry.carry in
     record {
       going = going_more _ _ _ (rest c.loop-i.carry ps qs i) (out_of c.negated.result (bit_at qs i) c.loop-i.carry) (rest out ps qs (i + 1)) _
-        (turn ps qs _ c.negated.result out i _ _ c.loop-i-test.true c.requires.lengths c.negated.ensures c.in_ok-carry.ensures.answer)
-        (out_x c.negated.result (bit_at qs i) c.loop-i.carry)
-        c.loop-i.invariant.going c.in_ok-carry.ensures.ok;
+          (turn ps qs _ c.negated.result out i _ _ c.loop-i-test.true c.requires.lengths c.negated.ensures c.in_ok-carry.ensures.answer)
+          (out_x c.negated.result (bit_at qs i) c.loop-i.carry)
+          c.loop-i.invariant.going c.in_ok-carry.ensures.ok;
       safe = out_safe c.loop-i.self c.carry_out.new.self c.negated.result (bit_at qs i) c.loop-i.carry out c.in_ok-carry.ensures.answer c.in_ok-carry.ensures.ok;
     }
 

@@ -58,9 +58,9 @@ returns-in_err-carry-clause-refused c =
     let out : Operand = made (next_wire (begun c.loop-i.self.draft)) in
     refused_out _ _ _ c.from_residual-in_err-carry.ensures.1
     (going_refused built_of _ _ (rest c.loop-i.carries.items c.loop-i.carry ps qs i) (out_of (bit_at ps i) (bit_at qs i) c.loop-i.carry) (rest c.push.new.self.items out ps qs (i + 1)) _ _
-     (turn _ _ ps qs _ out i _ _ (let h = c.loop-i-test.true in omega arith) c.requires.lengths c.in_ok-push.ensures.items refl)
-     (λ at b. carries_x at out (drop (i + 1) ps) (drop (i + 1) qs) b)
-     c.loop-i.invariant.going c.in_err-carry.ensures.refused)
+    (turn _ _ ps qs _ out i _ _ (let h = c.loop-i-test.true in omega arith) c.requires.lengths c.in_ok-push.ensures.items refl)
+    (λ at b. carries_x at out (drop (i + 1) ps) (drop (i + 1) qs) b)
+    c.loop-i.invariant.going c.in_err-carry.ensures.refused)
 
 pub loop-i-preserved : goal.loop-i-preserved
 loop-i-preserved c =
@@ -70,16 +70,16 @@ loop-i-preserved c =
     let out : Operand = c.in_ok-carry.carry in
     record {
       going = going_more _ _ _ (rest c.loop-i.carries.items c.loop-i.carry ps qs i) (out_of (bit_at ps i) (bit_at qs i) c.loop-i.carry) (rest c.push.new.self.items out ps qs (i + 1)) _
-        (turn _ _ ps qs _ out i _ _ (let h = c.loop-i-test.true in omega arith) c.requires.lengths c.in_ok-push.ensures.items c.in_ok-carry.ensures.answer)
-        (out_x (bit_at ps i) (bit_at qs i) c.loop-i.carry)
-        c.loop-i.invariant.going c.in_ok-carry.ensures.ok;
+          (turn _ _ ps qs _ out i _ _ (let h = c.loop-i-test.true in omega arith) c.requires.lengths c.in_ok-push.ensures.items c.in_ok-carry.ensures.answer)
+          (out_x (bit_at ps i) (bit_at qs i) c.loop-i.carry)
+          c.loop-i.invariant.going c.in_ok-carry.ensures.ok;
       safe = out_safe c.loop-i.self c.carry_out.new.self (bit_at ps i) (bit_at qs i) c.loop-i.carry out c.in_ok-carry.ensures.answer c.in_ok-carry.ensures.ok;
     }
 
 pub carry_out-requires : goal.carry_out-requires
 carry_out-requires c = record {
   safe = places_safe c.args.self.now c.loop-i.self (λ x. x) c.args.a.now c.args.b.now c.loop-i.carry c.loop-i.i (λ x h. h) (let h = c.loop-i-test.true in omega arith) c.requires.lengths
-    c.loop-i.invariant.going.kept c.loop-i.invariant.going.grown.grows.few c.requires.safe c.loop-i.invariant.safe;
+      c.loop-i.invariant.going.kept c.loop-i.invariant.going.grown.grows.few c.requires.safe c.loop-i.invariant.safe;
 }
 
 last : (n i : ℕ) (test : Bool) → test ≡ false → test ≡ nat_eq n 0 → n - 1 ≤ i → i ≤ n - 1 → i + 1 ≡ n

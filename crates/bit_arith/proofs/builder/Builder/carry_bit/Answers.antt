@@ -44,7 +44,7 @@ returns-in_err-flip-2-clause-refused c =
     let second : Built = flip at w (c.args.a ∷ c.args.carry ∷ []) first in
     refused_out _ _ _ c.from_residual-in_err-flip-2.ensures.1
     (refused_on _ second _ (flip_x at w (c.args.b ∷ c.args.carry ∷ []) second).grows
-     (refused_then _ _ first (step w c.args.a c.args.carry) _ c.in_ok-flip.ensures.ok c.in_err-flip-2.ensures.refused))
+    (refused_then _ _ first (step w c.args.a c.args.carry) _ c.in_ok-flip.ensures.ok c.in_err-flip-2.ensures.refused))
 
 pub flip-requires-3-clause-target : goal.flip-requires-3-clause-target
 flip-requires-3-clause-target c =

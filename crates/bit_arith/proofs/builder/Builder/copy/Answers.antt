@@ -34,8 +34,8 @@ flip_each-requires-clause-safe c =
     subst (λ (vs : List WireId). AllSafe (length c.new_wires.new.self.draft.wires) (among vs) (under c.new_wires.new.self.setting c.args.list.now))
     (sym (c.as_slice.ensures.value ∙ c.in_ok-wires.ensures.answer))
     (now_safe c.args.self.now c.new_wires.new.self no_target (among ws) c.args.list.now c.in_ok-wires.ensures.ok.kept
-     (beside_new_wires n _ n (length c.args.list.now) no_target grown (omega arith))
-     (condition_safe n no_target c.args.self.now.setting c.args.list.now c.requires.safe) (operands_safe n no_target c.args.self.now.setting c.args.list.now c.requires.safe))
+    (beside_new_wires n _ n (length c.args.list.now) no_target grown (omega arith))
+    (condition_safe n no_target c.args.self.now.setting c.args.list.now c.requires.safe) (operands_safe n no_target c.args.self.now.setting c.args.list.now c.requires.safe))
 
 pub returns-in_err-flip_each-clause-refused : goal.returns-in_err-flip_each-clause-refused
 unfolding copy flip_each

@@ -27,7 +27,7 @@ returns-in_err-wire-in-Literal-Literal-clause-refused c =
     let at : Setting = c.args.self.now.setting in
     refused_out _ _ _ c.from_residual.ensures.1
     (refused_as _ _ _ (on_wire_built at c.args.a c.args.b b _ _ c.in-Literal-Literal.ensures c.in-Literal-Literal.ensures')
-     (refused_on _ (new_wire b) _ (flip_by_x at (next_wire b) (alone c.args.a ∷ alone c.args.b ∷ []) (new_wire b)).grows c.in_err-wire-in-Literal-Literal.ensures.refused))
+    (refused_on _ (new_wire b) _ (flip_by_x at (next_wire b) (alone c.args.a ∷ alone c.args.b ∷ []) (new_wire b)).grows c.in_err-wire-in-Literal-Literal.ensures.refused))
 
 pub flip_alone-requires-clause-safe : goal.flip_alone-requires-clause-safe
 flip_alone-requires-clause-safe c =
@@ -38,7 +38,7 @@ pub returns-in_err-flip_alone-in-Literal-Literal-clause-refused : goal.returns-i
 returns-in_err-flip_alone-in-Literal-Literal-clause-refused c =
     refused_out _ _ _ c.from_residual-in_err-flip_alone-in-Literal-Literal.ensures.1
     (refused_as _ _ _ (on_wire_built c.args.self.now.setting c.args.a c.args.b (begun c.args.self.now.draft) _ _ c.in-Literal-Literal.ensures c.in-Literal-Literal.ensures')
-     (refused_with _ _ _ (next c.args.a c.args.b) _ _ _ c.in_ok-wire-in-Literal-Literal.ensures.answer c.in_ok-wire-in-Literal-Literal.ensures.ok c.in_err-flip_alone-in-Literal-Literal.ensures.refused))
+    (refused_with _ _ _ (next c.args.a c.args.b) _ _ _ c.in_ok-wire-in-Literal-Literal.ensures.answer c.in_ok-wire-in-Literal-Literal.ensures.ok c.in_err-flip_alone-in-Literal-Literal.ensures.refused))
 
 pub returns-in_ok-flip_alone-in-Literal-Literal-clause-answer : goal.returns-in_ok-flip_alone-in-Literal-Literal-clause-answer
 returns-in_ok-flip_alone-in-Literal-Literal-clause-answer c =

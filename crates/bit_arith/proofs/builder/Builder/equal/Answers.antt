@@ -55,8 +55,8 @@ all_of-requires c =
     let here : AllSafe (length now.draft.wires) no_target g.answer = subst (λ (d : DraftForm). AllSafe (length d.wires) no_target g.answer) (sym c.in_ok-matches.ensures.ok.built) there in
     record {
       safe = subst (λ (ms : List Operand). AllSafe (length now.draft.wires) no_target (under now.setting ms)) (sym (c.as_slice.ensures.value ∙ c.in_ok-matches.ensures.answer))
-        (under_now old now no_target no_target g.answer c.in_ok-matches.ensures.ok.kept (more_wires n _ no_target few)
-         (condition_safe n no_target old.setting (ps ++ qs) c.requires.safe) here);
+          (under_now old now no_target no_target g.answer c.in_ok-matches.ensures.ok.kept (more_wires n _ no_target few)
+          (condition_safe n no_target old.setting (ps ++ qs) c.requires.safe) here);
     }
 
 pub returns-clause-answer : goal.returns-clause-answer

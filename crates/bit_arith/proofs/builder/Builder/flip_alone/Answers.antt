@@ -30,7 +30,7 @@ returns-in_err-flip-clause-refused c =
     let i : ℕ = c.loop-p.p-index in
     refused_out _ _ _ c.from_residual.ensures.1
     (going_refused whole _ _ (rest w ps i) (step w ps i) (rest w ps (i + 1)) _ _ (alone_turn w ps i c.loop-p-test.true _ _)
-     (λ at b. flip_by_x at w (map alone (drop (i + 1) ps)) b) c.loop-p.invariant c.in_err-flip.ensures.refused)
+    (λ at b. flip_by_x at w (map alone (drop (i + 1) ps)) b) c.loop-p.invariant c.in_err-flip.ensures.refused)
 
 pub loop-p-preserved : goal.loop-p-preserved
 loop-p-preserved c =

@@ -35,9 +35,9 @@ returns-in_err-flip_alone-clause-refused c =
     let i : ℕ = c.loop-i.i in
     refused_out _ _ _ c.from_residual.ensures.1
     (going_refused whole _ _ (rest ws ps qs cs i) (step ws ps qs cs i) (rest ws ps qs cs (i + 1)) _ _
-     (three_turn ws ps qs cs i c.loop-i-test.true c.requires.first c.requires.second c.requires.third _ _)
-     (λ at b. flip_up_x at (drop (i + 1) ws) (triples (drop (i + 1) ps) (drop (i + 1) qs) (drop (i + 1) cs)) b)
-     c.loop-i.invariant c.in_err-flip_alone.ensures.refused)
+    (three_turn ws ps qs cs i c.loop-i-test.true c.requires.first c.requires.second c.requires.third _ _)
+    (λ at b. flip_up_x at (drop (i + 1) ws) (triples (drop (i + 1) ps) (drop (i + 1) qs) (drop (i + 1) cs)) b)
+    c.loop-i.invariant c.in_err-flip_alone.ensures.refused)
 
 pub loop-i-preserved : goal.loop-i-preserved
 loop-i-preserved c =

@@ -33,9 +33,9 @@ returns-in_err-flip-clause-refused c =
     let ps : List Operand = c.args.list.now in
     refused_out _ _ _ c.from_residual.ensures.1
     (going_refused whole _ _ (rest ws ps c.loop-i.i) (step ws ps c.loop-i.i) (rest ws ps (c.loop-i.i + 1)) _ _
-     (each_turn ws ps c.loop-i.i c.loop-i-test.true c.requires.lengths _ _)
-     (λ at b. flip_each_x at (drop (c.loop-i.i + 1) ws) (drop (c.loop-i.i + 1) ps) b)
-     c.loop-i.invariant c.in_err-flip.ensures.refused)
+    (each_turn ws ps c.loop-i.i c.loop-i-test.true c.requires.lengths _ _)
+    (λ at b. flip_each_x at (drop (c.loop-i.i + 1) ws) (drop (c.loop-i.i + 1) ps) b)
+    c.loop-i.invariant c.in_err-flip.ensures.refused)
 
 pub loop-i-preserved : goal.loop-i-preserved
 loop-i-preserved c =

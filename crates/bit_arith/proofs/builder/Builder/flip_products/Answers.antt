@@ -34,9 +34,9 @@ returns-in_err-flip-clause-refused c =
     let i : ℕ = c.loop-i.i in
     refused_out _ _ _ c.from_residual.ensures.1
     (going_refused whole _ _ (rest ws p qs i) (step ws p qs i) (rest ws p qs (i + 1)) _ _
-     (products_turn ws p qs i c.loop-i-test.true c.requires.lengths _ _)
-     (λ at b. flip_up_x at (drop (i + 1) ws) (products p (drop (i + 1) qs)) b)
-     c.loop-i.invariant c.in_err-flip.ensures.refused)
+    (products_turn ws p qs i c.loop-i-test.true c.requires.lengths _ _)
+    (λ at b. flip_up_x at (drop (i + 1) ws) (products p (drop (i + 1) qs)) b)
+    c.loop-i.invariant c.in_err-flip.ensures.refused)
 
 pub loop-i-preserved : goal.loop-i-preserved
 loop-i-preserved c =

@@ -27,7 +27,7 @@ carry-requires-clause-safe c =
     under_safe n no_target at (c.args.carriers.now ++ qs)
     (under_in n T n no_target (beside_none n n T (omega arith)) at [] (condition_safe n T at qs c.requires.safe))
     (all_safe_append n no_target c.args.carriers.now qs c.requires.carriers_safe
-     (all_safe_in n T n no_target (beside_none n n T (omega arith)) qs (operands_safe n T at qs c.requires.safe)))
+    (all_safe_in n T n no_target (beside_none n n T (omega arith)) qs (operands_safe n T at qs c.requires.safe)))
 
 pub returns-in_err-carries-clause-refused : goal.returns-in_err-carries-clause-refused
 returns-in_err-carries-clause-refused c =
@@ -66,8 +66,8 @@ flip_down-requires-clause-safe c =
     let there : AllSafe m T g.answer = subst (λ (d : _). AllSafe (length d.wires) T g.answer) (sym c.in_ok-carries.ensures.ok.built) made in
     subst (λ (cs : List Operand). AllSafe m T (under now.setting (qs ++ cs))) (sym (c.as_slice.ensures.value ∙ c.in_ok-carries.ensures.answer))
     (under_now old now T T (qs ++ g.answer) c.in_ok-carries.ensures.ok.kept (more_wires n m T few)
-     (condition_safe n T old.setting qs c.requires.safe)
-     (all_safe_append m T qs g.answer (all_safe_more n m T qs few (operands_safe n T old.setting qs c.requires.safe)) there))
+    (condition_safe n T old.setting qs c.requires.safe)
+    (all_safe_append m T qs g.answer (all_safe_more n m T qs few (operands_safe n T old.setting qs c.requires.safe)) there))
 
 pub returns-clause-ok : goal.returns-clause-ok
 returns-clause-ok c =

@@ -20,9 +20,9 @@ tops_safe n at ps qs vs ws e f safe =
     let all : AllSafe n no_target (ps ++ qs) = operands_safe n no_target at (ps ++ qs) safe in
     rw (e, f)
     (under_safe n no_target at (top_negated ps ++ top_negated qs) (condition_safe n no_target at (ps ++ qs) safe)
-     (all_safe_append n no_target (top_negated ps) (top_negated qs)
-      (top_negated_safe n no_target ps (all_safe_front n no_target ps qs all))
-      (top_negated_safe n no_target qs (all_safe_back n no_target ps qs all))))
+    (all_safe_append n no_target (top_negated ps) (top_negated qs)
+    (top_negated_safe n no_target ps (all_safe_front n no_target ps qs all))
+    (top_negated_safe n no_target qs (all_safe_back n no_target ps qs all))))
 
 pub borrow-requires-clause-lengths : goal.borrow-requires-clause-lengths
 borrow-requires-clause-lengths c =

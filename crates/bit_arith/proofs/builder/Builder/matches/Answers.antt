@@ -32,9 +32,9 @@ returns-in_err-differs-clause-refused c =
     let i : ℕ = c.loop-i.i in
     refused_out _ _ _ c.from_residual.ensures.1
     (going_refused built_of _ _ (rest c.loop-i.matches.items ps qs i) (step ps qs i) (rest (c.loop-i.matches.items ++ negated (differ c.loop-i.self.setting (bit_at ps i) (bit_at qs i) (begun c.loop-i.self.draft)).answer ∷ []) ps qs (i + 1)) _ _
-     (turn _ _ ps qs i _ _ c.loop-i-test.true c.requires.lengths refl)
-     (λ at b. matches_x at (drop (i + 1) ps) (drop (i + 1) qs) b)
-     c.loop-i.invariant c.in_err-differs.ensures.refused)
+    (turn _ _ ps qs i _ _ c.loop-i-test.true c.requires.lengths refl)
+    (λ at b. matches_x at (drop (i + 1) ps) (drop (i + 1) qs) b)
+    c.loop-i.invariant c.in_err-differs.ensures.refused)
 
 pub loop-i-preserved : goal.loop-i-preserved
 loop-i-preserved c =
@@ -43,7 +43,7 @@ loop-i-preserved c =
     let i : ℕ = c.loop-i.i in
     going_more _ _ _ (rest c.loop-i.matches.items ps qs i) (step ps qs i) (rest c.push.new.self.items ps qs (i + 1)) _
     (turn _ _ ps qs i _ _ c.loop-i-test.true c.requires.lengths
-     (c.in_ok-push.ensures.items ∙ ap (λ (x : Operand). c.loop-i.matches.items ++ x ∷ []) (c.negated.ensures ∙ ap negated c.in_ok-differs.ensures.answer)))
+    (c.in_ok-push.ensures.items ∙ ap (λ (x : Operand). c.loop-i.matches.items ++ x ∷ []) (c.negated.ensures ∙ ap negated c.in_ok-differs.ensures.answer)))
     (λ at b. differ_x at (bit_at ps i) (bit_at qs i) b)
     c.loop-i.invariant c.in_ok-differs.ensures.ok
 

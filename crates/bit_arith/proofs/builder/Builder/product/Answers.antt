@@ -134,8 +134,8 @@ returns-in_err-add_multiple-clause-refused c =
     let qs : List Operand = c.args.b.now in
     refused_out _ _ _ c.from_residual-in_err-add_multiple.ensures.1
     (product_refused c.args.self.now c.new_wires.new.self ws ps qs _ c.in_ok-wires.ensures.answer c.in_ok-wires.ensures.ok
-     (turn_refused c.new_wires.new.self c.loop-i.self _ ws ps qs c.loop-i.i c.loop-i-test.true (ap length c.in_ok-wires.ensures.answer ∙ length-wires_from _ _) c.requires.lengths
-      (slice_from c.deref.result.now ws c.loop-i.i c.deref.ensures.value) c.loop-i.invariant _ c.in_err-add_multiple.ensures.refused))
+    (turn_refused c.new_wires.new.self c.loop-i.self _ ws ps qs c.loop-i.i c.loop-i-test.true (ap length c.in_ok-wires.ensures.answer ∙ length-wires_from _ _) c.requires.lengths
+    (slice_from c.deref.result.now ws c.loop-i.i c.deref.ensures.value) c.loop-i.invariant _ c.in_err-add_multiple.ensures.refused))
 
 pub loop-i-preserved : goal.loop-i-preserved
 loop-i-preserved c =
@@ -157,7 +157,7 @@ returns-clause-ok c =
     let past : length ps ≤ i = c.loop-i-test.false in
     product_went c.args.self.now c.new_wires.new.self c.loop-i.self ws ps qs c.in_ok-wires.ensures.answer c.in_ok-wires.ensures.ok
     (going_end whole c.new_wires.new.self c.loop-i.self (rest ws ps qs i) (all ps qs ws c.new_wires.new.self.setting (begun c.new_wires.new.self.draft))
-     (λ at b. product_end ws (drop i ps) (take (length qs - i) qs) i (omega arith) at b) c.loop-i.invariant)
+    (λ at b. product_end ws (drop i ps) (take (length qs - i) qs) i (omega arith) at b) c.loop-i.invariant)
 
 -- the slice begins within the wires
 within : (vs ws : List WireId) (n i w : ℕ) → vs ≡ ws → ws ≡ wires_from w n → i < n → i ≤ length vs

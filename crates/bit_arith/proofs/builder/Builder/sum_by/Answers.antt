@@ -52,10 +52,10 @@ module _ (old mid next : Building) (ws : List WireId) (cs ps qs made : List Oper
       under_now old next no_target T (ps ++ qs ++ made) twice.kept beside
       (condition_safe n no_target old.setting (cs ++ ps ++ qs) safe)
       (all_safe_append m T (ps ++ qs) made
-       (all_safe_append m T ps qs
-        (all_safe_in n no_target m T beside ps (all_safe_back n no_target cs ps (all_safe_front n no_target (cs ++ ps) qs all)))
-        (all_safe_in n no_target m T beside qs (all_safe_back n no_target (cs ++ ps) qs all)))
-       (subst (λ (xs : List Operand). AllSafe m T xs) (sym made_is) here))
+      (all_safe_append m T ps qs
+      (all_safe_in n no_target m T beside ps (all_safe_back n no_target cs ps (all_safe_front n no_target (cs ++ ps) qs all)))
+      (all_safe_in n no_target m T beside qs (all_safe_back n no_target (cs ++ ps) qs all)))
+      (subst (λ (xs : List Operand). AllSafe m T xs) (sym made_is) here))
 
 pub returns-in_err-wires-clause-refused : goal.returns-in_err-wires-clause-refused
 returns-in_err-wires-clause-refused c =
@@ -90,7 +90,7 @@ returns-in_err-carries-clause-refused c =
     let cs : Given (List Operand) = carry at c.args.carriers.now c.args.b.now b in
     refused_out _ _ _ c.from_residual-in_err-carries.ensures.1
     (refused_on _ cs.built _ (flip_up_x at (next_wires (length ps) (begun c.args.self.now.draft)) (triples ps c.args.b.now cs.answer) cs.built).grows
-     (refused_then _ _ b (carried c.args.carriers.now c.args.b.now) _ c.in_ok-wires.ensures.ok c.in_err-carries.ensures.refused))
+    (refused_then _ _ b (carried c.args.carriers.now c.args.b.now) _ c.in_ok-wires.ensures.ok c.in_err-carries.ensures.refused))
 
 pub flip_by_three-requires-clause-first : goal.flip_by_three-requires-clause-first
 flip_by_three-requires-clause-first c = ap length (c.as_slice.ensures.value ∙ c.in_ok-wires.ensures.answer) ∙ length-wires_from _ _
@@ -102,8 +102,8 @@ flip_by_three-requires-clause-second c =
 pub flip_by_three-requires-clause-third : goal.flip_by_three-requires-clause-third
 flip_by_three-requires-clause-third c =
     let made : length c.as_slice-2.result.now ≡ length c.args.carriers.now =
-      ap length (c.as_slice-2.ensures.value ∙ c.in_ok-carries.ensures.answer)
-      ∙ length-carry c.new_wires.new.self.setting c.args.carriers.now c.args.b.now (begun c.new_wires.new.self.draft) c.requires.carriers in
+    ap length (c.as_slice-2.ensures.value ∙ c.in_ok-carries.ensures.answer)
+    ∙ length-carry c.new_wires.new.self.setting c.args.carriers.now c.args.b.now (begun c.new_wires.new.self.draft) c.requires.carriers in
     ap length (c.as_slice.ensures.value ∙ c.in_ok-wires.ensures.answer) ∙ length-wires_from _ _ ∙ c.requires.lengths ∙ sym c.requires.carriers ∙ sym made
 
 pub flip_by_three-requires-clause-targets : goal.flip_by_three-requires-clause-targets
@@ -121,8 +121,8 @@ pub returns-in_err-flip_by_three-clause-refused : goal.returns-in_err-flip_by_th
 returns-in_err-flip_by_three-clause-refused c =
     refused_out _ _ _ c.from_residual-in_err-flip_by_three.ensures.1
     (sum_refused c.args.self.now c.new_wires.new.self c.carry.new.self c.as_slice.result.now c.args.carriers.now c.args.a.now c.args.b.now c.as_slice-2.result.now
-     (c.as_slice.ensures.value ∙ c.in_ok-wires.ensures.answer) (c.as_slice-2.ensures.value ∙ c.in_ok-carries.ensures.answer) c.in_ok-wires.ensures.ok c.in_ok-carries.ensures.ok
-     _ c.in_err-flip_by_three.ensures.refused)
+    (c.as_slice.ensures.value ∙ c.in_ok-wires.ensures.answer) (c.as_slice-2.ensures.value ∙ c.in_ok-carries.ensures.answer) c.in_ok-wires.ensures.ok c.in_ok-carries.ensures.ok
+    _ c.in_err-flip_by_three.ensures.refused)
 
 pub returns-clause-answer : goal.returns-clause-answer
 returns-clause-answer c = c.in_ok-all_made.ensures ∙ ap all_made (c.as_slice-3.ensures.value ∙ c.in_ok-wires.ensures.answer)
