@@ -155,7 +155,6 @@ mod tests {
         let b = made(builder.wire(true)?);
         let both = builder.both(a, b)?;
         assert_eq!(rt; both, made(WireId { number: 2 }));
-        assert_eq!(rt; builder.draft.label(WireId { number: 2 }), 1);
         Ok(())
     }
 
@@ -177,7 +176,6 @@ mod tests {
         let b = made(builder.wire(true)?);
         let equal = builder.equal(&[a], &[b])?;
         assert_eq!(rt; equal, opposite_of(2));
-        assert_eq!(rt; builder.draft.label(WireId { number: 2 }), 2);
         Ok(())
     }
 
@@ -199,7 +197,6 @@ mod tests {
         let less = builder.less(&[a], &[b], true)?;
         assert_eq!(rt; less, made(WireId { number: 2 }));
         assert_eq!(rt; builder.wires(), 3);
-        assert_eq!(rt; builder.draft.label(WireId { number: 2 }), 1);
         Ok(())
     }
 }

@@ -62,8 +62,6 @@ mod tests {
         let product = builder.product(&[a], &[b])?;
         assert_eq!(rt; product.as_slice(), [made(WireId { number: 2 })].as_slice());
         assert_eq!(rt; builder.wires(), 4);
-        assert_eq!(rt; builder.draft.label(WireId { number: 2 }), 1);
-        assert_eq!(rt; builder.draft.label(WireId { number: 3 }), 1);
         Ok(())
     }
 }
