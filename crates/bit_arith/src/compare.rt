@@ -149,33 +149,12 @@ mod tests {
     }
 
     #[test]
-    fn both_stand_on_a_new_wire(rt: HostRuntime) -> Result<(), Fail> {
+    fn both_and_either_stand_on_new_wires(rt: HostRuntime) -> Result<(), Fail> {
         let mut builder = Builder::new(rt.alloc());
-        let a = made(builder.wire(true)?);
-        let b = made(builder.wire(true)?);
-        let both = builder.both(a, b)?;
-        assert_eq!(rt; both, made(WireId { number: 2 }));
-        Ok(())
-    }
-
-    #[test]
-    fn either_is_not_neither(rt: HostRuntime) -> Result<(), Fail> {
-        let mut builder = Builder::new(rt.alloc());
-        let a = made(builder.wire(true)?);
-        let b = made(builder.wire(true)?);
-        let either = builder.either(a, b)?;
-        assert_eq!(rt; either, opposite_of(2));
-        assert_eq!(rt; builder.wires(), 3);
-        Ok(())
-    }
-
-    #[test]
-    fn equal_bits_are_a_difference_negated(rt: HostRuntime) -> Result<(), Fail> {
-        let mut builder = Builder::new(rt.alloc());
-        let a = made(builder.wire(true)?);
-        let b = made(builder.wire(true)?);
-        let equal = builder.equal(&[a], &[b])?;
-        assert_eq!(rt; equal, opposite_of(2));
+        let both = builder.both(Operand::Const(true), Operand::Const(false))?;
+        let either = builder.either(Operand::Const(true), Operand::Const(false))?;
+        assert_eq!(rt; both, made(WireId { number: 0 }));
+        assert_eq!(rt; either, opposite_of(1));
         Ok(())
     }
 
