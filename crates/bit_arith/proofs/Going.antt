@@ -1,10 +1,8 @@
 -- Calls one after another: what is built by them, and what refuses them.
-use Rattle.std.proofs.Common.{◌≡◌, Option, Some, None, refl, sym, ap, ◌∙◌, subst}
+use Rattle.std.proofs.Common.{◌≡◌, refl, sym, ap, ◌∙◌, subst}
 use Rattle.std.specs.Prelude.{Result, Ok, Err, IfOk, IfErr, IsErrAnd}
-use Rattle.silq_io.specs.declared.limit.OverLimit.{OverLimit}
 use Rattle.silq_io.specs.declared.limit.LimitFault.{LimitFault}
-use Rattle.silq_io.specs.declared.limit.LimitFault.TheVariants.{Memory, Limit}
-use Rattle.flat_core.specs.Form.{DraftForm}
+use Rattle.silq_io.specs.declared.limit.LimitFault.TheVariants.{Memory}
 use Rattle.bit_arith.specs.Built.{Built, Setting, begun}
 use Rattle.bit_arith.specs.Calls.{Building, Went, Refused}
 use Rattle.bit_arith.proofs.Chained.{built_by, refused_later}

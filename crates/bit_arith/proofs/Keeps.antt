@@ -1,7 +1,6 @@
 -- What the rows above a flip keep: wires only grow in number, and no wire is measured.
-use Rattle.std.proofs.Common.{◌≡◌, ℕ, zero, suc, Bool, true, false, List, [], ◌∷◌, length, Option, Some, None, refl, subst}
+use Rattle.std.proofs.Common.{Bool, true, false, List, [], ◌∷◌, length}
 use Rattle.flat_core.specs.declared.step.WireId.{WireId}
-use Rattle.flat_core.specs.declared.step.Lit.{Lit}
 use Rattle.bit_arith.specs.declared.operand.Operand.{Operand}
 use Rattle.bit_arith.specs.declared.operand.Operand.TheVariants.{Const, Literal}
 use Rattle.bit_arith.specs.Built.{Built, Setting, new_wire, new_wires, next_wire, next_wires, made, all_made, negated, all_negated, top_negated, read}

@@ -1,14 +1,13 @@
 -- Which operands are safe to read, and which wires may be changed, by parts.
-use Rattle.std.proofs.Common.{◌≡◌, ℕ, zero, suc, ◌+◌, ◌<◌, ◌≤◌, Bool, true, false, ◌||◌, eqb, List, [], ◌∷◌, ◌++◌, length, map, get_or, take, drop, Option, Some, None, refl, sym, ap, ◌∙◌, subst, arith}
+use Rattle.std.proofs.Common.{◌≡◌, ℕ, zero, suc, ◌<◌, ◌≤◌, Bool, true, false, ◌||◌, eqb, List, [], ◌∷◌, ◌++◌, length, get_or, take, drop, Option, Some, None, refl, sym, ap, ◌∙◌, subst, arith}
 use Rattle.std.proofs.lemmas.Bool.Decides.{nat_tests}
-use Rattle.std.proofs.lemmas.List.{length-append}
 use Rattle.flat_core.specs.declared.step.WireId.{WireId}
 use Rattle.flat_core.specs.declared.step.Lit.{Lit}
 use Rattle.flat_core.specs.Form.{DraftForm}
 use Rattle.flat_core.specs.Label.{same_wire, wire_id}
 use Rattle.bit_arith.specs.declared.operand.Operand.{Operand}
 use Rattle.bit_arith.specs.declared.operand.Operand.TheVariants.{Const, Literal}
-use Rattle.bit_arith.specs.Built.{Built, Setting, under_condition, under, negated, all_negated, top_negated, made, all_made, wires_from}
+use Rattle.bit_arith.specs.Built.{Setting, under_condition, under, negated, all_negated, top_negated, made, all_made, wires_from}
 use Rattle.bit_arith.specs.Calls.{Building, Targets, among, no_target, SafeLit, Safe, AllSafe, IsTarget, AreTargets}
 use Rattle.bit_arith.proofs.Grows.{all_safe_append, all_safe_front, all_safe_back}
 

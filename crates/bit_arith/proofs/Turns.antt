@@ -1,5 +1,5 @@
 -- Rows over lists, place by place.
-use Rattle.std.proofs.Common.{◌≡◌, ℕ, zero, suc, ◌+◌, ◌-◌, ◌<◌, ◌≤◌, Bool, true, false, List, [], ◌∷◌, ◌++◌, length, map, get_or, take, drop, Option, Some, None, refl, sym, ap, ◌∙◌, subst, append_assoc, append-nil, arith}
+use Rattle.std.proofs.Common.{◌≡◌, ℕ, zero, suc, ◌+◌, ◌-◌, ◌<◌, ◌≤◌, Bool, true, false, List, [], ◌∷◌, ◌++◌, length, map, get_or, take, drop, refl, sym, ap, subst, append_assoc, append-nil, arith}
 use Rattle.std.proofs.lemmas.List.{drop_more, drop_all}
 use Rattle.silq_io.specs.declared.limit.LimitFault.{LimitFault}
 use Rattle.flat_core.specs.declared.step.WireId.{WireId}
@@ -7,14 +7,14 @@ use Rattle.flat_core.specs.Form.{DraftForm}
 use Rattle.flat_core.specs.Label.{same_wire, wire_id}
 use Rattle.bit_arith.specs.declared.operand.Operand.{Operand}
 use Rattle.bit_arith.specs.declared.operand.Operand.TheVariants.{Const, Literal}
-use Rattle.bit_arith.specs.Built.{Built, Setting, Given, new_wire, new_wires, next_wire, next_wires, wires_from, made, all_made, negated, read, under, begun}
-use Rattle.bit_arith.specs.Rows.{alone, flip, flip_by, flip_up, flip_down, singles, triples, products, pairs, flip_each, carry_bit, carries, carry, signed, differ_as, differ, matches, lower, product_into}
+use Rattle.bit_arith.specs.Built.{Built, Setting, Given, new_wire, next_wire, wires_from, made, all_made, negated, read, under, begun}
+use Rattle.bit_arith.specs.Rows.{alone, flip, flip_by, flip_up, flip_down, triples, products, pairs, flip_each, carry_bit, carries, carry, signed, differ_as, differ, matches, lower, product_into}
 use Rattle.bit_arith.specs.Multiples.{multiple_into}
 use Rattle.bit_arith.specs.Calls.{Building, Went, Refused, Targets, among, no_target, Safe, AllSafe}
 use Rattle.bit_arith.proofs.Grows.{XGrows, x_then, x_same, new_wire_x, length-new_wire, safe_more, all_safe_more, all_safe_front, all_safe_back}
 use Rattle.bit_arith.proofs.Keeps.{flip_by_x, carry_bit_x, carries_x, differ_x, matches_x}
 use Rattle.bit_arith.proofs.Going.{Row, went_as, went_then, went_grows, refused_on, refused_as, refused_then}
-use Rattle.bit_arith.proofs.Safe.{Wider, safe_at, all_safe_in, condition_safe, operands_safe, now_safe, under_now, beside_one, beside_new, more_wires, negated_safe}
+use Rattle.bit_arith.proofs.Safe.{safe_at, condition_safe, operands_safe, now_safe, under_now, beside_one, beside_new, more_wires, negated_safe}
 
 -- what is read past the end of a list
 abbrev pub wire_at : List WireId → ℕ → WireId

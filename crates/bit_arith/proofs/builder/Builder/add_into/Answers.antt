@@ -1,6 +1,5 @@
-use Rattle.std.proofs.Common.{◌≡◌, List, ◌++◌, length, sym, ◌∙◌, subst}
+use Rattle.std.proofs.Common.{List, length, sym, ◌∙◌, subst}
 use Rattle.bit_arith.specs.declared.operand.Operand.{Operand}
-use Rattle.bit_arith.specs.Built.{all_made}
 use Rattle.bit_arith.specs.Rows.{add_into}
 use Rattle.bit_arith.specs.Calls.{AllSafe, no_target}
 use Rattle.bit_arith.proofs.Safe.{all_made_safe}

@@ -1,4 +1,4 @@
-use Rattle.std.proofs.Common.{◌≡◌, ℕ, ◌+◌, ◌<◌, ◌≤◌, List, [], ◌∷◌, ◌++◌, length, refl, sym, ap, ◌∙◌, subst, arith}
+use Rattle.std.proofs.Common.{◌≡◌, ℕ, List, ◌∷◌, length, sym, ap, ◌∙◌, subst, arith}
 use Rattle.std.specs.Prelude.{Result, IfOk, IfErr}
 use Rattle.silq_io.specs.declared.limit.LimitFault.{LimitFault}
 use Rattle.flat_core.specs.declared.step.WireId.{WireId}
@@ -10,7 +10,7 @@ use Rattle.bit_arith.specs.Multiples.{multiple_into}
 use Rattle.bit_arith.specs.Calls.{Building, Targets, AllSafe, AreTargets, Went, Refused, among}
 use Rattle.bit_arith.proofs.Grows.{XGrows, x_then, new_wires_x, length-new_wires, targets_more}
 use Rattle.bit_arith.proofs.Keeps.{flip_up_x, add_into_x}
-use Rattle.bit_arith.proofs.Safe.{Wider, under_now, now_safe, more_wires, beside_new_wires, condition_safe, operands_safe, among_past}
+use Rattle.bit_arith.proofs.Safe.{under_now, now_safe, more_wires, beside_new_wires, condition_safe, operands_safe, among_past}
 use Rattle.bit_arith.proofs.Going.{Row, refused_out, refused_on, refused_with, refused_last, went_with, went_grows, ok_last}
 use Rattle.bit_arith.proofs.Turns.{length-wires_from, length-all_made, new_made_safe}
 use Rattle.bit_arith.proofs.builder.Builder.add_multiple.Goals as goal

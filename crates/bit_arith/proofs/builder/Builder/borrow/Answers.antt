@@ -1,13 +1,13 @@
-use Rattle.std.proofs.Common.{◌≡◌, ℕ, ◌+◌, ◌<◌, ◌≤◌, Bool, true, false, List, [], ◌∷◌, ◌++◌, length, drop, refl, sym, ap, ◌∙◌, subst, arith}
+use Rattle.std.proofs.Common.{◌≡◌, ℕ, ◌+◌, ◌<◌, ◌≤◌, false, List, [], ◌∷◌, length, drop, refl, sym, ap, ◌∙◌, subst, arith}
 use Rattle.std.proofs.lemmas.List.{drop_more, drop_all}
 use Rattle.bit_arith.specs.declared.operand.Operand.{Operand}
-use Rattle.bit_arith.specs.declared.operand.Operand.TheVariants.{Const, Literal}
-use Rattle.bit_arith.specs.Built.{Built, Setting, Given, begun, under, made, negated, next_wire, new_wire}
-use Rattle.bit_arith.specs.Rows.{borrow, carry_bit}
-use Rattle.bit_arith.specs.Calls.{Building, AllSafe, Safe, no_target, Went}
+use Rattle.bit_arith.specs.declared.operand.Operand.TheVariants.{Const}
+use Rattle.bit_arith.specs.Built.{Built, Setting, Given, begun, under, made, negated, next_wire}
+use Rattle.bit_arith.specs.Rows.{borrow}
+use Rattle.bit_arith.specs.Calls.{AllSafe, no_target}
 use Rattle.bit_arith.proofs.Keeps.{borrow_x}
 use Rattle.bit_arith.proofs.Safe.{negated_safe}
-use Rattle.bit_arith.proofs.Going.{Row, Going, refused_out, going_start, going_more, going_refused, going_end}
+use Rattle.bit_arith.proofs.Going.{refused_out, going_start, going_more, going_refused, going_end}
 use Rattle.bit_arith.proofs.Turns.{bit_at, places_safe, out_of, out_x, out_safe}
 use Rattle.bit_arith.proofs.builder.Builder.borrow.Goals as goal
 

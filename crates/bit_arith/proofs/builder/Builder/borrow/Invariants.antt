@@ -1,4 +1,4 @@
-use Rattle.std.proofs.Common.{◌≡◌, ◌+◌, ◌<◌, length, drop, false}
+use Rattle.std.proofs.Common.{length, drop, false}
 use Rattle.bit_arith.specs.declared.operand.Operand.TheVariants.{Const}
 use Rattle.bit_arith.specs.Built.{begun}
 use Rattle.bit_arith.specs.Rows.{borrow}

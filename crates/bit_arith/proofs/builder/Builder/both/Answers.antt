@@ -1,9 +1,8 @@
-use Rattle.std.proofs.Common.{◌≡◌, List, [], ◌∷◌, sym, ap, ◌∙◌}
+use Rattle.std.proofs.Common.{[], ◌∷◌, ap, ◌∙◌}
 use Rattle.flat_core.specs.declared.step.WireId.{WireId}
 use Rattle.bit_arith.specs.declared.operand.Operand.{Operand}
-use Rattle.bit_arith.specs.Built.{Built, Setting, begun, new_wire, next_wire, made}
+use Rattle.bit_arith.specs.Built.{Built, begun, new_wire, next_wire, made}
 use Rattle.bit_arith.specs.Rows.{both, flip}
-use Rattle.bit_arith.specs.Calls.{Went, Refused}
 use Rattle.bit_arith.proofs.Grows.{flip_x}
 use Rattle.bit_arith.proofs.Going.{Row, refused_out, refused_on, refused_with, went_with}
 use Rattle.bit_arith.proofs.builder.Builder.both.Goals as goal

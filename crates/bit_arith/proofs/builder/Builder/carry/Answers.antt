@@ -2,15 +2,13 @@ use Rattle.std.proofs.Common.{◌≡◌, ℕ, ◌+◌, ◌-◌, ◌<◌, ◌≤�
 use Rattle.std.specs.Prelude.{nat_eq}
 use Rattle.std.proofs.lemmas.Bool.{eqb-true}
 use Rattle.std.proofs.lemmas.Bool.Decides.{nat_tests}
-use Rattle.flat_core.specs.declared.step.WireId.{WireId}
 use Rattle.bit_arith.specs.declared.operand.Operand.{Operand}
-use Rattle.bit_arith.specs.declared.operand.Operand.TheVariants.{Const, Literal}
-use Rattle.bit_arith.specs.Built.{Built, Setting, Given, begun, made, next_wire, new_wire}
-use Rattle.bit_arith.specs.Rows.{carry, carries, carry_bit}
-use Rattle.bit_arith.specs.Calls.{Building, Safe, no_target, Went}
-use Rattle.bit_arith.proofs.Grows.{XGrows, x_then, new_wire_x, length-new_wire}
-use Rattle.bit_arith.proofs.Keeps.{carry_bit_x, carries_x}
-use Rattle.bit_arith.proofs.Going.{Row, Going, refused_out, memory_out, going_start, going_more, going_refused, going_end, went_grows}
+use Rattle.bit_arith.specs.declared.operand.Operand.TheVariants.{Const}
+use Rattle.bit_arith.specs.Built.{Built, Setting, Given, begun, made, next_wire}
+use Rattle.bit_arith.specs.Rows.{carry, carries}
+use Rattle.bit_arith.specs.Calls.{Building}
+use Rattle.bit_arith.proofs.Keeps.{carries_x}
+use Rattle.bit_arith.proofs.Going.{Going, refused_out, going_start, going_more, going_refused, going_end}
 use Rattle.bit_arith.proofs.Turns.{bit_at, prepend, built_of, carries_turn, carries_end, places_safe, out_of, out_x, out_safe}
 use Rattle.bit_arith.proofs.builder.Builder.carry.Goals as goal
 

@@ -1,10 +1,10 @@
-use Rattle.std.proofs.Common.{◌≡◌, ℕ, ◌+◌, ◌<◌, ◌≤◌, List, [], ◌∷◌, length, arith}
+use Rattle.std.proofs.Common.{ℕ, List, [], ◌∷◌, length}
 use Rattle.flat_core.specs.declared.step.WireId.{WireId}
 use Rattle.flat_core.specs.Label.{same_wire}
 use Rattle.bit_arith.specs.declared.operand.Operand.{Operand}
 use Rattle.bit_arith.specs.Built.{Built, Setting, begun}
-use Rattle.bit_arith.specs.Rows.{flip, flip_by, carry_bit}
-use Rattle.bit_arith.specs.Calls.{Building, Targets, AllSafe, Went}
+use Rattle.bit_arith.specs.Rows.{flip}
+use Rattle.bit_arith.specs.Calls.{Targets, AllSafe, Went}
 use Rattle.bit_arith.proofs.Grows.{XGrows, x_then, flip_x, target_more}
 use Rattle.bit_arith.proofs.Keeps.{flip_by_x}
 use Rattle.bit_arith.proofs.Safe.{now_safe, more_wires, condition_safe, operands_safe}

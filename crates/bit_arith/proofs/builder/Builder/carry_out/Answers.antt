@@ -1,7 +1,7 @@
-use Rattle.std.proofs.Common.{◌≡◌, List, [], ◌∷◌}
+use Rattle.std.proofs.Common.{[], ◌∷◌}
 use Rattle.flat_core.specs.declared.step.WireId.{WireId}
 use Rattle.bit_arith.specs.declared.operand.Operand.{Operand}
-use Rattle.bit_arith.specs.Built.{Built, Setting, begun, new_wire, next_wire}
+use Rattle.bit_arith.specs.Built.{Built, begun, new_wire, next_wire}
 use Rattle.bit_arith.specs.Rows.{carry_bit}
 use Rattle.bit_arith.proofs.Keeps.{carry_bit_x}
 use Rattle.bit_arith.proofs.Going.{Row, refused_out, refused_on, refused_with, went_with}

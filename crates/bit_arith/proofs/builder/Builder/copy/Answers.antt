@@ -1,8 +1,8 @@
-use Rattle.std.proofs.Common.{◌≡◌, ℕ, ◌+◌, ◌<◌, ◌≤◌, List, [], ◌∷◌, length, sym, ap, ◌∙◌, subst, arith}
+use Rattle.std.proofs.Common.{ℕ, ◌≤◌, List, length, sym, ap, ◌∙◌, subst, arith}
 use Rattle.flat_core.specs.declared.step.WireId.{WireId}
 use Rattle.bit_arith.specs.declared.operand.Operand.{Operand}
-use Rattle.bit_arith.specs.Built.{Built, Setting, begun, next_wires, new_wires, under}
-use Rattle.bit_arith.specs.Rows.{copy, flip_each, flip_up, singles}
+use Rattle.bit_arith.specs.Built.{Built, begun, next_wires, new_wires, under}
+use Rattle.bit_arith.specs.Rows.{copy, flip_each}
 use Rattle.bit_arith.specs.Calls.{AllSafe, among, no_target}
 use Rattle.bit_arith.proofs.Grows.{new_wires_x}
 use Rattle.bit_arith.proofs.Keeps.{flip_each_x}

@@ -1,8 +1,8 @@
-use Rattle.std.proofs.Common.{◌≡◌, ℕ, List, [], ◌∷◌, length, refl, sym, ap, ◌∙◌, arith}
+use Rattle.std.proofs.Common.{◌≡◌, [], ◌∷◌, ap, ◌∙◌}
 use Rattle.flat_core.specs.declared.step.WireId.{WireId}
 use Rattle.flat_core.specs.declared.step.Lit.{Lit}
 use Rattle.bit_arith.specs.declared.operand.Operand.{Operand}
-use Rattle.bit_arith.specs.declared.operand.Operand.TheVariants.{Const, Literal}
+use Rattle.bit_arith.specs.declared.operand.Operand.TheVariants.{Literal}
 use Rattle.bit_arith.specs.Built.{Built, Setting, Given, begun, new_wire, next_wire, made, read}
 use Rattle.bit_arith.specs.Rows.{alone, flip_by, differ, differ_as}
 use Rattle.bit_arith.proofs.Keeps.{flip_by_x}

@@ -1,7 +1,7 @@
-use Rattle.std.proofs.Common.{◌≡◌, sym, ap, ◌∙◌}
-use Rattle.bit_arith.specs.Built.{begun, negated}
-use Rattle.bit_arith.specs.Rows.{both, either}
-use Rattle.bit_arith.proofs.Going.{refused_out, refused_as, went_as}
+use Rattle.std.proofs.Common.{ap, ◌∙◌}
+use Rattle.bit_arith.specs.Built.{negated}
+use Rattle.bit_arith.specs.Rows.{either}
+use Rattle.bit_arith.proofs.Going.{refused_out}
 use Rattle.bit_arith.proofs.builder.Builder.either.Goals as goal
 
 pub returns-in_err-neither-clause-refused : goal.returns-in_err-neither-clause-refused

@@ -1,12 +1,12 @@
-use Rattle.std.proofs.Common.{◌≡◌, ℕ, ◌<◌, ◌≤◌, List, [], ◌∷◌, ◌++◌, length, refl, sym, ap, ◌∙◌, subst, arith}
+use Rattle.std.proofs.Common.{◌≡◌, ℕ, List, ◌++◌, length, sym, ap, ◌∙◌, subst}
 use Rattle.std.specs.Prelude.{Result, IfOk, IfErr}
 use Rattle.silq_io.specs.declared.limit.LimitFault.{LimitFault}
 use Rattle.flat_core.specs.Form.{DraftForm}
 use Rattle.bit_arith.specs.declared.operand.Operand.{Operand}
-use Rattle.bit_arith.specs.Built.{Built, Setting, Given, begun, under}
+use Rattle.bit_arith.specs.Built.{Built, Given, begun, under}
 use Rattle.bit_arith.specs.Rows.{matches, all_of, equal}
 use Rattle.bit_arith.specs.Calls.{Building, AllSafe, Went, Refused, no_target}
-use Rattle.bit_arith.proofs.Grows.{XGrows, all_safe_front, all_safe_back}
+use Rattle.bit_arith.proofs.Grows.{all_safe_front, all_safe_back}
 use Rattle.bit_arith.proofs.Keeps.{matches_x, all_of_x}
 use Rattle.bit_arith.proofs.Safe.{under_now, more_wires, condition_safe, operands_safe}
 use Rattle.bit_arith.proofs.Going.{Row, refused_out, refused_on, refused_with, refused_last, went_with, went_same, went_grows, ok_last}

@@ -1,7 +1,6 @@
-use Rattle.std.proofs.Common.{◌≡◌, ℕ, ◌+◌, ◌<◌, ◌≤◌, List, [], ◌∷◌, length, map, drop, arith}
+use Rattle.std.proofs.Common.{ℕ, ◌+◌, List, [], ◌∷◌, map, drop, arith}
 use Rattle.flat_core.specs.declared.step.WireId.{WireId}
 use Rattle.bit_arith.specs.declared.operand.Operand.{Operand}
-use Rattle.bit_arith.specs.Built.{Built, Setting, begun}
 use Rattle.bit_arith.specs.Rows.{alone, flip, flip_by}
 use Rattle.bit_arith.proofs.Grows.{flip_x, target_more}
 use Rattle.bit_arith.proofs.Keeps.{flip_by_x}

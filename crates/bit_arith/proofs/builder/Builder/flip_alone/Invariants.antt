@@ -1,4 +1,4 @@
-use Rattle.std.proofs.Common.{◌≡◌, drop, map}
+use Rattle.std.proofs.Common.{drop, map}
 use Rattle.bit_arith.specs.Built.{begun}
 use Rattle.bit_arith.specs.Rows.{flip_by, alone}
 use Rattle.bit_arith.proofs.Going.{Going}

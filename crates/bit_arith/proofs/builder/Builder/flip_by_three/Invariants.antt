@@ -1,4 +1,4 @@
-use Rattle.std.proofs.Common.{◌≡◌, drop}
+use Rattle.std.proofs.Common.{drop}
 use Rattle.bit_arith.specs.Built.{begun}
 use Rattle.bit_arith.specs.Rows.{flip_up, triples}
 use Rattle.bit_arith.proofs.Going.{Going}

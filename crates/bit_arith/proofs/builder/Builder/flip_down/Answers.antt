@@ -1,14 +1,13 @@
-use Rattle.std.proofs.Common.{◌≡◌, ℕ, ◌+◌, ◌-◌, ◌<◌, ◌≤◌, List, [], ◌∷◌, length, map, drop, sym, arith}
+use Rattle.std.proofs.Common.{ℕ, ◌-◌, ◌≤◌, List, length, drop, arith}
 use Rattle.flat_core.specs.declared.step.WireId.{WireId}
 use Rattle.bit_arith.specs.declared.operand.Operand.{Operand}
-use Rattle.bit_arith.specs.Built.{Built, Setting, begun}
-use Rattle.bit_arith.specs.Rows.{flip_down, pairs}
-use Rattle.bit_arith.specs.Calls.{Building}
-use Rattle.bit_arith.proofs.Grows.{XGrows, target_more}
+use Rattle.bit_arith.specs.Built.{begun}
+use Rattle.bit_arith.specs.Rows.{pairs}
+use Rattle.bit_arith.proofs.Grows.{target_more}
 use Rattle.bit_arith.proofs.Keeps.{flip_down_x}
 use Rattle.bit_arith.proofs.Safe.{target_at}
 use Rattle.bit_arith.proofs.Going.{refused_out, went_grows}
-use Rattle.bit_arith.proofs.Turns.{wire_at, bit_at, two_safe, down_went, down_refused}
+use Rattle.bit_arith.proofs.Turns.{wire_at, two_safe, down_went, down_refused}
 use Rattle.bit_arith.proofs.builder.Builder.flip_down.Goals as goal
 
 pub flip_alone-requires-clause-target : goal.flip_alone-requires-clause-target

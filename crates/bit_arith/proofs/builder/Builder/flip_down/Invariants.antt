@@ -1,4 +1,4 @@
-use Rattle.std.proofs.Common.{◌≡◌, ◌≤◌, length, drop}
+use Rattle.std.proofs.Common.{◌≤◌, length, drop}
 use Rattle.bit_arith.specs.Built.{begun}
 use Rattle.bit_arith.specs.Rows.{flip_down, pairs}
 use Rattle.bit_arith.specs.Calls.{Went}

@@ -1,9 +1,7 @@
-use Rattle.std.proofs.Common.{◌≡◌, ℕ, ◌+◌, ◌<◌, ◌≤◌, List, [], ◌∷◌, length, drop, arith}
+use Rattle.std.proofs.Common.{ℕ, ◌+◌, List, [], ◌∷◌, drop, arith}
 use Rattle.flat_core.specs.declared.step.WireId.{WireId}
 use Rattle.bit_arith.specs.declared.operand.Operand.{Operand}
-use Rattle.bit_arith.specs.Built.{Built, Setting, begun}
 use Rattle.bit_arith.specs.Rows.{flip, flip_each}
-use Rattle.bit_arith.specs.Calls.{Building}
 use Rattle.bit_arith.proofs.Grows.{flip_x, target_more}
 use Rattle.bit_arith.proofs.Keeps.{flip_each_x}
 use Rattle.bit_arith.proofs.Safe.{target_at}

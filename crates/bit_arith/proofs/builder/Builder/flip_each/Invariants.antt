@@ -1,6 +1,5 @@
-use Rattle.std.proofs.Common.{◌≡◌, drop}
-use Rattle.flat_core.specs.declared.step.WireId.{WireId}
-use Rattle.bit_arith.specs.Built.{Built, Setting, begun}
+use Rattle.std.proofs.Common.{drop}
+use Rattle.bit_arith.specs.Built.{begun}
 use Rattle.bit_arith.specs.Rows.{flip_each}
 use Rattle.bit_arith.proofs.Going.{Going}
 use Rattle.bit_arith.proofs.builder.Builder.flip_each.Given as goal

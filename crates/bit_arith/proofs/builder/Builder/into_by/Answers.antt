@@ -1,11 +1,10 @@
-use Rattle.std.proofs.Common.{◌≡◌, ℕ, ◌+◌, ◌<◌, ◌≤◌, List, [], ◌∷◌, ◌++◌, length, sym, ap, ◌∙◌, subst, arith}
+use Rattle.std.proofs.Common.{ℕ, List, [], ◌++◌, length, sym, ap, ◌∙◌, subst, arith}
 use Rattle.flat_core.specs.declared.step.WireId.{WireId}
 use Rattle.bit_arith.specs.declared.operand.Operand.{Operand}
-use Rattle.bit_arith.specs.declared.operand.Operand.TheVariants.{Const}
-use Rattle.bit_arith.specs.Built.{Built, Setting, Given, begun, under}
-use Rattle.bit_arith.specs.Rows.{carry, carries, flip_down, pairs, into_by}
+use Rattle.bit_arith.specs.Built.{Setting, Given, begun, under}
+use Rattle.bit_arith.specs.Rows.{carry, flip_down, pairs}
 use Rattle.bit_arith.specs.Calls.{Building, Targets, AllSafe, among, no_target}
-use Rattle.bit_arith.proofs.Grows.{XGrows, targets_more, all_safe_append, all_safe_more}
+use Rattle.bit_arith.proofs.Grows.{targets_more, all_safe_append, all_safe_more}
 use Rattle.bit_arith.proofs.Keeps.{carry_x, flip_down_x}
 use Rattle.bit_arith.proofs.Safe.{under_now, under_in, under_safe, all_safe_in, more_wires, beside_none, condition_safe, operands_safe, among_past}
 use Rattle.bit_arith.proofs.Going.{Row, refused_out, refused_on, refused_with, refused_last, went_with, went_grows, ok_last}

@@ -1,11 +1,9 @@
-use Rattle.std.proofs.Common.{◌≡◌, ℕ, ◌+◌, ◌<◌, ◌≤◌, List, [], ◌∷◌, ◌++◌, length, drop, refl, sym, ap, ◌∙◌, subst, arith}
+use Rattle.std.proofs.Common.{◌≡◌, ℕ, ◌+◌, ◌<◌, List, [], ◌∷◌, ◌++◌, length, drop, refl, sym, ap, ◌∙◌, arith}
 use Rattle.bit_arith.specs.declared.operand.Operand.{Operand}
 use Rattle.bit_arith.specs.Built.{Built, Setting, Given, begun, negated}
 use Rattle.bit_arith.specs.Rows.{matches, differ}
-use Rattle.bit_arith.specs.Calls.{Building}
-use Rattle.bit_arith.proofs.Grows.{XGrows}
 use Rattle.bit_arith.proofs.Keeps.{differ_x, matches_x}
-use Rattle.bit_arith.proofs.Going.{Row, Going, refused_out, going_start, going_more, going_refused, going_end}
+use Rattle.bit_arith.proofs.Going.{Row, refused_out, going_more, going_refused, going_end}
 use Rattle.bit_arith.proofs.Turns.{bit_at, prepend, built_of, pair_safe, matches_turn, matches_end}
 use Rattle.bit_arith.proofs.builder.Builder.matches.Goals as goal
 

@@ -1,16 +1,15 @@
-use Rattle.std.proofs.Common.{◌≡◌, ℕ, ◌+◌, ◌-◌, ◌<◌, ◌≤◌, false, List, [], ◌∷◌, ◌++◌, length, take, drop, refl, sym, ap, ◌∙◌, subst, arith}
+use Rattle.std.proofs.Common.{◌≡◌, ℕ, ◌+◌, ◌-◌, ◌<◌, ◌≤◌, false, List, ◌∷◌, ◌++◌, length, take, drop, sym, ap, ◌∙◌, subst, arith}
 use Rattle.std.proofs.Math.Seq.{take-length}
 use Rattle.std.proofs.lemmas.List.{length-drop, length-take-le}
 use Rattle.silq_io.specs.declared.limit.LimitFault.{LimitFault}
 use Rattle.flat_core.specs.declared.step.WireId.{WireId}
-use Rattle.flat_core.specs.Form.{DraftForm}
 use Rattle.bit_arith.specs.declared.operand.Operand.{Operand}
 use Rattle.bit_arith.specs.declared.operand.Operand.TheVariants.{Const}
 use Rattle.bit_arith.specs.Built.{Built, Setting, begun, under, new_wires, next_wires, wires_from, all_made}
 use Rattle.bit_arith.specs.Rows.{product, product_into}
 use Rattle.bit_arith.specs.Multiples.{multiple_into}
-use Rattle.bit_arith.specs.Calls.{Building, Targets, AllSafe, AreTargets, Went, Refused, among, no_target}
-use Rattle.bit_arith.proofs.Grows.{XGrows, x_then, new_wires_x, targets_more, all_safe_front, all_safe_back}
+use Rattle.bit_arith.specs.Calls.{Building, AllSafe, AreTargets, Went, Refused, among, no_target}
+use Rattle.bit_arith.proofs.Grows.{XGrows, new_wires_x, targets_more, all_safe_front, all_safe_back}
 use Rattle.bit_arith.proofs.Keeps.{product_into_x, multiple_into_x}
 use Rattle.bit_arith.proofs.Safe.{Wider, now_safe, beside_new_wires, condition_safe, operands_safe, among_drop, targets_drop, safe_at, all_safe_take}
 use Rattle.bit_arith.proofs.Going.{Row, Going, whole, refused_out, refused_on, refused_as, refused_with, went_as, went_with, went_grows, going_start, going_more, going_refused, going_end}

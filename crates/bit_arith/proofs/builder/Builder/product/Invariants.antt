@@ -1,4 +1,4 @@
-use Rattle.std.proofs.Common.{◌≡◌, ◌-◌, length, drop, take}
+use Rattle.std.proofs.Common.{◌-◌, length, drop, take}
 use Rattle.bit_arith.specs.Built.{begun}
 use Rattle.bit_arith.specs.Rows.{product_into}
 use Rattle.bit_arith.proofs.Going.{Going}

@@ -1,4 +1,4 @@
-use Rattle.std.proofs.Common.{◌≡◌, List, ◌++◌, length}
+use Rattle.std.proofs.Common.{length}
 use Rattle.bit_arith.specs.Rows.{sum}
 use Rattle.bit_arith.specs.Calls.{no_target}
 use Rattle.bit_arith.proofs.Safe.{front_safe}

@@ -1,4 +1,4 @@
-use Rattle.std.proofs.Common.{◌≡◌, ℕ, ◌+◌, ◌<◌, ◌≤◌, List, [], ◌∷◌, ◌++◌, length, sym, ap, ◌∙◌, subst, arith}
+use Rattle.std.proofs.Common.{◌≡◌, ℕ, List, ◌++◌, length, sym, ap, ◌∙◌, subst, arith}
 use Rattle.silq_io.specs.declared.limit.LimitFault.{LimitFault}
 use Rattle.flat_core.specs.declared.step.WireId.{WireId}
 use Rattle.flat_core.specs.Form.{DraftForm}
@@ -6,7 +6,7 @@ use Rattle.bit_arith.specs.declared.operand.Operand.{Operand}
 use Rattle.bit_arith.specs.Built.{Built, Setting, Given, begun, under, new_wires, next_wires, all_made}
 use Rattle.bit_arith.specs.Rows.{carry, flip_up, triples, sum_by}
 use Rattle.bit_arith.specs.Calls.{Building, Targets, AllSafe, AreTargets, Went, Refused, among, no_target}
-use Rattle.bit_arith.proofs.Grows.{XGrows, x_then, new_wires_x, targets_more, all_safe_append, all_safe_front, all_safe_back, all_safe_more}
+use Rattle.bit_arith.proofs.Grows.{x_then, new_wires_x, targets_more, all_safe_append, all_safe_front, all_safe_back}
 use Rattle.bit_arith.proofs.Keeps.{carry_x, flip_up_x}
 use Rattle.bit_arith.proofs.Safe.{Wider, under_now, now_safe, all_safe_in, more_wires, beside_new_wires, condition_safe, operands_safe, among_past}
 use Rattle.bit_arith.proofs.Going.{Row, refused_out, refused_on, refused_then, refused_as, went_then, went_as, went_same, went_grows}
