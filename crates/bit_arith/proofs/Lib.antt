@@ -18,3 +18,7 @@ pub mod Gathers
 pub mod Halves
 pub mod Published
 mod Examples
+pub mod Going
+pub mod Safe
+pub mod Keeps
+pub mod Turns

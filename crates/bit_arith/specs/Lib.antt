@@ -6,3 +6,4 @@ pub mod Numbers
 pub mod Does
 pub mod Fits
 pub mod Laws
+pub mod Multiples

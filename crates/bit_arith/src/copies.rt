@@ -1,9 +1,10 @@
 //! Flips of many wires: copies of operands, and exclusive or.
 
-ghost use Rattle.std.specs.Prelude.{◌≡◌, length, IfOk, IfErr};
+ghost use Rattle.std.specs.Prelude.{◌≡◌, ◌++◌, ◌∷◌, [], length, map, IfOk, IfErr};
+ghost use Rattle.flat_core.specs.Label.{same_wire};
 ghost use Rattle.bit_arith.specs.Built.{begun, under};
-ghost use Rattle.bit_arith.specs.Rows.{copy, flip_each};
-ghost use Rattle.bit_arith.specs.Calls.{AreTargets, AllSafe, no_target, among, Went, Refused};
+ghost use Rattle.bit_arith.specs.Rows.{copy, flip_each, flip_by, flip_up, flip_down, alone, triples, pairs, products};
+ghost use Rattle.bit_arith.specs.Calls.{IsTarget, AreTargets, AllSafe, no_target, among, Went, Refused};
 
 use crate::builder::Builder;
 use crate::operand::Operand;
@@ -18,7 +19,9 @@ impl Builder {
         ensures ok { IfOk result (λ _. Went self.old self.new (copy self.old.setting list.now (begun self.old.draft)).built) }
         ensures refused { IfErr result (λ e. Refused e (copy self.old.setting list.now (begun self.old.draft)).built) }
     {
-        Err(LimitFault::Memory)
+        let wires = self.new_wires(list.len())?;
+        self.flip_each(wires.as_slice(), list)?;
+        Ok(wires)
     }
 
     /// Flips each wire by its operand, from the low end up.
@@ -29,6 +32,112 @@ impl Builder {
         ensures ok { IfOk result (λ _. Went self.old self.new (flip_each self.old.setting wires.now list.now (begun self.old.draft))) }
         ensures refused { IfErr result (λ e. Refused e (flip_each self.old.setting wires.now list.now (begun self.old.draft))) }
     {
-        Err(LimitFault::Memory)
+        for (i, wire) in wires.iter().enumerate() {
+            self.flip(*wire, &[list[i]])?;
+        }
+        Ok(())
+    }
+
+    // Flips a wire by each operand in turn.
+    pub(crate) fn flip_alone(&mut self, w: WireId, list: &[Operand]) -> Result<(), LimitFault>
+        requires target { IsTarget self.old.draft w }
+        requires safe { AllSafe (length self.old.draft.wires) (same_wire w) (under self.old.setting list.now) }
+        ensures ok { IfOk result (λ _. Went self.old self.new (flip_by self.old.setting w (map alone list.now) (begun self.old.draft))) }
+        ensures refused { IfErr result (λ e. Refused e (flip_by self.old.setting w (map alone list.now) (begun self.old.draft))) }
+    {
+        for p in list {
+            self.flip(w, &[*p])?;
+        }
+        Ok(())
+    }
+
+    // Flips each wire by the operands of three lists, from the low end up.
+    pub(crate) fn flip_by_three(
+        &mut self,
+        wires: &[WireId],
+        a: &[Operand],
+        b: &[Operand],
+        c: &[Operand],
+    ) -> Result<(), LimitFault>
+        requires first { length wires.now ≡ length a.now }
+        requires second { length wires.now ≡ length b.now }
+        requires third { length wires.now ≡ length c.now }
+        requires targets { AreTargets self.old.draft wires.now }
+        requires safe { AllSafe (length self.old.draft.wires) (among wires.now) (under self.old.setting (a.now ++ b.now ++ c.now)) }
+        ensures ok { IfOk result (λ _. Went self.old self.new (flip_up self.old.setting wires.now (triples a.now b.now c.now) (begun self.old.draft))) }
+        ensures refused { IfErr result (λ e. Refused e (flip_up self.old.setting wires.now (triples a.now b.now c.now) (begun self.old.draft))) }
+    {
+        for (i, wire) in wires.iter().enumerate() {
+            self.flip_alone(*wire, &[a[i], b[i], c[i]])?;
+        }
+        Ok(())
+    }
+
+    // Flips each wire by the operands of two lists, from the top down.
+    pub(crate) fn flip_down(
+        &mut self,
+        wires: &[WireId],
+        a: &[Operand],
+        b: &[Operand],
+    ) -> Result<(), LimitFault>
+        requires first { length wires.now ≡ length a.now }
+        requires second { length wires.now ≡ length b.now }
+        requires targets { AreTargets self.old.draft wires.now }
+        requires safe { AllSafe (length self.old.draft.wires) (among wires.now) (under self.old.setting (a.now ++ b.now)) }
+        ensures ok { IfOk result (λ _. Went self.old self.new (flip_down self.old.setting wires.now (pairs a.now b.now) (begun self.old.draft))) }
+        ensures refused { IfErr result (λ e. Refused e (flip_down self.old.setting wires.now (pairs a.now b.now) (begun self.old.draft))) }
+    {
+        let mut i = wires.len();
+        while i > 0 {
+            i -= 1;
+            self.flip_alone(wires[i], &[a[i], b[i]])?;
+        }
+        Ok(())
+    }
+
+    // Flips each wire by the product of one operand and its own.
+    pub(crate) fn flip_products(
+        &mut self,
+        wires: &[WireId],
+        p: Operand,
+        list: &[Operand],
+    ) -> Result<(), LimitFault>
+        requires lengths { length wires.now ≡ length list.now }
+        requires targets { AreTargets self.old.draft wires.now }
+        requires safe { AllSafe (length self.old.draft.wires) (among wires.now) (under self.old.setting (p ∷ list.now)) }
+        ensures ok { IfOk result (λ _. Went self.old self.new (flip_up self.old.setting wires.now (products p list.now) (begun self.old.draft))) }
+        ensures refused { IfErr result (λ e. Refused e (flip_up self.old.setting wires.now (products p list.now) (begun self.old.draft))) }
+    {
+        for (i, wire) in wires.iter().enumerate() {
+            self.flip(*wire, &[p, list[i]])?;
+        }
+        Ok(())
+    }
+}
+
+#[cfg(test)]
+mod tests {
+    use super::*;
+    use crate::made::made;
+    use std::test::Fail;
+
+    #[test]
+    fn copies_stand_on_new_wires(rt: HostRuntime) -> Result<(), Fail> {
+        let mut builder = Builder::new(rt.alloc());
+        let a = made(builder.wire(true)?);
+        let copies = builder.copy(&[a, Operand::Const(true), Operand::Const(false)])?;
+        assert_eq!(rt; copies.len(), 3);
+        assert_eq!(rt; builder.wires(), 4);
+        Ok(())
+    }
+
+    #[test]
+    fn each_wire_is_flipped_by_its_operand(rt: HostRuntime) -> Result<(), Fail> {
+        let mut builder = Builder::new(rt.alloc());
+        let x = builder.wire(true)?;
+        let a = made(builder.wire(true)?);
+        builder.flip_each(&[x], &[a])?;
+        assert_eq!(rt; builder.wires(), 2);
+        Ok(())
     }
 }

@@ -6,6 +6,7 @@ mod compare;
 mod conjunction;
 mod copies;
 pub mod laws;
+mod made;
 pub mod operand;
 mod product;
 mod sums;

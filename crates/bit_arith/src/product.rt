@@ -1,12 +1,15 @@
 //! Products of numbers, low bit first.
 
-ghost use Rattle.std.specs.Prelude.{◌≡◌, ◌++◌, length, IfOk, IfErr};
+ghost use Rattle.std.specs.Prelude.{◌≡◌, ◌++◌, ◌∷◌, length, IfOk, IfErr};
 ghost use Rattle.bit_arith.specs.Built.{begun, under};
 ghost use Rattle.bit_arith.specs.Rows.{product};
-ghost use Rattle.bit_arith.specs.Calls.{AllSafe, no_target, Went, Refused};
+ghost use Rattle.bit_arith.specs.Multiples.{multiple_into};
+ghost use Rattle.bit_arith.specs.Calls.{AreTargets, AllSafe, no_target, among, Went, Refused};
 
 use crate::builder::Builder;
+use crate::made::all_made;
 use crate::operand::Operand;
+use flat_core::WireId;
 use silq_io::LimitFault;
 
 impl Builder {
@@ -18,6 +21,47 @@ impl Builder {
         ensures ok { IfOk result (λ _. Went self.old self.new (product self.old.setting a.now b.now (begun self.old.draft)).built) }
         ensures refused { IfErr result (λ e. Refused e (product self.old.setting a.now b.now (begun self.old.draft)).built) }
     {
-        Err(LimitFault::Memory)
+        let wires = self.new_wires(a.len())?;
+        for (i, p) in a.iter().enumerate() {
+            self.add_multiple(&wires[i..], *p, &b[..b.len() - i])?;
+        }
+        Ok(all_made(self.alloc, wires.as_slice())?)
+    }
+
+    // Adds the product of a number and one bit to wires.
+    fn add_multiple(
+        &mut self,
+        wires: &[WireId],
+        p: Operand,
+        list: &[Operand],
+    ) -> Result<(), LimitFault>
+        requires lengths { length wires.now ≡ length list.now }
+        requires targets { AreTargets self.old.draft wires.now }
+        requires safe { AllSafe (length self.old.draft.wires) (among wires.now) (under self.old.setting (p ∷ list.now)) }
+        ensures ok { IfOk result (λ _. Went self.old self.new (multiple_into self.old.setting wires.now p list.now (begun self.old.draft))) }
+        ensures refused { IfErr result (λ e. Refused e (multiple_into self.old.setting wires.now p list.now (begun self.old.draft))) }
+    {
+        let multiple = self.new_wires(list.len())?;
+        self.flip_products(multiple.as_slice(), p, list)?;
+        let bits = all_made(self.alloc, multiple.as_slice())?;
+        self.add_into(wires, bits.as_slice())
+    }
+}
+
+#[cfg(test)]
+mod tests {
+    use super::*;
+    use crate::made::made;
+    use std::test::Fail;
+
+    #[test]
+    fn products_of_one_place(rt: HostRuntime) -> Result<(), Fail> {
+        let mut builder = Builder::new(rt.alloc());
+        let a = made(builder.wire(true)?);
+        let b = made(builder.wire(true)?);
+        let product = builder.product(&[a], &[b])?;
+        assert_eq!(rt; product.as_slice(), [made(WireId { number: 2 })].as_slice());
+        assert_eq!(rt; builder.wires(), 4);
+        Ok(())
     }
 }
