@@ -1,3 +1,5 @@
 pub mod Samples
 pub mod Both
 pub mod Numbers
+pub mod Kept
+pub mod Compose
