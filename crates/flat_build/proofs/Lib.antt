@@ -3,3 +3,4 @@ pub mod Both
 pub mod Numbers
 pub mod Kept
 pub mod Compose
+pub mod Choice
