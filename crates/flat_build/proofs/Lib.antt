@@ -4,3 +4,4 @@ pub mod Numbers
 pub mod Kept
 pub mod Compose
 pub mod Choice
+pub mod Rows
