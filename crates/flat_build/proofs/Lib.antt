@@ -2,6 +2,8 @@ pub mod Samples
 pub mod Both
 pub mod Numbers
 pub mod Kept
+pub mod Later
+pub mod Giving
 pub mod Compose
 pub mod Choice
 pub mod Rows
