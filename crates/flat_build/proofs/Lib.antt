@@ -1,9 +1,12 @@
 pub mod Samples
 pub mod Both
 pub mod Numbers
+pub mod Pieces
+pub mod Digits
 pub mod Kept
 pub mod Later
 pub mod Giving
 pub mod Compose
 pub mod Choice
 pub mod Rows
+pub mod Taking

@@ -1,6 +1,9 @@
 -- Numbers and their bits: those of values are those of the rows.
 use Rattle.std.proofs.Common.{◌≡◌, ℕ, zero, suc, ◌+◌, ◌-◌, ◌*◌, ◌^◌, ◌%◌, ◌/◌, ◌≤◌, ◌<◌, Bool, true, false, cond, not, List, [], ◌∷◌, length, refl, sym, ap, ap₂, ◌∙◌, subst, arith, pow-suc, pow_pos, mod-lt}
-use Rattle.std.specs.Prelude.{ℤ, pos, negsuc, ◌-ℤ◌, ◌<ℤ◌, nat_lt, int_lt, int_le, ◌==◌, if◌then◌else◌}
+use Rattle.std.specs.Prelude.{ℤ, pos, negsuc, ◌-ℤ◌, ◌<ℤ◌, nat_lt, int_lt, int_le, nat_le, ◌==◌, if◌then◌else◌}
+use Rattle.std.specs.Prelude.{◌⊎◌}
+use mathlib.Core.Logic.{inl, inr}
+use Rattle.std.proofs.lemmas.Bool.{cases_lt, lt-leb, le-leb, lt-ltb, le-ltb}
 use Rattle.silq_types.specs.declared.types.Scalar.{Scalar}
 use Rattle.silq_types.specs.declared.types.Scalar.TheVariants as scalars
 use Rattle.silq_types.specs.Types.{single_shape, scalar_bits}
@@ -59,7 +62,7 @@ rest_below k a = mod-lt a {m = modulus k} (modulus_pos k)
 -- ---- orders
 
 lt_pos : (a b : ℕ) → nat_lt a b ≡ int_lt (pos a) (pos b)
-lt_pos a b = ?
+lt_pos a b = refl
 
 -- the order by a type is that of the row
 pub below_by_type : (k : Scalar) (a b : ℕ) → is_below (is_signed (single_shape k)) (scalar_bits k) a b ≡ int_lt (by_type k a) (by_type k b)
@@ -67,5 +70,11 @@ below_by_type scalars.Bit a b = lt_pos a b
 below_by_type (scalars.UInt n) a b = lt_pos a b
 below_by_type (scalars.Int n) a b = refl
 
+le_lt_nat : (a b : ℕ) → nat_le a b ≡ not (nat_lt b a)
+le_lt_nat a b = elim (cases_lt b a) [ inl h ↦ lt-leb a b h ∙ ap not (sym (lt-ltb b a h)) | inr h ↦ le-leb a b h ∙ ap not (sym (le-ltb b a h)) ]
+
 pub le_not_lt : (x y : ℤ) → int_le x y ≡ not (int_lt y x)
-le_not_lt x y = ?
+le_not_lt (pos a) (pos b) = le_lt_nat a b
+le_not_lt (pos a) (negsuc b) = refl
+le_not_lt (negsuc a) (pos b) = refl
+le_not_lt (negsuc a) (negsuc b) = le_lt_nat b a
