@@ -3,6 +3,7 @@ pub mod Both
 pub mod Numbers
 pub mod Pieces
 pub mod Digits
+pub mod Bits
 pub mod Kept
 pub mod Later
 pub mod Giving
