@@ -11,3 +11,4 @@ pub mod Compose
 pub mod Choice
 pub mod Rows
 pub mod Taking
+pub mod Gates
