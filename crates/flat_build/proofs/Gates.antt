@@ -142,15 +142,15 @@ abbrev pub with_wired : Shown → Flattening → Flattening
 with_wired z s = push (shown z) s
 
 -- what the last value and the others show before the gate
-wired_bit : (z : Shown) (w : WireId) (s : Flattening) → Wired z w s → (u : WireTerm) (t : Term) → Related (with_wired z s) u t → last_value t ≡ truth_value (u.row w.number)
+pub wired_bit : (z : Shown) (w : WireId) (s : Flattening) → Wired z w s → (u : WireTerm) (t : Term) → Related (with_wired z s) u t → last_value t ≡ truth_value (u.row w.number)
 wired_bit z w s q u t r = bit_value u.row z (made w) (last_value t) q.bit q.its (shown_last (with_wired z s) z u t refl r) ∙ ap truth_value (beq_one (u.row w.number))
 
-rest_shows : (z : Shown) (w : WireId) (s : Flattening) → Wired z w s → (u : WireTerm) (t : Term) (y : Row) → Related (with_wired z s) u t → Agree (length s.built.draft.wires) (same_wire w) y u.row → AllShow y s (but_last t)
+pub rest_shows : (z : Shown) (w : WireId) (s : Flattening) → Wired z w s → (u : WireTerm) (t : Term) (y : Row) → Related (with_wired z s) u t → Agree (length s.built.draft.wires) (same_wire w) y u.row → AllShow y s (but_last t)
 rest_shows z w s q u t y r ag =
     let a : AllShow u.row (drop_last (with_wired z s)) (but_last t) = all_show_drop u.row (with_wired z s) t (related_shows (with_wired z s) u t r) in
     all_show_after (length s.built.draft.wires) (same_wire w) y u.row s (but_last t) ag q.known q.spared (record { env = a.env; values = a.values; callers = a.callers })
 
-with_bit : (z : Shown) (w : WireId) (s : Flattening) → Wired z w s → (b : Built) (t f : Term) (y : Row) (c : Bool) → AllShow y s (but_last t) → y w.number ≡ c → f.env ≡ t.env → f.values ≡ truth_value c ∷ drop 1 t.values → f.callers ≡ t.callers → AllShow y (with_wired z (build b s)) f
+pub with_bit : (z : Shown) (w : WireId) (s : Flattening) → Wired z w s → (b : Built) (t f : Term) (y : Row) (c : Bool) → AllShow y s (but_last t) → y w.number ≡ c → f.env ≡ t.env → f.values ≡ truth_value c ∷ drop 1 t.values → f.callers ≡ t.callers → AllShow y (with_wired z (build b s)) f
 with_bit z w s q b t f y c a e env values callers = record {
   env = subst (λ x. EnvBoth (Shows y) s.env x) (sym env) a.env;
   values = subst (λ x. ListBoth (Shows y) (shown z ∷ s.values) x) (sym values) (shows_bit y z (made w) c q.bit q.its (beq_one (y w.number) ∙ e), a.values);

@@ -12,3 +12,4 @@ pub mod Choice
 pub mod Rows
 pub mod Taking
 pub mod Gates
+pub mod Mixing
