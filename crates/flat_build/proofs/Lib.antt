@@ -13,3 +13,4 @@ pub mod Rows
 pub mod Taking
 pub mod Gates
 pub mod Mixing
+pub mod Turning
