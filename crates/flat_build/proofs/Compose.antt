@@ -37,7 +37,7 @@ steps-terms : (o : Outcome) (ss : List Step) (xs ys : List WireTerm) → do_step
 steps-terms o [] xs ys = refl
 steps-terms o (s ∷ ss) xs ys = ap (do_steps o ss) (each-append (do_step o s) xs ys) ∙ steps-terms o ss (each (do_step o s) xs) (each (do_step o s) ys)
 
-steps-none : (o : Outcome) (ss : List Step) → do_steps o ss [] ≡ []
+pub steps-none : (o : Outcome) (ss : List Step) → do_steps o ss [] ≡ []
 steps-none o [] = refl
 steps-none o (s ∷ ss) = steps-none o ss
 

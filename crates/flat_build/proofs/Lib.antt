@@ -14,3 +14,4 @@ pub mod Taking
 pub mod Gates
 pub mod Mixing
 pub mod Turning
+pub mod Measuring
