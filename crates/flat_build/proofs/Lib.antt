@@ -5,3 +5,4 @@ pub mod Pieces
 pub mod Digits
 pub mod Bits
 pub mod Operators
+pub mod Showing
