@@ -5,4 +5,5 @@ pub mod Pieces
 pub mod Digits
 pub mod Bits
 pub mod Operators
+pub mod OperatorRows
 pub mod Showing

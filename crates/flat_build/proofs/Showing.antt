@@ -25,7 +25,7 @@ use Rattle.flat_build.specs.Shows.{HasShape, Shows}
 use Rattle.flat_build.proofs.Numbers.{modulo_below, modulus_pos}
 use Rattle.flat_build.proofs.Pieces.{outside_map, part_map, with_map, same_before, same_after, same_apart, replaced, replaced_same, replaced_by}
 use Rattle.flat_build.proofs.Bits.{bits_length, single_not_array, single_one, IsThere, part_holds, part_bits, with_holds, with_bits_is}
-use Rattle.flat_build.proofs.Operators.{OneBits, TwoBits, UpdateBits, Gives, one_gives, two_gives, update_gives, equal_one, repeat_gives, truth_holds, truth_bits, one_bits}
+use Rattle.flat_build.proofs.Operators.{OneBits, TwoBits, UpdateBits, HasBits, one_gives, two_gives, update_gives, equal_one, repeat_gives, truth_holds, truth_bits, one_bits}
 
 -- ---- values as they are
 
@@ -37,7 +37,7 @@ shows_bits v u a b w s e h = (subst (λ r. HasShape r w) (sym s) h.0, e ∙ h.1)
 pub shown_length : (v : Row) (a : Shown) (w : Value) → Shows v (shown a) w → length a.operands ≡ shape_bits a.shape
 shown_length v a w h = sym (length-bits v a.operands) ∙ (ap length h.1 ∙ bits_length a.shape w h.0)
 
-pub shows_gives : (u : Row) (a : Shown) (w : Value) (s : Shape) → a.shape ≡ s → Gives s w (bits_at u a.operands) → Shows u (shown a) w
+pub shows_gives : (u : Row) (a : Shown) (w : Value) (s : Shape) → a.shape ≡ s → HasBits s w (bits_at u a.operands) → Shows u (shown a) w
 shows_gives u a w s e g = (subst (λ r. HasShape r w) (sym e) g.0, g.1)
 
 pub static_is : (v : Row) (z : ℤ) (w : Value) → Shows v (static z) w → w ≡ whole z
@@ -198,7 +198,7 @@ shows_moved v [] a w h = tt
 shows_moved v (i ∷ is) a w h = shows_lent v (part_start a.shape (i ∷ is)) (shape_bits (part_shape a.shape (i ∷ is))) a w h
 
 -- a lent part comes back with other bits on the same wires
-pub shows_back : (v : Row) (is : List ℤ) (a : Shown) (w x : Value) → length a.operands ≡ shape_bits a.shape → IsThere a.shape is → Gives (part_shape a.shape is) x (bits_at v (part_of a.shape is a.operands))
+pub shows_back : (v : Row) (is : List ℤ) (a : Shown) (w x : Value) → length a.operands ≡ shape_bits a.shape → IsThere a.shape is → HasBits (part_shape a.shape is) x (bits_at v (part_of a.shape is a.operands))
     → Shows v (lent (part_start a.shape is) (shape_bits (part_shape a.shape is)) a) w → Shows v (shown a) (with_part w is x)
 shows_back v is a w x l t g h =
     let start : ℕ = part_start a.shape is in
@@ -244,7 +244,7 @@ shows_two v u op a b c x y s r f g h t =
     (two_gives op a.shape x y (bits_at v a.operands) (bits_at v b.operands) (bits_at u c.operands) f g.0 (subst (λ i. HasShape i y) (sym r) h.0) g.1 h.1 t)
 
 -- the bits of an updated value
-pub updates_give : (v : Row) (op : UpdateOp) (s : Shape) (b : Shown) (xs zs : List Bool) (x y : Value) → b.shape ≡ s → IsUpdated op s → Gives s x xs → Shows v (shown b) y → UpdateBits op xs (bits_at v b.operands) zs → Gives s (update_typed op x y) zs
+pub updates_give : (v : Row) (op : UpdateOp) (s : Shape) (b : Shown) (xs zs : List Bool) (x y : Value) → b.shape ≡ s → IsUpdated op s → HasBits s x xs → Shows v (shown b) y → UpdateBits op xs (bits_at v b.operands) zs → HasBits s (update_typed op x y) zs
 updates_give v op s b xs zs x y r i g h t = update_gives op s x y xs (bits_at v b.operands) zs i g.0 (subst (λ j. HasShape j y) r h.0) g.1 h.1 t
 
 repeated_bits : (v : Row) (n : ℕ) (ps : List Operand) → bits_at v (repeated_operands n ps) ≡ flat_map (λ bs. bs) (replicate n (bits_at v ps))
@@ -255,7 +255,7 @@ pub shows_repeated : (v u : Row) (z : ℤ) (a b : Shown) (n w : Value) → b.sha
 shows_repeated v u z a b n w s f g h e =
     subst (λ m. Shows u (shown b) (repeated m w)) (sym (static_is v z n g))
     (shows_gives u b (repeated (whole z) w) (array_of a.shape (nat_abs z)) s
-    (subst (Gives (array_of a.shape (nat_abs z)) (repeated (whole z) w)) (sym (e ∙ repeated_bits v (nat_abs z) a.operands)) (repeat_gives z a.shape w (bits_at v a.operands) f h.0 h.1)))
+    (subst (HasBits (array_of a.shape (nat_abs z)) (repeated (whole z) w)) (sym (e ∙ repeated_bits v (nat_abs z) a.operands)) (repeat_gives z a.shape w (bits_at v a.operands) f h.0 h.1)))
 
 -- ---- equal values
 
