@@ -1,6 +1,6 @@
 -- The rows of operators and updates, as what they say of bits.
-use Rattle.std.proofs.Common.{◌≡◌, ℕ, zero, suc, ◌+◌, ◌-◌, ◌*◌, ◌^◌, ◌%◌, ◌<◌, Bool, true, false, not, ◌&&◌, ◌||◌, List, [], ◌∷◌, length, map, refl, sym, ap, ap₂, ◌∙◌, subst, arith}
-use Rattle.std.specs.Prelude.{⊤, replicate}
+use Rattle.std.proofs.Common.{◌≡◌, ℕ, zero, suc, ◌+◌, ◌-◌, ◌*◌, ◌^◌, ◌%◌, Bool, false, not, ◌&&◌, ◌||◌, List, [], ◌∷◌, length, map, refl, sym, ap, ap₂, ◌∙◌, arith}
+use Rattle.std.specs.Prelude.{replicate}
 use Rattle.std.proofs.lemmas.List.{length-map, length-replicate}
 use Rattle.silq_tree.specs.declared.node.UnaryOp.{UnaryOp}
 use Rattle.silq_tree.specs.declared.node.UnaryOp.TheVariants.{Not, Neg}
@@ -14,20 +14,20 @@ use Rattle.flat_core.specs.declared.step.WireId.{WireId}
 use Rattle.flat_core.specs.Form.{DraftForm}
 use Rattle.flat_mean.specs.Row.{Row}
 use Rattle.bit_arith.specs.declared.operand.Operand.{Operand}
-use Rattle.bit_arith.specs.declared.operand.Operand.TheVariants.{Const, Literal}
+use Rattle.bit_arith.specs.declared.operand.Operand.TheVariants.{Const}
 use Rattle.bit_arith.specs.Built.{Built, Setting, Given, made, all_made, negated, wires_from}
-use Rattle.bit_arith.specs.Rows.{sum, difference, product, both, either, equal, less}
+use Rattle.bit_arith.specs.Rows.{sum, difference, product}
 use Rattle.bit_arith.specs.Calls.{Targets, no_target, among, Safe, AllSafe}
 use Rattle.bit_arith.specs.Values.{bit_of, bits_at, values_at}
 use Rattle.bit_arith.specs.Numbers.{number}
-use Rattle.bit_arith.specs.Does.{Fresh, Below, Different, Does, Answers, Tells}
+use Rattle.bit_arith.specs.Does.{Fresh, Below, Different, Does, Tells}
 use Rattle.bit_arith.proofs.Doing.{Guards, does_none, does_weak}
 use Rattle.bit_arith.proofs.Making.{length-bits, length-values, length-from, negated_bit, both_does, either_does, flip_each_does}
 use Rattle.bit_arith.proofs.Carrying.{bits_negated, sum_does, difference_does, add_into_does, sub_into_does}
 use Rattle.bit_arith.proofs.Multiples.{product_does}
 use Rattle.bit_arith.proofs.Tests.{is_below, equal_does, less_does}
-use Rattle.flat_build.specs.State.{is_signed, as_they_are, only_operand}
-use Rattle.flat_build.specs.Flat.{negative, by_one, by_two, alone, opposite, update_by}
+use Rattle.flat_build.specs.State.{is_signed, only_operand}
+use Rattle.flat_build.specs.Flat.{by_one, by_two, update_by}
 use Rattle.flat_build.proofs.Operators.{only_bit, OneBits, TwoBits, UpdateBits}
 
 -- ---- answers have an operand for each bit
@@ -84,9 +84,10 @@ one_does Neg at ps b f g s =
     let e : length zs ≡ length ps = length-replicate (length ps) (Const false) in
     does_weak (difference_does at zs ps b f e g (zeros_safe (length b.draft.wires) no_target (length ps)) s).does
     (λ v u c on ag cl t.
-        let l : length zs ≡ length (bits_at v ps) = e ∙ sym (length-bits v ps) in
-        (length-bits u (difference at zs ps b).answer ∙ (length-of_difference at zs ps b ∙ l),
-        t ∙ (ap₂ (λ x n. (x + (2 ^ n - number (bits_at v ps))) % 2 ^ n) (zeros_number v (length ps)) l ∙ none (2 ^ length (bits_at v ps)) (number (bits_at v ps)))))
+    let l : length zs ≡ length (bits_at v ps) = e ∙ sym (length-bits v ps) in (
+      length-bits u (difference at zs ps b).answer ∙ (length-of_difference at zs ps b ∙ l),
+      t ∙ (ap₂ (λ x n. (x + (2 ^ n - number (bits_at v ps))) % 2 ^ n) (zeros_number v (length ps)) l ∙ none (2 ^ length (bits_at v ps)) (number (bits_at v ps))),
+    ))
   where
     none : (m x : ℕ) → (0 + (m - x)) % m ≡ (m - x) % m
     none m x = let e : 0 + (m - x) ≡ m - x = omega arith in ap (λ y. y % m) e
@@ -113,19 +114,22 @@ two_does Ge s at ps qs b f g sp sq e d =
     tells_not (λ v. is_below (is_signed s) (length (bits_at v ps)) (number (bits_at v ps)) (number (bits_at v qs))) (less_does at (is_signed s) ps qs b f e g sp sq) (λ v. below_is_bits v (is_signed s) ps qs)
 two_does Add s at ps qs b f g sp sq e d =
     does_weak (sum_does at ps qs b f e g sp sq).does
-    (λ v u c on ag cl t.
-        (length-bits u (sum at ps qs b).answer ∙ (length-of_sum at ps qs b ∙ sym (length-bits v ps)),
-        t ∙ ap (λ n. (number (bits_at v ps) + number (bits_at v qs)) % 2 ^ n) (sym (length-bits v ps))))
+    (λ v u c on ag cl t. (
+      length-bits u (sum at ps qs b).answer ∙ (length-of_sum at ps qs b ∙ sym (length-bits v ps)),
+      t ∙ ap (λ n. (number (bits_at v ps) + number (bits_at v qs)) % 2 ^ n) (sym (length-bits v ps)),
+    ))
 two_does Sub s at ps qs b f g sp sq e d =
     does_weak (difference_does at ps qs b f e g sp sq).does
-    (λ v u c on ag cl t.
-        (length-bits u (difference at ps qs b).answer ∙ (length-of_difference at ps qs b ∙ sym (length-bits v ps)),
-        t ∙ ap (λ n. (number (bits_at v ps) + (2 ^ n - number (bits_at v qs))) % 2 ^ n) (sym (length-bits v ps))))
+    (λ v u c on ag cl t. (
+      length-bits u (difference at ps qs b).answer ∙ (length-of_difference at ps qs b ∙ sym (length-bits v ps)),
+      t ∙ ap (λ n. (number (bits_at v ps) + (2 ^ n - number (bits_at v qs))) % 2 ^ n) (sym (length-bits v ps)),
+    ))
 two_does Mul s at ps qs b f g sp sq e d =
     does_weak (product_does at ps qs b f e g sp sq).does
-    (λ v u c on ag cl t.
-        (length-bits u (product at ps qs b).answer ∙ (length-of_product at ps qs b ∙ sym (length-bits v ps)),
-        t ∙ ap (λ n. (number (bits_at v ps) * number (bits_at v qs)) % 2 ^ n) (sym (length-bits v ps))))
+    (λ v u c on ag cl t. (
+      length-bits u (product at ps qs b).answer ∙ (length-of_product at ps qs b ∙ sym (length-bits v ps)),
+      t ∙ ap (λ n. (number (bits_at v ps) * number (bits_at v qs)) % 2 ^ n) (sym (length-bits v ps)),
+    ))
 two_does Div s at ps qs b f g sp sq e d = absurd (d refl)
 
 -- ---- updates

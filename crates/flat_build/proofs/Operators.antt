@@ -1,8 +1,8 @@
 -- What the rows of operators say of bits, as what operators do to values.
-use Rattle.std.proofs.Common.{◌≡◌, ◌⊎◌, inl, inr, ℕ, zero, suc, ◌+◌, ◌-◌, ◌*◌, ◌^◌, ◌%◌, ◌/◌, ◌≤◌, ◌<◌, Bool, true, false, cond, not, ◌&&◌, ◌||◌, List, [], ◌∷◌, ◌++◌, length, map, take, drop, ℤ, refl, sym, ap, ap₂, ◌∙◌, subst, arith, mod-lt, pow-suc}
-use Rattle.std.specs.Prelude.{⊤, ◌==◌, if◌then◌else◌, int_lt, int_le, nat_abs, replicate, flat_map}
+use Rattle.std.proofs.Common.{◌≡◌, ℕ, zero, suc, ◌+◌, ◌-◌, ◌*◌, ◌^◌, ◌%◌, ◌/◌, ◌≤◌, ◌<◌, Bool, true, false, not, ◌&&◌, ◌||◌, List, [], ◌∷◌, ◌++◌, length, map, take, drop, ℤ, refl, sym, ap, ap₂, ◌∙◌, subst, arith, mod-lt, pow-suc}
+use Rattle.std.specs.Prelude.{◌==◌, int_lt, int_le, nat_abs, replicate, flat_map}
 use Rattle.std.proofs.lemmas.Bool.{eqb-true, and_parts}
-use Rattle.std.proofs.lemmas.List.{length-replicate, take_at, drop_at, length-take-le, take-append-drop, length-drop, nil_from_length}
+use Rattle.std.proofs.lemmas.List.{length-replicate, length-take-le, take-append-drop, length-drop, nil_from_length}
 use Rattle.silq_tree.specs.declared.node.UnaryOp.{UnaryOp}
 use Rattle.silq_tree.specs.declared.node.UnaryOp.TheVariants.{Not, Neg}
 use Rattle.silq_tree.specs.declared.node.BinaryOp.{BinaryOp}
@@ -13,7 +13,7 @@ use Rattle.silq_types.specs.declared.types.Scalar.{Scalar}
 use Rattle.silq_types.specs.declared.types.Scalar.TheVariants as scalars
 use Rattle.silq_types.specs.declared.types.Shape.{Shape}
 use Rattle.silq_types.specs.declared.types.Shape.TheVariants.{Bit, UInt, Int, Array}
-use Rattle.silq_types.specs.Types.{single_shape, scalar_bits, shape_bits, is_scalar, is_number, is_array}
+use Rattle.silq_types.specs.Types.{single_shape, scalar_bits, shape_bits, is_scalar, is_number}
 use Rattle.silq_mean.specs.Value.{Value, whole, single, array, gone, modulus, by_type, truth_value, is_one, bits_of, low_bits, number_of, numbers_of, value_of_bits, on_number, on_numbers, of_one, of_two_typed, repeated, exclusive_or, all_exclusive_or, update_typed, all_equal, equal_typed}
 use Rattle.sum_laws.specs.Terms.{same_bits}
 use Rattle.flat_mean.specs.Row.{flipped}
@@ -26,9 +26,9 @@ use Rattle.flat_build.specs.Flat.{shape_by, shape_by_one, array_of}
 use Rattle.flat_build.specs.Names.{AllOf}
 use Rattle.flat_build.specs.Fine.{FitsOne, FitsTwo, IsUpdated}
 use Rattle.flat_build.specs.Shows.{HasShape}
-use Rattle.flat_build.proofs.Numbers.{low_length, row_number_low, bits_with_number, low_of_number, below_length, rest_below, below_by_type, le_not_lt, modulus_pos}
+use Rattle.flat_build.proofs.Numbers.{low_length, row_number_low, bits_with_number, low_of_number, below_length, rest_below, below_by_type, le_not_lt}
 use Rattle.flat_build.proofs.Digits.{repeat_all, low_step}
-use Rattle.flat_build.proofs.Bits.{single_one, single_not_array, array_item, array_length, shape_single}
+use Rattle.flat_build.proofs.Bits.{single_one, single_not_array, array_item, array_length}
 
 -- ---- bits
 
@@ -294,9 +294,10 @@ xor_gives s (array k ns) gone xs ys zs h g d e t = absurd g
 xor_gives s (array k ns) (single j b) xs ys zs h g d e t = absurd (single_not_array j k (length ns) (sym g.0 ∙ h.0))
 xor_gives s (array k ns) (array j ms) xs ys zs h g d e t =
     let p : j ≡ k = array_item j k (length ms) (length ns) (sym g.0 ∙ h.0) in
-    let l : length ns ≡ length ms = array_length k j (length ns) (length ms) (sym h.0 ∙ g.0) in
-    ((h.0 ∙ ap (Array k) (sym (exclusive_length (scalar_bits k) ns ms l)), exclusive_all (scalar_bits k) ns ms),
-    t ∙ (ap₂ flip_bits d (e ∙ ap (λ i. flat_map (low_bits (scalar_bits i)) ms) p) ∙ exclusive_items (scalar_bits k) ns ms l))
+    let l : length ns ≡ length ms = array_length k j (length ns) (length ms) (sym h.0 ∙ g.0) in (
+      (h.0 ∙ ap (Array k) (sym (exclusive_length (scalar_bits k) ns ms l)), exclusive_all (scalar_bits k) ns ms),
+      t ∙ (ap₂ flip_bits d (e ∙ ap (λ i. flat_map (low_bits (scalar_bits i)) ms) p) ∙ exclusive_items (scalar_bits k) ns ms l),
+    )
 
 pub update_gives : (op : UpdateOp) (s : Shape) (v w : Value) (xs ys zs : List Bool) → IsUpdated op s → HasShape s v → HasShape s w → xs ≡ bits_of v → ys ≡ bits_of w → UpdateBits op xs ys zs → HasBits s (update_typed op v w) zs
 update_gives updates.Add s v w xs ys zs i h g d e t = subst (λ x. HasBits s x zs) (sym (add_typed v w)) (two_gives Add s v w xs ys zs (number_scalar s i) h g d e t)
@@ -336,14 +337,16 @@ pub repeat_gives : (z : ℤ) (s : Shape) (w : Value) (xs : List Bool) → is_sca
 repeat_gives z s (whole y) xs f h e = absurd h
 repeat_gives z s gone xs f h e = absurd h
 repeat_gives z s (array k ns) xs f h e = absurd (no_array k (length ns) s h.0 f)
-repeat_gives z s (single k a) xs f h e =
-    ((ap (λ r. array_of r (nat_abs z)) h.0 ∙ (shape_of k (nat_abs z) ∙ ap (Array k) (sym (length-replicate (nat_abs z) a))), repeat_all (λ n. n < modulus k) (nat_abs z) a h.1),
-    ap (λ bs. flat_map (λ us. us) (replicate (nat_abs z) bs)) e ∙ again (nat_abs z) (scalar_bits k) a)
+repeat_gives z s (single k a) xs f h e = (
+  (ap (λ r. array_of r (nat_abs z)) h.0 ∙ (shape_of k (nat_abs z) ∙ ap (Array k) (sym (length-replicate (nat_abs z) a))), repeat_all (λ n. n < modulus k) (nat_abs z) a h.1),
+  ap (λ bs. flat_map (λ us. us) (replicate (nat_abs z) bs)) e ∙ again (nat_abs z) (scalar_bits k) a,
+)
   where
     shape_of : (j : Scalar) (n : ℕ) → array_of (single_shape j) n ≡ Array j n
     shape_of scalars.Bit n = refl
     shape_of (scalars.UInt m) n = refl
     shape_of (scalars.Int m) n = refl
+
     again : (n m b : ℕ) → flat_map (λ us. us) (replicate n (low_bits m b)) ≡ flat_map (low_bits m) (replicate n b)
     again zero m b = refl
     again (suc n) m b = ap (λ bs. low_bits m b ++ bs) (again n m b)

@@ -1,5 +1,5 @@
 -- What is known of values shows them: as they are typed, taken apart, changed and joined.
-use Rattle.std.proofs.Common.{◌≡◌, ◌⊎◌, inl, inr, ℕ, zero, suc, ◌+◌, ◌≤◌, ◌<◌, Bool, true, false, cond, not, ◌&&◌, List, [], ◌∷◌, ◌++◌, length, map, take, drop, ℤ, refl, sym, ap, ap₂, ◌∙◌, subst, arith}
+use Rattle.std.proofs.Common.{◌≡◌, ◌⊎◌, ℕ, zero, suc, ◌+◌, ◌≤◌, Bool, true, List, [], ◌∷◌, ◌++◌, length, map, ℤ, refl, sym, ap, ◌∙◌, subst, arith}
 use Rattle.std.specs.Prelude.{⊤, nat_abs, replicate, flat_map}
 use Rattle.std.proofs.lemmas.List.{map-append}
 use Rattle.silq_tree.specs.declared.node.UnaryOp.{UnaryOp}
@@ -11,20 +11,20 @@ use Rattle.silq_types.specs.declared.types.Shape.{Shape}
 use Rattle.silq_types.specs.declared.types.Shape.TheVariants.{Bit, UInt, Int, Array}
 use Rattle.silq_types.specs.Types.{single_shape, scalar_bits, shape_bits, is_scalar}
 use Rattle.check_scope.specs.declared.need.Need.{Need}
-use Rattle.silq_mean.specs.Value.{Value, whole, single, array, gone, modulus, modulo, low_bits, bits_of, truth_value, is_one, of_one, of_two_typed, of_two, repeated, update_typed, updated, equal_values, part, with_part, typed as typed_value, typed_as as value_as, typed_like as value_like}
+use Rattle.silq_mean.specs.Value.{Value, whole, single, array, gone, modulus, modulo, low_bits, bits_of, truth_value, is_one, of_one, of_two_typed, repeated, update_typed, equal_values, part, with_part, typed as typed_value, typed_as as value_as, typed_like as value_like}
 use Rattle.silq_mean.specs.Effect.{Receiver, variable, parameter, result, output, received}
 use Rattle.flat_mean.specs.Row.{Row}
 use Rattle.bit_arith.specs.declared.operand.Operand.{Operand}
-use Rattle.bit_arith.specs.declared.operand.Operand.TheVariants.{Const, Literal}
+use Rattle.bit_arith.specs.declared.operand.Operand.TheVariants.{Const}
 use Rattle.bit_arith.specs.Values.{bit_of, bits_at}
-use Rattle.bit_arith.proofs.Making.{flip_bits, length-bits}
+use Rattle.bit_arith.proofs.Making.{length-bits}
 use Rattle.flat_build.specs.State.{Shown, Known, static, shown, lent, absent, outside, operands_of, typed, typed_as, typed_like, part_shape, part_start, part_of, with_part as with_bits_of_part}
-use Rattle.flat_build.specs.Flat.{shape_by, shape_by_one, array_of, as_operand, repeated as repeated_operands, part_used, use_part, moved, assigned, shape_for}
+use Rattle.flat_build.specs.Flat.{shape_by, shape_by_one, array_of, as_operand, repeated as repeated_operands, part_used, moved, shape_for}
 use Rattle.flat_build.specs.Fine.{IsOf, FitsOne, FitsTwo, IsUpdated}
 use Rattle.flat_build.specs.Shows.{HasShape, Shows}
 use Rattle.flat_build.proofs.Numbers.{modulo_below, modulus_pos}
-use Rattle.flat_build.proofs.Pieces.{outside_map, part_map, with_map, same_before, same_after, same_apart, replaced, replaced_same, replaced_by}
-use Rattle.flat_build.proofs.Bits.{bits_length, single_not_array, single_one, IsThere, part_holds, part_bits, with_holds, with_bits_is}
+use Rattle.flat_build.proofs.Pieces.{outside_map, part_map, with_map, same_apart, replaced, replaced_same, replaced_by}
+use Rattle.flat_build.proofs.Bits.{bits_length, IsThere, part_holds, part_bits, with_holds, with_bits_is}
 use Rattle.flat_build.proofs.Operators.{OneBits, TwoBits, UpdateBits, HasBits, one_gives, two_gives, update_gives, equal_one, repeat_gives, truth_holds, truth_bits, one_bits}
 
 -- ---- values as they are
@@ -183,11 +183,12 @@ pub shows_rest : (v : Row) (n : ℕ) (need : Need) (is : List ℤ) (start size :
 shows_rest v n need is start size a w l b t d h =
     let m : length (bits_at v a.operands) ≡ length (bits_of w) = length-bits v a.operands ∙ (l ∙ sym (bits_length a.shape w h.0)) in
     let c : start ≤ length (bits_at v a.operands) = subst (λ i. start ≤ i) (sym (length-bits v a.operands)) b in
-    let e : outside start size (bits_at v a.operands) ≡ outside start size (bits_of w) = sym (outside_map (bit_of v) start size a.operands) ∙ h.1 in
-    (part_holds a.shape w is h.0,
-    part_map (bit_of v) a.shape is a.operands
-    ∙ (same_apart start size (part_start a.shape is) (shape_bits (part_shape a.shape is)) (bits_at v a.operands) (bits_of w) c m d e
-    ∙ sym (part_bits a.shape w is h.0 t)))
+    let e : outside start size (bits_at v a.operands) ≡ outside start size (bits_of w) = sym (outside_map (bit_of v) start size a.operands) ∙ h.1 in (
+      part_holds a.shape w is h.0,
+      part_map (bit_of v) a.shape is a.operands
+          ∙ (same_apart start size (part_start a.shape is) (shape_bits (part_shape a.shape is)) (bits_at v a.operands) (bits_of w) c m d e
+          ∙ sym (part_bits a.shape w is h.0 t)),
+    )
 
 -- what is known of a variable knows it also with a part lent
 pub shows_lent : (v : Row) (start size : ℕ) (a : Shown) (w : Value) → Shows v (shown a) w → Shows v (lent start size a) w
@@ -207,11 +208,12 @@ shows_back v is a w x l t g h =
     let lw : length (bits_of w) ≡ shape_bits a.shape = bits_length a.shape w h.0 in
     let within : start + size ≤ shape_bits a.shape = t.within in
     let c : start ≤ length (bits_at v a.operands) = omega (arith, ll, l, within) in
-    let e : outside start size (bits_at v a.operands) ≡ outside start size (bits_of w) = sym (outside_map (bit_of v) start size a.operands) ∙ h.1 in
-    (with_holds a.shape w is x h.0 t g.0,
-    replaced_by start size (bits_at v a.operands) (bits_of w) c (ll ∙ (l ∙ sym lw)) e
-    ∙ (ap (replaced start size (bits_of w)) (sym (part_map (bit_of v) a.shape is a.operands) ∙ g.1)
-    ∙ sym (with_bits_is a.shape w is x h.0 t g.0)))
+    let e : outside start size (bits_at v a.operands) ≡ outside start size (bits_of w) = sym (outside_map (bit_of v) start size a.operands) ∙ h.1 in (
+      with_holds a.shape w is x h.0 t g.0,
+      replaced_by start size (bits_at v a.operands) (bits_of w) c (ll ∙ (l ∙ sym lw)) e
+          ∙ (ap (replaced start size (bits_of w)) (sym (part_map (bit_of v) a.shape is a.operands) ∙ g.1)
+          ∙ sym (with_bits_is a.shape w is x h.0 t g.0)),
+    )
 
 -- a lent part comes back on other wires
 pub shows_put : (v : Row) (is : List ℤ) (start size : ℕ) (a b : Shown) (w x : Value) → length a.operands ≡ shape_bits a.shape → IsThere a.shape is → start ≡ part_start a.shape is → size ≡ shape_bits (part_shape a.shape is)
@@ -225,12 +227,13 @@ shows_put v is start size a b w x l t p q s h g =
     let f : outside (part_start a.shape is) (shape_bits (part_shape a.shape is)) (bits_at v a.operands) ≡ outside (part_start a.shape is) (shape_bits (part_shape a.shape is)) (bits_of w) =
     subst (λ i. outside i (shape_bits (part_shape a.shape is)) (bits_at v a.operands) ≡ outside i (shape_bits (part_shape a.shape is)) (bits_of w)) p
     (subst (λ i. outside start i (bits_at v a.operands) ≡ outside start i (bits_of w)) q e) in
-    let gs : HasShape (part_shape a.shape is) x = subst (λ r. HasShape r x) s g.0 in
-    (with_holds a.shape w is x h.0 t gs,
-    with_map (bit_of v) a.shape is a.operands b.operands
-    ∙ (ap (with_bits_of_part a.shape is (bits_at v a.operands)) g.1
-    ∙ (replaced_same (part_start a.shape is) (shape_bits (part_shape a.shape is)) (bits_at v a.operands) (bits_of w) (bits_of x) c (ll ∙ (l ∙ sym lw)) f
-    ∙ sym (with_bits_is a.shape w is x h.0 t gs))))
+    let gs : HasShape (part_shape a.shape is) x = subst (λ r. HasShape r x) s g.0 in (
+      with_holds a.shape w is x h.0 t gs,
+      with_map (bit_of v) a.shape is a.operands b.operands
+          ∙ (ap (with_bits_of_part a.shape is (bits_at v a.operands)) g.1
+          ∙ (replaced_same (part_start a.shape is) (shape_bits (part_shape a.shape is)) (bits_at v a.operands) (bits_of w) (bits_of x) c (ll ∙ (l ∙ sym lw)) f
+          ∙ sym (with_bits_is a.shape w is x h.0 t gs))),
+    )
 
 -- ---- operators
 
