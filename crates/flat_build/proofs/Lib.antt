@@ -15,3 +15,6 @@ pub mod Gates
 pub mod Mixing
 pub mod Turning
 pub mod Measuring
+pub mod Operators
+pub mod OperatorRows
+pub mod Showing
