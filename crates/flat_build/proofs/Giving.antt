@@ -1,7 +1,6 @@
 -- Rows that give operands: how many, and that their wires are there.
-use Rattle.std.proofs.Common.{◌≡◌, ℕ, zero, suc, ◌+◌, ◌*◌, ◌≤◌, ◌<◌, Bool, true, false, cond, not, ◌&&◌, ◌||◌, List, [], ◌∷◌, ◌++◌, map, flat_map, length, take, drop, replicate, Option, Some, None, ℤ, nat_abs, refl, sym, ap, ap₂, ◌∙◌, subst, arith, length-append, ◌⊎◌, inl, inr, ◌-◌, ◌/◌, nat_le}
+use Rattle.std.proofs.Common.{◌≡◌, ℕ, zero, suc, ◌+◌, ◌*◌, ◌≤◌, ◌<◌, Bool, true, false, cond, not, ◌&&◌, ◌||◌, List, [], ◌∷◌, ◌++◌, map, length, take, drop, replicate, ℤ, refl, sym, ap, ap₂, ◌∙◌, subst, arith, length-append, ◌-◌, ◌/◌, nat_le}
 use Rattle.std.proofs.lemmas.List.{length-map, length-take-le, length-drop, length-replicate}
-use Rattle.std.proofs.lemmas.Bool.{cases_Bool}
 use Rattle.silq_tree.specs.declared.node.UnaryOp.{UnaryOp}
 use Rattle.silq_tree.specs.declared.node.UnaryOp.TheVariants.{Not, Neg}
 use Rattle.silq_tree.specs.declared.node.BinaryOp.{BinaryOp}
@@ -10,33 +9,32 @@ use Rattle.silq_types.specs.declared.types.Scalar.{Scalar}
 use Rattle.silq_types.specs.declared.types.Scalar.TheVariants as scalars
 use Rattle.silq_types.specs.declared.types.Shape.{Shape}
 use Rattle.silq_types.specs.declared.types.Shape.TheVariants.{Bit, UInt, Int, Array}
-use Rattle.silq_types.specs.Types.{single_shape, scalar_bits, shape_bits, is_number, is_scalar}
+use Rattle.silq_types.specs.Types.{single_shape, scalar_bits, shape_bits, is_scalar}
 use Rattle.silq_mean.specs.Value.{low_bits, modulo, modulus}
 use Rattle.flat_core.specs.declared.step.WireId.{WireId}
 use Rattle.flat_core.specs.Form.{DraftForm}
-use Rattle.flat_core.specs.Label.{wire_id, same_wire}
 use Rattle.flat_core.specs.Drafts.{is_measured}
 use Rattle.flat_mean.specs.Row.{Row}
 use Rattle.bit_arith.specs.declared.operand.Operand.{Operand}
 use Rattle.bit_arith.specs.declared.operand.Operand.TheVariants.{Const, Literal}
-use Rattle.bit_arith.specs.Built.{Built, Setting, Given, next_wires, wires_from, made, all_made, negated, under}
-use Rattle.bit_arith.specs.Rows.{copy, sum, difference, product, both, either, equal, less}
+use Rattle.bit_arith.specs.Built.{Built, Setting, Given, wires_from, made, all_made, negated, under}
+use Rattle.bit_arith.specs.Rows.{copy, sum, difference, product}
 use Rattle.bit_arith.specs.Calls.{Targets, no_target, among, Safe, AllSafe}
-use Rattle.bit_arith.specs.Does.{Fresh, Does, Answers, Tells, AllNew, Below}
+use Rattle.bit_arith.specs.Values.{bits_at}
+use Rattle.bit_arith.specs.Does.{Fresh, Answers, Tells, Below}
 use Rattle.bit_arith.proofs.Steps.{and_true}
 use Rattle.bit_arith.proofs.Doing.{Guards}
-use Rattle.bit_arith.proofs.Listed.{safe_more}
-use Rattle.bit_arith.proofs.Making.{length-from, safe_new, Copies, copy_does, both_does, either_does, negated_safe, among_from}
+use Rattle.bit_arith.proofs.Making.{length-from, safe_new, Copies, copy_does, both_does, either_does, negated_safe, safe_from}
 use Rattle.bit_arith.proofs.Carrying.{sum_does, difference_does}
 use Rattle.bit_arith.proofs.Multiples.{product_does}
 use Rattle.bit_arith.proofs.Tests.{equal_does, less_does, safe_append}
 use Rattle.flat_build.specs.State.{Shown, Known, static, shown, lent, absent, operands_of, is_signed, typed, typed_as, typed_like, part_shape, part_start, part_of, with_part, are_wires, are_new, as_they_are, copied, taken, kept, wires_in, only_wire, only_operand}
 use Rattle.flat_build.specs.Flat.{negative, by_one, by_two, alone, opposite, shape_by, shape_by_one, as_operand, array_of, repeated}
-use Rattle.flat_build.specs.Names.{names, named_by, Spares}
+use Rattle.flat_build.specs.Names.{Spares}
 use Rattle.flat_build.specs.Good.{IsShown, IsKnown}
 use Rattle.flat_build.specs.Fine.{IsOf, IsPart, FitsOne, FitsTwo}
-use Rattle.flat_build.proofs.Kept.{safe_take, safe_drop, safe_spared, shown_more}
-use Rattle.flat_build.proofs.Later.{Later, later_same, later_grows, later_does}
+use Rattle.flat_build.proofs.Kept.{safe_take, safe_drop, safe_spared}
+use Rattle.flat_build.proofs.Later.{Later, later_same, later_does}
 
 -- ---- operands that are wires
 
@@ -233,3 +231,173 @@ wires_with v is ps h k =
     let rest : List Operand = drop (start + shape_bits (part_shape v.shape is)) v.operands in
     wires_append (take start v.operands) (ps ++ rest) (wires_take start v.operands h)
     (wires_append ps rest k (wires_drop (start + shape_bits (part_shape v.shape is)) v.operands h))
+
+-- ---- rows that give operands
+
+-- so many operands, whose wires are there
+pub record Gives (d : DraftForm) (n : ℕ) (row : Given (List Operand)) : Type 0 where
+  pub later : Later d row.built.draft
+  pub size : length row.answer ≡ n
+  pub there : AllSafe (length row.built.draft.wires) no_target row.answer
+
+gives_answers : {at : Setting} {d : DraftForm} {of : List Operand} {row : Given (List Operand)} {Q : Row → List Bool → Type 0} (n : ℕ) → Answers at d of row Q → AllSafe (length d.wires) no_target of → length row.answer ≡ n → Gives d n row
+gives_answers n a s e = record { later = later_does a.does; size = e; there = a.safe no_target (λ w le. refl) s }
+
+gives_tells : {at : Setting} {d : DraftForm} {of : List Operand} {row : Given Operand} {f : Row → Bool} → Tells at d of row f → AllSafe (length d.wires) no_target of → Gives d 1 (alone row)
+gives_tells a s = record { later = later_does a.does; size = refl; there = (a.safe no_target (λ w le. refl) s, tt) }
+
+gives_opposite : {at : Setting} {d : DraftForm} {of : List Operand} {row : Given Operand} {f : Row → Bool} → Tells at d of row f → AllSafe (length d.wires) no_target of → Gives d 1 (opposite row)
+gives_opposite {row = row} a s = record { later = later_does a.does; size = refl; there = (negated_safe (length row.built.draft.wires) no_target row.answer (a.safe no_target (λ w le. refl) s), tt) }
+
+pub gives_same : (ps : List Operand) (b : Built) → AllSafe (length b.draft.wires) no_target ps → Gives b.draft (length ps) (as_they_are ps b)
+gives_same ps b s = record { later = later_same b.draft; size = refl; there = s }
+
+pub gives_size : (d : DraftForm) (n m : ℕ) (row : Given (List Operand)) → n ≡ m → Gives d n row → Gives d m row
+gives_size d n m row e g = record { later = g.later; size = g.size ∙ e; there = g.there }
+
+length-made : (n w : ℕ) → length (all_made (wires_from w n)) ≡ n
+length-made n w = length-map (wires_from w n) made ∙ length-from w n
+
+length-sum : (at : Setting) (ps qs : List Operand) (b : Built) → length (sum at ps qs b).answer ≡ length ps
+unfolding sum
+length-sum at ps qs b = length-made (length ps) (length b.draft.wires)
+
+length-difference : (at : Setting) (ps qs : List Operand) (b : Built) → length (difference at ps qs b).answer ≡ length ps
+unfolding difference
+length-difference at ps qs b = length-made (length ps) (length b.draft.wires)
+
+length-product : (at : Setting) (ps qs : List Operand) (b : Built) → length (product at ps qs b).answer ≡ length ps
+unfolding product
+length-product at ps qs b = length-made (length ps) (length b.draft.wires)
+
+pub copy_answer : (at : Setting) (ps : List Operand) (b : Built) → (copy at ps b).answer ≡ wires_from (length b.draft.wires) (length ps)
+unfolding copy
+copy_answer at ps b = refl
+
+length-copy : (at : Setting) (ps : List Operand) (b : Built) → length (copy at ps b).answer ≡ length ps
+unfolding copy
+length-copy at ps b = length-from (length b.draft.wires) (length ps)
+
+pub gives_copied : (at : Setting) (ps : List Operand) (b : Built) → Fresh b.draft → Guards at (length b.draft.wires) no_target → AllSafe (length b.draft.wires) no_target ps → Gives b.draft (length ps) (copied at ps b)
+gives_copied at ps b f g s =
+    let c : Copies at b.draft (copy at ps b) (λ v. bits_at v ps) = copy_does at ps b f g s in
+    record {
+      later = later_does c.does;
+      size = length-map (copy at ps b).answer made ∙ length-copy at ps b;
+      there = safe_new b.draft (copy at ps b).built.draft (copy at ps b).answer no_target c.new (λ w le. refl);
+    }
+
+-- ---- operators
+
+safe_zeros : (n : ℕ) (T : Targets) (k : ℕ) → AllSafe n T (replicate k (Const false))
+safe_zeros n T zero = tt
+safe_zeros n T (suc k) = (tt, safe_zeros n T k)
+
+safe_negated : (n : ℕ) (T : Targets) (ps : List Operand) → AllSafe n T ps → AllSafe n T (map negated ps)
+safe_negated n T [] s = tt
+safe_negated n T (p ∷ ps) s = (negated_safe n T p s.0, safe_negated n T ps s.1)
+
+gives_negative : (at : Setting) (ps : List Operand) (b : Built) → Fresh b.draft → Guards at (length b.draft.wires) no_target → AllSafe (length b.draft.wires) no_target ps → Gives b.draft (length ps) (negative at ps b)
+gives_negative at ps b f g s =
+    let zs : List Operand = replicate (length ps) (Const false) in
+    let e : length zs ≡ length ps = length-replicate (length ps) (Const false) in
+    gives_answers (length ps) (difference_does at zs ps b f e g (safe_zeros (length b.draft.wires) no_target (length ps)) s) tt (length-difference at zs ps b ∙ e)
+
+pub gives_one : (op : UnaryOp) (at : Setting) (v : Shown) (b : Built) → Fresh b.draft → Guards at (length b.draft.wires) no_target → IsShown (length b.draft.wires) v → FitsOne op v.shape → Gives b.draft (shape_bits (shape_by_one op v.shape)) (by_one op at v.operands b)
+gives_one Not at v b f g k fits =
+    gives_size b.draft (length (map negated v.operands)) 1 (as_they_are (map negated v.operands) b) (length-map v.operands negated ∙ (k.size ∙ ap shape_bits fits))
+    (gives_same (map negated v.operands) b (safe_negated (length b.draft.wires) no_target v.operands k.there))
+gives_one Neg at v b f g k fits =
+    gives_size b.draft (length v.operands) (shape_bits v.shape) (negative at v.operands b) k.size (gives_negative at v.operands b f g k.there)
+
+pub gives_two : (op : BinaryOp) (s : Shape) (at : Setting) (ps qs : List Operand) (b : Built) → Fresh b.draft → Guards at (length b.draft.wires) no_target → AllSafe (length b.draft.wires) no_target ps → AllSafe (length b.draft.wires) no_target qs → length ps ≡ shape_bits s → length qs ≡ shape_bits s → FitsTwo op s → Gives b.draft (shape_bits (shape_by op s)) (by_two op s at ps qs b)
+gives_two Or s at ps qs b f g sp sq ep eq fits =
+    gives_tells (either_does at (only_operand ps) (only_operand qs) b f g (only_safe (length b.draft.wires) no_target ps sp, (only_safe (length b.draft.wires) no_target qs sq, tt))) tt
+gives_two And s at ps qs b f g sp sq ep eq fits =
+    gives_tells (both_does at (only_operand ps) (only_operand qs) b f g (only_safe (length b.draft.wires) no_target ps sp, (only_safe (length b.draft.wires) no_target qs sq, tt))) tt
+gives_two Eq s at ps qs b f g sp sq ep eq fits = gives_tells (equal_does at ps qs b f (ep ∙ sym eq) g sp sq) (safe_append (length b.draft.wires) no_target ps qs sp sq)
+gives_two Ne s at ps qs b f g sp sq ep eq fits = gives_opposite (equal_does at ps qs b f (ep ∙ sym eq) g sp sq) (safe_append (length b.draft.wires) no_target ps qs sp sq)
+gives_two Lt s at ps qs b f g sp sq ep eq fits = gives_tells (less_does at (is_signed s) ps qs b f (ep ∙ sym eq) g sp sq) tt
+gives_two Gt s at ps qs b f g sp sq ep eq fits = gives_tells (less_does at (is_signed s) qs ps b f (eq ∙ sym ep) g sq sp) tt
+gives_two Le s at ps qs b f g sp sq ep eq fits = gives_opposite (less_does at (is_signed s) qs ps b f (eq ∙ sym ep) g sq sp) tt
+gives_two Ge s at ps qs b f g sp sq ep eq fits = gives_opposite (less_does at (is_signed s) ps qs b f (ep ∙ sym eq) g sp sq) tt
+gives_two Add s at ps qs b f g sp sq ep eq fits = gives_answers (shape_bits s) (sum_does at ps qs b f (ep ∙ sym eq) g sp sq) tt (length-sum at ps qs b ∙ ep)
+gives_two Sub s at ps qs b f g sp sq ep eq fits = gives_answers (shape_bits s) (difference_does at ps qs b f (ep ∙ sym eq) g sp sq) tt (length-difference at ps qs b ∙ ep)
+gives_two Mul s at ps qs b f g sp sq ep eq fits = gives_answers (shape_bits s) (product_does at ps qs b f (ep ∙ sym eq) g sp sq) tt (length-product at ps qs b ∙ ep)
+gives_two Div s at ps qs b f g sp sq ep eq fits = absurd fits
+
+-- ---- repeated values
+
+pub length-repeated : (n : ℕ) (ps : List Operand) → length (repeated n ps) ≡ length ps * n
+length-repeated zero ps = omega arith
+length-repeated (suc n) ps =
+    let a : length (ps ++ repeated n ps) ≡ length ps + length (repeated n ps) = length-append ps (repeated n ps) in
+    let b : length (repeated n ps) ≡ length ps * n = length-repeated n ps in
+    omega (arith, a, b)
+
+pub safe_repeated : (n : ℕ) (T : Targets) (k : ℕ) (ps : List Operand) → AllSafe n T ps → AllSafe n T (repeated k ps)
+safe_repeated n T zero ps s = tt
+safe_repeated n T (suc k) ps s = safe_append n T ps (repeated k ps) s (safe_repeated n T k ps s)
+
+pub array_bits : (t : Shape) (n : ℕ) → is_scalar t ≡ true → shape_bits t * n ≡ shape_bits (array_of t n)
+array_bits Bit n h = refl
+array_bits (UInt w) n h = refl
+array_bits (Int w) n h = refl
+array_bits (Array k m) n h = false_true h
+
+-- ---- what takes a value over
+
+-- so many wires, and the condition in force is on none of them
+pub record Takes (at : Setting) (d : DraftForm) (n : ℕ) (row : Given (List Operand)) : Type 0 where
+  pub gives : Gives d n row
+  pub wires : are_wires row.answer ≡ true
+  pub guards : AllSafe (length row.built.draft.wires) (among (wires_in row.answer)) (under at [])
+
+takes_copied : (at : Setting) (ps : List Operand) (b : Built) → Fresh b.draft → Guards at (length b.draft.wires) no_target → AllSafe (length b.draft.wires) no_target ps → Takes at b.draft (length ps) (copied at ps b)
+takes_copied at ps b f g s =
+    let r : Gives b.draft (length ps) (copied at ps b) = gives_copied at ps b f g s in
+    record {
+      gives = r;
+      wires = wires_made (copy at ps b).answer;
+      guards = subst (λ ws. AllSafe (length (copy at ps b).built.draft.wires) (among ws) (under at [])) (sym (in_made (copy at ps b).answer))
+          (subst (λ ws. AllSafe (length (copy at ps b).built.draft.wires) (among ws) (under at [])) (sym (copy_answer at ps b))
+          (safe_from (length b.draft.wires) (length b.draft.wires) (length (copy at ps b).built.draft.wires) (length ps) (under at []) (omega arith) r.later.longer g));
+    }
+
+-- the wires for a new owner: where a value keeps its own, none of them is the condition's
+pub takes_taken : (at : Setting) (v : Shown) (b : Built) → Fresh b.draft → Guards at (length b.draft.wires) no_target → IsShown (length b.draft.wires) v → (v.own || are_new b.draft v.began v.operands ≡ true → AllSafe (length b.draft.wires) (among (wires_in v.operands)) (under at [])) → Takes at b.draft (length v.operands) (taken at v b)
+takes_taken at v b f g k may = pick (v.own || are_new b.draft v.began v.operands) refl
+  where
+    owned : (x : Bool) → v.own ≡ x → x || are_new b.draft v.began v.operands ≡ true → are_wires v.operands ≡ true
+    owned true e h = k.wires e
+    owned false e h = wires_new b.draft v.began v.operands h
+
+    pick : (x : Bool) → (v.own || are_new b.draft v.began v.operands) ≡ x → Takes at b.draft (length v.operands) (cond x (as_they_are v.operands b) (copied at v.operands b))
+    pick true e = record { gives = gives_same v.operands b k.there; wires = owned v.own refl e; guards = may e }
+    pick false e = takes_copied at v.operands b f g k.there
+
+-- wires that are given
+pub record GivesWires (d : DraftForm) (n : ℕ) (row : Given (List Operand)) : Type 0 where
+  pub gives : Gives d n row
+  pub wires : are_wires row.answer ≡ true
+
+pub wires_copied : (at : Setting) (ps : List Operand) (b : Built) → Fresh b.draft → Guards at (length b.draft.wires) no_target → AllSafe (length b.draft.wires) no_target ps → GivesWires b.draft (length ps) (copied at ps b)
+wires_copied at ps b f g s = record { gives = gives_copied at ps b f g s; wires = wires_made (copy at ps b).answer }
+
+pub wires_taken : (at : Setting) (v : Shown) (b : Built) → Fresh b.draft → Guards at (length b.draft.wires) no_target → IsShown (length b.draft.wires) v → GivesWires b.draft (length v.operands) (taken at v b)
+wires_taken at v b f g k = pick (v.own || are_new b.draft v.began v.operands) refl
+  where
+    owned : (x : Bool) → v.own ≡ x → x || are_new b.draft v.began v.operands ≡ true → are_wires v.operands ≡ true
+    owned true e h = k.wires e
+    owned false e h = wires_new b.draft v.began v.operands h
+
+    pick : (x : Bool) → (v.own || are_new b.draft v.began v.operands) ≡ x → GivesWires b.draft (length v.operands) (cond x (as_they_are v.operands b) (copied at v.operands b))
+    pick true e = record { gives = gives_same v.operands b k.there; wires = owned v.own refl e }
+    pick false e = wires_copied at v.operands b f g k.there
+
+pub wires_kept : (at : Setting) (v : Shown) (b : Built) → Fresh b.draft → Guards at (length b.draft.wires) no_target → IsShown (length b.draft.wires) v → GivesWires b.draft (length v.operands) (kept at v b)
+wires_kept at v b f g k = pick (are_wires v.operands) refl
+  where
+    pick : (x : Bool) → are_wires v.operands ≡ x → GivesWires b.draft (length v.operands) (cond x (as_they_are v.operands b) (copied at v.operands b))
+    pick true e = record { gives = gives_same v.operands b k.there; wires = e }
+    pick false e = wires_copied at v.operands b f g k.there

@@ -1,6 +1,5 @@
 -- What is known stays known, and stays shown where the values of its wires stay.
-use Rattle.std.proofs.Common.{◌≡◌, ℕ, zero, suc, ◌+◌, ◌≤◌, ◌<◌, Bool, true, false, cond, not, ◌||◌, List, [], ◌∷◌, ◌++◌, length, take, drop, reverse, refl, sym, ap, ap₂, ◌∙◌, subst, arith, eqb, ◌⊎◌, inl, inr}
-use mathlib.Core.List.{reverse_aux}
+use Rattle.std.proofs.Common.{◌≡◌, ℕ, zero, suc, ◌+◌, ◌≤◌, ◌<◌, Bool, true, false, cond, ◌||◌, List, [], ◌∷◌, ◌++◌, length, take, drop, reverse, refl, sym, ap, ap₂, ◌∙◌, subst, arith, inl, inr}
 use Rattle.std.specs.Bool.{beq}
 use Rattle.std.specs.List.{list_any}
 use Rattle.std.proofs.lemmas.Bool.{eqb-true, eq-eqb, cases_Bool}
@@ -9,14 +8,14 @@ use Rattle.silq_types.specs.Types.{same_name}
 use Rattle.silq_mean.specs.Effect.{assign_in_turn, enter_block, leave_block}
 use Rattle.silq_mean.specs.Value.{Value, whole, single, array, gone}
 use Rattle.silq_mean.specs.Env.{Block, Env, is_in_block, in_block, found, is_in_reach, block_with, in_its_block, in_first_block, bound}
-use Rattle.silq_mean.specs.Term.{Term, Caller as SourceCaller}
+use Rattle.silq_mean.specs.Term.{Term}
 use Rattle.flat_core.specs.declared.step.WireId.{WireId}
 use Rattle.flat_core.specs.Label.{same_wire}
 use Rattle.flat_mean.specs.Row.{Row}
 use Rattle.flat_mean.specs.Terms.{Term as WireTerm}
 use Rattle.bit_arith.specs.declared.operand.Operand.{Operand}
 use Rattle.bit_arith.specs.declared.operand.Operand.TheVariants.{Const, Literal}
-use Rattle.bit_arith.specs.Calls.{Targets, no_target, among, Safe, AllSafe}
+use Rattle.bit_arith.specs.Calls.{Targets, no_target, AllSafe}
 use Rattle.bit_arith.specs.Values.{bit_of, bits_at}
 use Rattle.bit_arith.proofs.Steps.{or_false, clash, Agree}
 use Rattle.bit_arith.proofs.Listed.{safe_more}
@@ -24,7 +23,9 @@ use Rattle.flat_build.specs.State.{Shown, Known, static, shown, lent, absent, Ca
 use Rattle.flat_build.specs.Flat.{bind, known_in, bind_all, paired, enter, back_to, flat_step}
 use Rattle.flat_build.specs.Names.{AllOf, AllEnv, CallerOf, AllKnown, operands_in, named_by, names, Spares}
 use Rattle.flat_build.specs.Good.{IsShown, IsKnown}
-use Rattle.flat_build.specs.Shows.{Shows, ListBoth, Entry, EnvBoth, CallerShows, Related}
+use Rattle.flat_build.specs.Shows.{Shows, ListBoth, EnvBoth, CallerShows, Related}
+use Rattle.flat_build.proofs.Both.{both_map, env_map, both_drop, all_take, all_drop, all_append, all_reverse, all_weak, its_left, bound_both}
+use Rattle.flat_build.proofs.Pieces.{outside_map}
 
 -- ---- operands that are taken from others
 
@@ -68,11 +69,16 @@ named_below n T w (Literal l ∷ ps) s e = pick (same_wire l.wire w) refl (named
 pub safe_spared : (n : ℕ) (T : Targets) (ps : List Operand) → AllSafe n no_target ps → ((w : WireId) → T w ≡ true → list_any (named_by w) ps ≡ false) → AllSafe n T ps
 safe_spared n T [] s o = tt
 safe_spared n T (Const b ∷ ps) s o = (tt, safe_spared n T ps s.1 o)
-safe_spared n T (Literal l ∷ ps) s o =
-    ((s.0.0, elim (cases_Bool (T l.wire)) [
+safe_spared n T (Literal l ∷ ps) s o = (
+  (
+    s.0.0,
+    elim (cases_Bool (T l.wire)) [
       | inl e ↦ absurd (clash (sym (o l.wire e) ∙ or_left (same_wire l.wire l.wire) (list_any (named_by l.wire) ps) (eq-eqb l.wire.number l.wire.number refl)))
       | inr e ↦ e
-    ]), safe_spared n T ps s.1 (λ w e. (or_false (same_wire l.wire w) (list_any (named_by w) ps) (o w e)).1))
+    ],
+  ),
+  safe_spared n T ps s.1 (λ w e. (or_false (same_wire l.wire w) (list_any (named_by w) ps) (o w e)).1),
+)
 
 -- ---- what is known, with more wires
 
@@ -108,37 +114,12 @@ spares_none k = λ w t. absurd (clash t)
 
 -- ---- what holds of each item
 
-pub all_map : {A : Type 0} (Q R : A → Type 0) → ((a : A) → Q a → R a) → (xs : List A) → AllOf Q xs → AllOf R xs
-all_map Q R f [] h = tt
-all_map Q R f (a ∷ rest) h = (f a h.0, all_map Q R f rest h.1)
-
 pub all_zip : {A : Type 0} (Q R S : A → Type 0) → ((a : A) → Q a → R a → S a) → (xs : List A) → AllOf Q xs → AllOf R xs → AllOf S xs
 all_zip Q R S f [] h k = tt
 all_zip Q R S f (a ∷ rest) h k = (f a h.0 k.0, all_zip Q R S f rest h.1 k.1)
 
 pub all_and : {A : Type 0} (Q R : A → Type 0) (xs : List A) → AllOf Q xs → AllOf R xs → AllOf (λ a. Q a × R a) xs
 all_and Q R xs h k = all_zip Q R (λ a. Q a × R a) (λ a x y. (x, y)) xs h k
-
-pub all_take : {A : Type 0} (Q : A → Type 0) (n : ℕ) (xs : List A) → AllOf Q xs → AllOf Q (take n xs)
-all_take Q zero xs h = tt
-all_take Q (suc n) [] h = tt
-all_take Q (suc n) (a ∷ rest) h = (h.0, all_take Q n rest h.1)
-
-pub all_drop : {A : Type 0} (Q : A → Type 0) (n : ℕ) (xs : List A) → AllOf Q xs → AllOf Q (drop n xs)
-all_drop Q zero xs h = h
-all_drop Q (suc n) [] h = tt
-all_drop Q (suc n) (a ∷ rest) h = all_drop Q n rest h.1
-
-pub all_append : {A : Type 0} (Q : A → Type 0) (xs ys : List A) → AllOf Q xs → AllOf Q ys → AllOf Q (xs ++ ys)
-all_append Q [] ys h k = k
-all_append Q (a ∷ rest) ys h k = (h.0, all_append Q rest ys h.1 k)
-
-all_aux : {A : Type 0} (Q : A → Type 0) (xs ys : List A) → AllOf Q xs → AllOf Q ys → AllOf Q (reverse_aux xs ys)
-all_aux Q [] ys h k = k
-all_aux Q (a ∷ rest) ys h k = all_aux Q rest (a ∷ ys) h.1 (h.0, k)
-
-pub all_reverse : {A : Type 0} (Q : A → Type 0) (xs : List A) → AllOf Q xs → AllOf Q (reverse xs)
-all_reverse Q xs h = all_aux Q xs [] h tt
 
 pub all_first : (Q : Known → Type 0) → Q absent → (ks : List Known) → AllOf Q ks → Q (first ks)
 all_first Q q [] h = q
@@ -205,13 +186,13 @@ paired_all Q (x ∷ xs) (k ∷ ks) q = (q.0, paired_all Q xs ks q.1)
 -- ---- all that a state knows
 
 env_map_all : (Q R : Known → Type 0) → ((k : Known) → Q k → R k) → (env : Env Known) → AllEnv Q env → AllEnv R env
-env_map_all Q R f env h = all_map (AllBlock Q) (AllBlock R) (λ b. all_map (λ p. Q p.1) (λ p. R p.1) (λ p. f p.1) b) env h
+env_map_all Q R f env h = all_weak (AllBlock Q) (AllBlock R) (λ b. all_weak (λ p. Q p.1) (λ p. R p.1) (λ p. f p.1) b) env h
 
 pub known_map : (Q R : Known → Type 0) → ((k : Known) → Q k → R k) → (s : Flattening) → AllKnown Q s → AllKnown R s
 known_map Q R f s h = record {
   env = env_map_all Q R f s.env h.env;
-  values = all_map Q R f s.values h.values;
-  callers = all_map (CallerOf Q) (CallerOf R) (λ c g. (env_map_all Q R f c.env g.0, all_map Q R f c.values g.1)) s.callers h.callers;
+  values = all_weak Q R f s.values h.values;
+  callers = all_weak (CallerOf Q) (CallerOf R) (λ c g. (env_map_all Q R f c.env g.0, all_weak Q R f c.values g.1)) s.callers h.callers;
 }
 
 -- the same with other steps, setting or count
@@ -292,16 +273,6 @@ shows_after n T v u a k w q h = shows_kept u v k w (λ x e. sym (a x (named_belo
     off x e true t = absurd (clash (sym (q.1 x t) ∙ e))
     off x e false t = refl
 
-both_kept : {A B : Type 0} (S R : A → B → Type 0) (Q : A → Type 0) → ((a : A) (b : B) → Q a → S a b → R a b) → (xs : List A) (ys : List B) → AllOf Q xs → ListBoth S xs ys → ListBoth R xs ys
-both_kept S R Q f [] [] q h = tt
-both_kept S R Q f [] (b ∷ bs) q h = absurd h
-both_kept S R Q f (a ∷ rest) [] q h = absurd h
-both_kept S R Q f (a ∷ rest) (b ∷ bs) q h = (f a b q.0 h.0, both_kept S R Q f rest bs q.1 h.1)
-
-env_kept : {A B : Type 0} (S R : A → B → Type 0) (Q : A → Type 0) → ((a : A) (b : B) → Q a → S a b → R a b) → (xs : Env A) (ys : Env B) → AllEnv Q xs → EnvBoth S xs ys → EnvBoth R xs ys
-env_kept S R Q f xs ys q h =
-    both_kept (ListBoth (Entry S)) (ListBoth (Entry R)) (AllBlock Q) (λ b c r k. both_kept (Entry S) (Entry R) (λ p. Q p.1) (λ p w s e. (e.0, f p.1 w.1 s e.1)) b c r k) xs ys q h
-
 -- all that a state knows shows a term's values: `Related` without its steps and factor
 pub record AllShow (v : Row) (s : Flattening) (t : Term) : Type 0 where
   pub env : EnvBoth (Shows v) s.env t.env
@@ -330,12 +301,12 @@ pub all_show_after : (n : ℕ) (T : Targets) (v u : Row) (s : Flattening) (t : T
 all_show_after n T v u s t a q r h =
     let both : AllKnown (λ k. IsKnown n k × Spares T k) s = known_and (IsKnown n) (Spares T) s q r in
     record {
-      env = env_kept (Shows u) (Shows v) (λ k. IsKnown n k × Spares T k) (shows_after n T v u a) s.env t.env both.env h.env;
-      values = both_kept (Shows u) (Shows v) (λ k. IsKnown n k × Spares T k) (shows_after n T v u a) s.values t.values both.values h.values;
-      callers = both_kept (CallerShows u) (CallerShows v) (CallerOf (λ k. IsKnown n k × Spares T k))
+      env = env_map (Shows u) (Shows v) (λ k. IsKnown n k × Spares T k) (shows_after n T v u a) s.env t.env both.env h.env;
+      values = both_map (Shows u) (Shows v) (λ k. IsKnown n k × Spares T k) (shows_after n T v u a) s.values t.values both.values h.values;
+      callers = both_map (CallerShows u) (CallerShows v) (CallerOf (λ k. IsKnown n k × Spares T k))
           (λ c d g k. record {
-            env = env_kept (Shows u) (Shows v) (λ j. IsKnown n j × Spares T j) (shows_after n T v u a) c.env d.env g.0 k.env;
-            values = both_kept (Shows u) (Shows v) (λ j. IsKnown n j × Spares T j) (shows_after n T v u a) c.values d.values g.1 k.values;
+            env = env_map (Shows u) (Shows v) (λ j. IsKnown n j × Spares T j) (shows_after n T v u a) c.env d.env g.0 k.env;
+            values = both_map (Shows u) (Shows v) (λ j. IsKnown n j × Spares T j) (shows_after n T v u a) c.values d.values g.1 k.values;
           }) s.callers t.callers both.callers h.callers;
     }
 
@@ -345,13 +316,23 @@ all_show_new n v u s t a q h = all_show_after n no_target v u s t a q (known_map
 
 -- all but the last value
 pub all_show_drop : (v : Row) (s : Flattening) (t : Term) → AllShow v s t → AllShow v (drop_last s) (record t { values = drop 1 t.values })
-all_show_drop v s t h = record { env = h.env; values = both_tail s.values t.values h.values; callers = h.callers }
-  where
-    both_tail : (ks : List Known) (ws : List Value) → ListBoth (Shows v) ks ws → ListBoth (Shows v) (drop 1 ks) (drop 1 ws)
-    both_tail [] [] k = tt
-    both_tail [] (w ∷ ws) k = absurd k
-    both_tail (x ∷ ks) [] k = absurd k
-    both_tail (x ∷ ks) (w ∷ ws) k = k.1
+all_show_drop v s t h = record { env = h.env; values = both_drop (Shows v) s.values t.values h.values; callers = h.callers }
 
 pub all_known_more : (n m : ℕ) (s : Flattening) → n ≤ m → AllKnown (IsKnown n) s → AllKnown (IsKnown m) s
 all_known_more n m s le h = known_map (IsKnown n) (IsKnown m) (λ k. known_more n m k le) s h
+
+-- ---- changes of names and values
+
+-- a variable whose part is under way shows what is outside it
+pub shows_lent : (v : Row) (start size : ℕ) (k : Shown) (w : Value) → Shows v (shown k) w → Shows v (lent start size k) w
+shows_lent v start size k w h = (h.0, outside_map (bit_of v) start size k.operands ∙ ap (outside start size) h.1)
+
+pub all_show_push : (v : Row) (k : Known) (w : Value) (s : Flattening) (t : Term) → Shows v k w → AllShow v s t → AllShow v (push k s) (record t { values = w ∷ t.values })
+all_show_push v k w s t g h = record { env = h.env; values = (g, h.values); callers = h.callers }
+
+pub all_show_bind : (v : Row) (x : NameId) (k : Known) (w : Value) (s : Flattening) (t : Term) → Shows v k w → AllShow v s t → AllShow v (bind x k s) (record t { env = bound t.env x w })
+all_show_bind v x k w s t g h = record { env = bound_both (Shows v) k w g s.env t.env x h.env; values = h.values; callers = h.callers }
+
+-- where it stands, what is known of a variable changes alone
+pub all_show_its : (v : Row) (x : NameId) (k : Known) (s : Flattening) (t : Term) → Shows v k (found gone t.env x) → AllShow v s t → AllShow v (record s { env = in_its_block s.env x k }) t
+all_show_its v x k s t g h = record { env = its_left (Shows v) k gone s.env t.env x g h.env; values = h.values; callers = h.callers }
