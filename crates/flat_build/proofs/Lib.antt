@@ -18,8 +18,5 @@ pub mod Measuring
 pub mod Operators
 pub mod OperatorRows
 pub mod Showing
-pub mod Kept
-pub mod Later
-pub mod Giving
 pub mod Goods
 pub mod Begins
