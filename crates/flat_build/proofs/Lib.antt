@@ -23,3 +23,4 @@ pub mod Begins
 pub mod Naming
 pub mod Valuing
 pub mod Updating
+pub mod Steps
