@@ -31,7 +31,7 @@ use Rattle.flat_build.specs.Fine.{SameEnd}
 use Rattle.flat_build.specs.Shows.{Shows, ListBoth, EnvBoth, CallerShows, Related}
 use Rattle.flat_build.proofs.Both.{both_weak}
 use Rattle.flat_build.proofs.Kept.{known_drop, AllShow, related_shows, all_show_new, all_show_drop}
-use Rattle.flat_build.proofs.Compose.{steps-each, both-each, Kept, steps_keep, LeavesOperand, Leaves, leaves-append, condition_kept, measures-append, no_measures, Leads, related_to}
+use Rattle.flat_build.proofs.Compose.{grows_inputs, steps-each, both-each, Kept, steps_keep, LeavesOperand, Leaves, leaves-append, condition_kept, measures-append, no_measures, Leads, related_to}
 
 -- ---- rows on one term
 
@@ -300,6 +300,7 @@ module _ (o : Outcome) (s one two : Flattening) (c : Operand) (src next : Term �
     grown = grown;
     wires = let a : middle ≤ length second.built.draft.wires = does_grown r2.does in omega (arith, up, a, n.wires);
     setting = ap with_outer n.setting;
+    inputs = λ w. n.inputs w ∙ (grows_inputs r2.does.grows w ∙ (m.inputs w ∙ grows_inputs r1.does.grows w));
     blanks = λ w h. (blank_before r1.does.grows w (m.blanks w (blank_before r2.does.grows w (n.blanks w h)).0)).0;
     leaves = leaves-append at.condition r1.does.new (m.new ++ (r2.does.new ++ n.new)) (guard_leaves at r1.does.grows gs.condition)
         (leaves-append at.condition m.new (r2.does.new ++ n.new) outer (leaves-append at.condition r2.does.new n.new (guard_leaves at r2.does.grows guards) later));

@@ -1,14 +1,17 @@
 -- Steps that lead from one state to another as the source does, and such steps one after another.
-use Rattle.std.proofs.Common.{◌≡◌, ℕ, ◌+◌, ◌≤◌, Bool, true, false, cond, ◌&&◌, List, [], ◌∷◌, ◌++◌, flat_map, length, Option, Some, None, refl, sym, ap, ap₂, ◌∙◌, subst, arith, append_assoc, append-nil}
+use Rattle.std.proofs.Common.{◌≡◌, ℕ, zero, suc, ◌+◌, ◌≤◌, get_or, inl, inr, Bool, true, false, cond, ◌&&◌, List, [], ◌∷◌, ◌++◌, flat_map, length, Option, Some, None, refl, sym, ap, ap₂, ◌∙◌, subst, arith, append_assoc, append-nil}
 use Rattle.std.specs.Prelude.{⊤}
 use Rattle.std.specs.Bool.{beq}
+use Rattle.std.proofs.lemmas.Bool.{cases_lt}
+use Rattle.std.proofs.lemmas.List.{get_or_past, get_or_append_left}
 use Rattle.std.proofs.lemmas.List.Sums.{sum_by-append}
 use Rattle.silq_mean.specs.Term.{Term}
 use Rattle.silq_mean.specs.Effect.{Effect, Outcome, nothing, ◌>>◌, statement, follow}
 use Rattle.flat_core.specs.declared.step.Step.{Step}
 use Rattle.flat_core.specs.declared.step.Step.TheVariants as steps
 use Rattle.flat_core.specs.declared.step.WireId.{WireId}
-use Rattle.flat_core.specs.Label.{changes, label_after}
+use Rattle.flat_core.specs.Form.{DraftForm, WireForm}
+use Rattle.flat_core.specs.Label.{changes, label_after, wire_in, no_wire}
 use Rattle.flat_core.specs.Sound.{is_x, is_m, count_measures}
 use Rattle.flat_mean.specs.Row.{Row, next, is_h, is_possible, agrees, new_value, halvings, eighths}
 use Rattle.flat_mean.specs.Terms.{Term as WireTerm, branch, do_step, each, do_steps}
@@ -16,7 +19,8 @@ use Rattle.bit_arith.specs.declared.operand.Operand.{Operand}
 use Rattle.bit_arith.specs.declared.operand.Operand.TheVariants.{Const, Literal}
 use Rattle.bit_arith.specs.Built.{Setting, blank, under_condition}
 use Rattle.bit_arith.specs.Values.{Clean, all_hold, forced}
-use Rattle.bit_arith.specs.Does.{AllX}
+use Rattle.bit_arith.specs.Calls.{Targets}
+use Rattle.bit_arith.specs.Does.{AllX, dropped_wires, Grows}
 use Rattle.bit_arith.proofs.Steps.{label-first, label-rest, label-none}
 use Rattle.bit_arith.proofs.Phases.{do_steps-append}
 use Rattle.flat_build.specs.State.{Flattening}
@@ -135,6 +139,29 @@ no_measures (s ∷ ss) x = measures-append (s ∷ []) ss ∙ ap₂ (λ (a b : �
     one (steps.P k l) e = refl
     one (steps.M w n) e = clash e
 
+-- ---- inputs
+
+dropped_input : (n k : ℕ) → (get_or (dropped_wires n) k no_wire).input ≡ false
+dropped_input zero k = refl
+dropped_input (suc n) zero = refl
+dropped_input (suc n) (suc k) = dropped_input n k
+
+past_input : (ws : List WireForm) (n k : ℕ) → length ws ≤ k → (get_or (ws ++ dropped_wires n) k no_wire).input ≡ false
+past_input [] n k le = dropped_input n k
+past_input (w ∷ ws) n zero le = absurd (omega (arith, le))
+past_input (w ∷ ws) n (suc k) le = past_input ws n k (omega (arith, le))
+
+-- a wire that is not made is no input
+pub no_input : (d : DraftForm) (w : WireId) → length d.wires ≤ w.number → (wire_in d.wires w).input ≡ false
+no_input d w le = ap (λ (r : WireForm). r.input) (get_or_past d.wires w.number no_wire le)
+
+pub grows_inputs : {d e : DraftForm} {T : Targets} {new : List Step} → Grows d e T new → (w : WireId) → (wire_in e.wires w).input ≡ (wire_in d.wires w).input
+grows_inputs {d = d} {e = e} g w =
+    elim (cases_lt w.number (length d.wires)) [
+      | inl lt ↦ ap (λ ws. (wire_in ws w).input) g.wires ∙ ap (λ (r : WireForm). r.input) (get_or_append_left d.wires (dropped_wires g.more) no_wire w.number lt)
+      | inr le ↦ ap (λ ws. (wire_in ws w).input) g.wires ∙ (past_input d.wires g.more w.number le ∙ sym (no_input d w le))
+    ]
+
 -- ---- from state to state
 
 -- the steps from one state to another do on a term what the source does where the condition in force holds, and nothing where it does not
@@ -143,6 +170,8 @@ pub record Leads (o : Outcome) (s e : Flattening) (src : Term → List Term) : T
   pub grown : e.built.draft.steps ≡ s.built.draft.steps ++ new
   pub wires : length s.built.draft.wires ≤ length e.built.draft.wires
   pub setting : e.setting ≡ s.setting
+  -- no wire becomes an input, none stops being one, and no new wire is one
+  pub inputs : (w : WireId) → (wire_in e.built.draft.wires w).input ≡ (wire_in s.built.draft.wires w).input
   pub blanks : (w : WireId) → blank e.built.draft w ≡ true → blank s.built.draft w ≡ true
   pub leaves : Leaves s.setting.condition new
   -- a condition that may fail is one under which nothing is measured
@@ -172,6 +201,7 @@ leads_named o s e f b at h = record {
   grown = ap (λ x. x.steps) b ∙ sym (append-nil s.built.draft.steps);
   wires = subst (λ x. length s.built.draft.wires ≤ length x.wires) (sym b) (omega arith);
   setting = at;
+  inputs = λ w. ap (λ x. (wire_in x.wires w).input) b;
   blanks = λ w z. subst (λ x. blank x w ≡ true) b z;
   leaves = leaves_none s.setting.condition;
   told = λ v c off. refl;
@@ -188,6 +218,7 @@ leads_then o s e f src next m n = record {
   grown = n.grown ∙ (ap (λ z. z ++ n.new) m.grown ∙ append_assoc s.built.draft.steps m.new n.new);
   wires = omega (arith, m.wires, n.wires);
   setting = n.setting ∙ m.setting;
+  inputs = λ w. n.inputs w ∙ m.inputs w;
   blanks = λ w z. m.blanks w (n.blanks w z);
   leaves = leaves-append s.setting.condition m.new n.new m.leaves (subst (λ x. Leaves x.condition n.new) m.setting n.leaves);
   told = λ v c off.
@@ -215,6 +246,7 @@ leads_statement o line e s m =
   grown = m.grown;
   wires = m.wires;
   setting = ap with_line m.setting;
+  inputs = m.inputs;
   blanks = m.blanks;
   leaves = m.leaves;
   told = m.told;

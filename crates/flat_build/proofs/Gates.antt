@@ -55,6 +55,7 @@ leads_same o s e src next h m = record {
   grown = m.grown;
   wires = m.wires;
   setting = m.setting;
+  inputs = m.inputs;
   blanks = m.blanks;
   leaves = m.leaves;
   told = m.told;

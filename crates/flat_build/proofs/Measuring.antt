@@ -12,6 +12,7 @@ use Rattle.flat_core.specs.declared.step.WireId.{WireId}
 use Rattle.flat_core.specs.declared.step.End.{End}
 use Rattle.flat_core.specs.declared.step.End.TheVariants.{Measured}
 use Rattle.flat_core.specs.Form.{DraftForm}
+use Rattle.flat_core.specs.Label.{wire_in}
 use Rattle.flat_core.specs.Drafts.{with_end}
 use Rattle.flat_core.specs.Sound.{count_measures}
 use Rattle.flat_mean.specs.Row.{Row}
@@ -31,7 +32,7 @@ use Rattle.flat_build.specs.Good.{Good, IsKnown}
 use Rattle.flat_build.specs.Fine.{IsOf, MayTake, MayMeasure}
 use Rattle.flat_build.specs.Shows.{HasShape, Shows, ListBoth, Related}
 use Rattle.flat_build.proofs.Kept.{known_last}
-use Rattle.flat_build.proofs.Later.{Later, later_then, later_blank, later_end_all, later_measure_all}
+use Rattle.flat_build.proofs.Later.{end_all_input, Later, later_then, later_blank, later_end_all, later_measure_all}
 use Rattle.flat_build.proofs.Compose.{steps-none, Leaves, measures-append, Leads}
 use Rattle.flat_build.proofs.Choice.{condition_holds}
 use Rattle.flat_build.proofs.Taking.{Taken, takes, wires_are, shown_last}
@@ -62,6 +63,11 @@ all_marks at (w ∷ ws) b =
     all_marks at ws (measure at w b)
     ∙ (ap₂ (λ ss k. ss ++ marks k ws) (measure_steps at w b) (one_more at w b)
     ∙ append_assoc b.draft.steps (steps.M w n ∷ []) (marks (suc n) ws))
+
+measure_wires : (at : Setting) (ws : List WireId) (b : Built) → (measure_all at ws b).draft.wires ≡ b.draft.wires
+unfolding measure
+measure_wires at [] b = refl
+measure_wires at (w ∷ ws) b = measure_wires at ws (measure at w b)
 
 pub ends_steps : (e : End) (ws : List WireId) (b : Built) → (end_all e ws b).draft.steps ≡ b.draft.steps
 ends_steps e [] b = refl
@@ -123,6 +129,7 @@ leads_measured o z z' ws s none f below its same shape =
       grown = grown;
       wires = l.longer;
       setting = refl;
+      inputs = λ k. end_all_input Measured ws b1 k (below_more (length d.wires) (length b1.draft.wires) ws m.longer below) ∙ ap (λ l. (wire_in l k).input) (measure_wires s.setting ws s.built);
       blanks = λ k h. (later_blank d b.draft l f k h).0;
       leaves = subst (λ c. Leaves c (marks n ws)) (sym none) tt;
       told = λ v c off. absurd (clash (sym off ∙ no_condition s none v));

@@ -24,7 +24,7 @@ use Rattle.bit_arith.proofs.Phases.{flips_one}
 use Rattle.flat_build.specs.State.{Flattening}
 use Rattle.flat_build.specs.Shows.{ListBoth, Related}
 use Rattle.flat_build.proofs.Kept.{AllShow}
-use Rattle.flat_build.proofs.Compose.{measures-append, no_measures, Leads}
+use Rattle.flat_build.proofs.Compose.{grows_inputs, measures-append, no_measures, Leads}
 use Rattle.flat_build.proofs.Choice.{with_row, measures_grown, guard_leaves}
 
 -- X steps that lead as the source does, told of the rows before and after
@@ -34,6 +34,7 @@ leads_row o s e T Q f r g at same h = record {
   grown = r.grows.steps;
   wires = does_grown r;
   setting = at;
+  inputs = λ w. grows_inputs r.grows w;
   blanks = λ w z. (blank_before r.grows w z).0;
   leaves = guard_leaves s.setting r.grows g;
   told = λ v c off. no_measures r.new r.all_x;
@@ -92,6 +93,7 @@ leads_turned o s e k ps f r m g at same turns h = record {
   grown = r.grows.steps;
   wires = grown r.grows;
   setting = at;
+  inputs = λ w. grows_inputs r.grows w;
   blanks = λ w z. (blank_before r.grows w z).0;
   leaves = guard_leaves s.setting r.grows g;
   told = λ v c off. none_new s.built.draft e.built.draft r.new r.grows.steps m;

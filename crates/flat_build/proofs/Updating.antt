@@ -34,7 +34,7 @@ use Rattle.flat_build.specs.Fine.{Distinct, IsOf, MayChange, IsUpdated, UpdatesP
 use Rattle.flat_build.specs.Shows.{HasShape, Shows, ListBoth, EnvBoth, Related}
 use Rattle.flat_build.proofs.Both.{both_drop, both_weak, found_both, bound_right, reach_found}
 use Rattle.flat_build.proofs.Kept.{known_last, known_name, known_its, shows_after, AllShow, related_shows, all_show_after, all_show_its}
-use Rattle.flat_build.proofs.Later.{Later, later_blank, later_end_all}
+use Rattle.flat_build.proofs.Later.{end_all_input, Later, later_blank, later_end_all}
 use Rattle.flat_build.proofs.Giving.{typed_as_known, typed_like_known, typed_as_safe, typed_like_safe, size_of, length-part, wires_part, length-in}
 use Rattle.flat_build.proofs.Bits.{IndexFits, IsThere}
 use Rattle.flat_build.proofs.OperatorRows.{update_does}
@@ -165,6 +165,7 @@ leads_ends o s e ending ws src f below m =
       grown = same ∙ m.grown;
       wires = omega (arith, m.wires, l.longer);
       setting = m.setting;
+      inputs = λ w. end_all_input ending ws e.built w below ∙ m.inputs w;
       blanks = λ w h. m.blanks w (later_blank e.built.draft b.draft l f w h).0;
       leaves = m.leaves;
       told = m.told;
