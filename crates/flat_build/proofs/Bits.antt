@@ -1,20 +1,20 @@
 -- Values against their bits: their shape, their parts, and values with a part changed.
-use Rattle.std.proofs.Common.{◌≡◌, ◌⊎◌, inl, inr, ℕ, zero, suc, ◌+◌, ◌-◌, ◌*◌, ◌^◌, ◌≤◌, ◌<◌, List, [], ◌∷◌, ◌++◌, length, get_or, take, drop, ℤ, refl, sym, ap, ap₂, ◌∙◌, subst, arith}
+use Rattle.std.proofs.Common.{◌≡◌, ◌⊎◌, inl, inr, ℕ, suc, ◌+◌, ◌*◌, ◌≤◌, ◌<◌, List, [], ◌∷◌, ◌++◌, length, get_or, take, drop, ℤ, refl, sym, ap, ap₂, ◌∙◌, subst, arith}
 use Rattle.std.specs.Prelude.{⊤, Bool, nat_abs, set, flat_map}
-use Rattle.std.proofs.Math.Nat.{mul-le-mul_left, mul_comm}
+use Rattle.std.proofs.Math.Nat.{mul-le-mul_left}
 use Rattle.std.proofs.Math.Seq.{take-nil, drop-nil}
 use Rattle.std.proofs.lemmas.Bool.{cases_lt}
-use Rattle.std.proofs.lemmas.List.{append-nil, take_all, drop_all, length-set, set_past}
+use Rattle.std.proofs.lemmas.List.{append-nil, take_all, drop_all, length-set}
 use Rattle.silq_types.specs.declared.types.Scalar.{Scalar}
 use Rattle.silq_types.specs.declared.types.Scalar.TheVariants as scalars
 use Rattle.silq_types.specs.declared.types.Shape.{Shape}
 use Rattle.silq_types.specs.declared.types.Shape.TheVariants.{Bit, UInt, Int, Array}
 use Rattle.silq_types.specs.Types.{single_shape, scalar_bits, shape_bits}
-use Rattle.silq_mean.specs.Value.{Value, whole, single, array, gone, modulus, bits_of, low_bits, digit, with_digit, digit_part, part, with_digit_part, with_part, number_in, number_of, numbers_of, value_of_bits}
-use Rattle.flat_build.specs.State.{outside, part_shape, part_start, part_of, with_part as with_bits_of_part}
+use Rattle.silq_mean.specs.Value.{Value, whole, single, array, gone, modulus, bits_of, low_bits, with_digit, digit_part, part, with_digit_part, with_part, number_in}
+use Rattle.flat_build.specs.State.{part_shape, part_start, part_of, with_part as with_bits_of_part}
 use Rattle.flat_build.specs.Names.{AllOf}
 use Rattle.flat_build.specs.Shows.{HasShape}
-use Rattle.flat_build.proofs.Numbers.{low_length, low_one, low_of_number, below_length, modulus_pos}
+use Rattle.flat_build.proofs.Numbers.{low_length, low_one, modulus_pos}
 use Rattle.flat_build.proofs.Pieces.{replaced, part_within, replaced_within}
 use Rattle.flat_build.proofs.Digits.{digit_below, digit_bits, with_below, with_bits, items_length, item_at, item_set, no_items, item_below, set_all, items_one}
 
@@ -264,9 +264,10 @@ with_holds s (whole z) (i ∷ is) x h t g = absurd h
 with_holds s gone (i ∷ is) x h t g = absurd h
 with_holds s (single k a) (i ∷ is) x h t g = (h.0, with_single_holds k a i is x h.1 (subst (λ r. IsThere r (i ∷ is)) h.0 t) (subst (λ r. HasShape r x) (ap (λ r. part_shape r (i ∷ is)) h.0 ∙ digit_shape k i is) g))
 with_holds s (array k ns) (i ∷ is) x h t g =
-    let v : ℕ = with_digit_part (get_or ns (nat_abs i) 0) is (number_in x) in
-    (h.0 ∙ ap (Array k) (sym (length-set ns (nat_abs i) v)),
-    set_all (λ n. n < modulus k) ns (nat_abs i) v (with_array_holds k ns i is x h.1 (subst (λ r. IsThere r (i ∷ is)) h.0 t) (subst (λ r. HasShape (part_shape r (i ∷ is)) x) h.0 g)) h.1)
+    let v : ℕ = with_digit_part (get_or ns (nat_abs i) 0) is (number_in x) in (
+      h.0 ∙ ap (Array k) (sym (length-set ns (nat_abs i) v)),
+      set_all (λ n. n < modulus k) ns (nat_abs i) v (with_array_holds k ns i is x h.1 (subst (λ r. IsThere r (i ∷ is)) h.0 t) (subst (λ r. HasShape (part_shape r (i ∷ is)) x) h.0 g)) h.1,
+    )
 
 -- its bits are the value's, with the part's in their place
 pub with_bits_is : (s : Shape) (w : Value) (is : List ℤ) (x : Value) → HasShape s w → IsThere s is → HasShape (part_shape s is) x → bits_of (with_part w is x) ≡ with_bits_of_part s is (bits_of w) (bits_of x)

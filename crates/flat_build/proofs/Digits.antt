@@ -1,10 +1,9 @@
 -- Digits of numbers and items of lists of numbers, as parts of their bits.
-use Rattle.std.proofs.Common.{◌≡◌, ◌⊎◌, inl, inr, ℕ, zero, suc, ◌+◌, ◌-◌, ◌*◌, ◌^◌, ◌%◌, ◌/◌, ◌≤◌, ◌<◌, Bool, true, false, List, [], ◌∷◌, ◌++◌, length, get_or, take, drop, refl, sym, ap, ap₂, ◌∙◌, subst, arith, pow-suc, pow_pos, mod-lt, append_assoc, length-append, drop-cons}
+use Rattle.std.proofs.Common.{◌≡◌, ℕ, zero, suc, ◌+◌, ◌-◌, ◌*◌, ◌^◌, ◌%◌, ◌/◌, ◌≤◌, ◌<◌, List, [], ◌∷◌, ◌++◌, length, get_or, take, drop, refl, sym, ap, ap₂, ◌∙◌, arith, pow-suc, mod-lt, length-append, drop-cons}
 use Rattle.std.specs.Prelude.{◌==◌, set, replicate, flat_map}
 use Rattle.std.proofs.Math.Nat.{div-div-eq-div-mul, mul-div-le, mul-le-mul_left, mod-le, le_trans}
 use Rattle.std.proofs.Math.Seq.{take-add, drop-nil, take-nil}
-use Rattle.std.proofs.lemmas.Bool.{cases_lt}
-use Rattle.std.proofs.lemmas.List.{append-nil, take_at, drop_at, take-append-le, drop-append-le, drop-drop, set_split, set_past, get_or_past, length-set}
+use Rattle.std.proofs.lemmas.List.{take_at, drop_at, drop-drop, set_split}
 use Rattle.std.proofs.lemmas.List.Concat.{flat_map-append}
 use Rattle.silq_mean.specs.Value.{low_bits, digit, with_digit}
 use Rattle.flat_build.specs.Names.{AllOf}
@@ -167,4 +166,3 @@ items_one n (x ∷ xs) (y ∷ ys) l h k e =
     let b : flat_map (low_bits n) xs ≡ flat_map (low_bits n) ys =
     sym (drop_at (low_bits n x) (flat_map (low_bits n) xs) n (low_length n x)) ∙ (ap (drop n) e ∙ drop_at (low_bits n y) (flat_map (low_bits n) ys) n (low_length n y)) in
     ap₂ ◌∷◌ (low_one n x y h.0 k.0 a) (items_one n xs ys (omega (arith, l)) h.1 k.1 b)
-

@@ -1,15 +1,14 @@
 -- Numbers and their bits: those of values are those of the rows.
-use Rattle.std.proofs.Common.{◌≡◌, ℕ, zero, suc, ◌+◌, ◌-◌, ◌*◌, ◌^◌, ◌%◌, ◌/◌, ◌≤◌, ◌<◌, Bool, true, false, cond, not, List, [], ◌∷◌, length, refl, sym, ap, ap₂, ◌∙◌, subst, arith, pow-suc, pow_pos, mod-lt}
-use Rattle.std.specs.Prelude.{ℤ, pos, negsuc, ◌-ℤ◌, ◌<ℤ◌, nat_lt, int_lt, int_le, nat_le, ◌==◌, if◌then◌else◌}
-use Rattle.std.specs.Prelude.{◌⊎◌}
+use Rattle.std.proofs.Common.{◌≡◌, ℕ, zero, suc, ◌+◌, ◌*◌, ◌^◌, ◌%◌, ◌/◌, ◌<◌, Bool, not, List, [], ◌∷◌, length, refl, sym, ap, ◌∙◌, subst, arith, pow_pos, mod-lt}
+use Rattle.std.specs.Prelude.{ℤ, pos, negsuc, nat_lt, int_lt, int_le, nat_le, ◌==◌, if◌then◌else◌}
 use mathlib.Core.Logic.{inl, inr}
 use Rattle.std.proofs.lemmas.Bool.{cases_lt, lt-leb, le-leb, lt-ltb, le-ltb}
 use Rattle.silq_types.specs.declared.types.Scalar.{Scalar}
 use Rattle.silq_types.specs.declared.types.Scalar.TheVariants as scalars
 use Rattle.silq_types.specs.Types.{single_shape, scalar_bits}
 use Rattle.silq_mean.specs.Value.{modulus, modulo, by_type, low_bits, number_of}
-use Rattle.bit_arith.specs.Numbers.{number, signed_value, low_bits as row_bits}
-use Rattle.bit_arith.proofs.Adder.{bit, length-low, number_low, low_number, number_below, number_one}
+use Rattle.bit_arith.specs.Numbers.{number, low_bits as row_bits}
+use Rattle.bit_arith.proofs.Adder.{number_low, low_number, number_below}
 use Rattle.bit_arith.proofs.Tests.{is_below}
 use Rattle.flat_build.specs.State.{is_signed}
 

@@ -1,8 +1,8 @@
 -- What the rows of operators say of bits, as what operators do to values.
-use Rattle.std.proofs.Common.{◌≡◌, ◌⊎◌, inl, inr, ℕ, zero, suc, ◌+◌, ◌-◌, ◌*◌, ◌^◌, ◌%◌, ◌/◌, ◌≤◌, ◌<◌, Bool, true, false, cond, not, ◌&&◌, ◌||◌, List, [], ◌∷◌, ◌++◌, length, map, take, drop, ℤ, refl, sym, ap, ap₂, ◌∙◌, subst, arith, mod-lt, pow-suc}
-use Rattle.std.specs.Prelude.{⊤, ◌==◌, if◌then◌else◌, int_lt, int_le, nat_abs, replicate, flat_map}
+use Rattle.std.proofs.Common.{◌≡◌, ℕ, zero, suc, ◌+◌, ◌-◌, ◌*◌, ◌^◌, ◌%◌, ◌/◌, ◌≤◌, ◌<◌, Bool, true, false, not, ◌&&◌, ◌||◌, List, [], ◌∷◌, ◌++◌, length, map, take, drop, ℤ, refl, sym, ap, ap₂, ◌∙◌, subst, arith, mod-lt, pow-suc}
+use Rattle.std.specs.Prelude.{◌==◌, int_lt, int_le, nat_abs, replicate, flat_map}
 use Rattle.std.proofs.lemmas.Bool.{eqb-true, and_parts}
-use Rattle.std.proofs.lemmas.List.{length-replicate, take_at, drop_at, length-take-le, take-append-drop, length-drop, nil_from_length}
+use Rattle.std.proofs.lemmas.List.{length-replicate, length-take-le, take-append-drop, length-drop, nil_from_length}
 use Rattle.silq_tree.specs.declared.node.UnaryOp.{UnaryOp}
 use Rattle.silq_tree.specs.declared.node.UnaryOp.TheVariants.{Not, Neg}
 use Rattle.silq_tree.specs.declared.node.BinaryOp.{BinaryOp}
@@ -13,7 +13,7 @@ use Rattle.silq_types.specs.declared.types.Scalar.{Scalar}
 use Rattle.silq_types.specs.declared.types.Scalar.TheVariants as scalars
 use Rattle.silq_types.specs.declared.types.Shape.{Shape}
 use Rattle.silq_types.specs.declared.types.Shape.TheVariants.{Bit, UInt, Int, Array}
-use Rattle.silq_types.specs.Types.{single_shape, scalar_bits, shape_bits, is_scalar, is_number, is_array}
+use Rattle.silq_types.specs.Types.{single_shape, scalar_bits, shape_bits, is_scalar, is_number}
 use Rattle.silq_mean.specs.Value.{Value, whole, single, array, gone, modulus, by_type, truth_value, is_one, bits_of, low_bits, number_of, numbers_of, value_of_bits, on_number, on_numbers, of_one, of_two_typed, repeated, exclusive_or, all_exclusive_or, update_typed, all_equal, equal_typed}
 use Rattle.sum_laws.specs.Terms.{same_bits}
 use Rattle.flat_mean.specs.Row.{flipped}
@@ -26,9 +26,9 @@ use Rattle.flat_build.specs.Flat.{shape_by, shape_by_one, array_of}
 use Rattle.flat_build.specs.Names.{AllOf}
 use Rattle.flat_build.specs.Fine.{FitsOne, FitsTwo, IsUpdated}
 use Rattle.flat_build.specs.Shows.{HasShape}
-use Rattle.flat_build.proofs.Numbers.{low_length, row_number_low, bits_with_number, low_of_number, below_length, rest_below, below_by_type, le_not_lt, modulus_pos}
+use Rattle.flat_build.proofs.Numbers.{low_length, row_number_low, bits_with_number, low_of_number, below_length, rest_below, below_by_type, le_not_lt}
 use Rattle.flat_build.proofs.Digits.{repeat_all, low_step}
-use Rattle.flat_build.proofs.Bits.{single_one, single_not_array, array_item, array_length, shape_single}
+use Rattle.flat_build.proofs.Bits.{single_one, single_not_array, array_item, array_length}
 
 -- ---- bits
 
@@ -89,14 +89,14 @@ UpdateBits updates.Xor xs ys zs = zs ≡ flip_bits xs ys
 -- ---- numbers of one type
 
 -- bits that show a value of a type
-abbrev pub Gives : Shape → Value → List Bool → Type 0
-Gives s w zs = HasShape s w × (zs ≡ bits_of w)
+abbrev pub HasBits : Shape → Value → List Bool → Type 0
+HasBits s w zs = HasShape s w × (zs ≡ bits_of w)
 
-gives_truth : (c d : Bool) (zs : List Bool) → zs ≡ c ∷ [] → c ≡ d → Gives Bit (truth_value d) zs
+gives_truth : (c d : Bool) (zs : List Bool) → zs ≡ c ∷ [] → c ≡ d → HasBits Bit (truth_value d) zs
 gives_truth c d zs e f = (truth_holds d, e ∙ (ap (λ b. b ∷ []) f ∙ sym (truth_bits d)))
 
 -- the number of the answer, modulo 2^n
-gives_rest : (k : Scalar) (a m : ℕ) (zs : List Bool) → length zs ≡ length (low_bits (scalar_bits k) a) → number zs ≡ m % 2 ^ length (low_bits (scalar_bits k) a) → Gives (single_shape k) (single k (m % modulus k)) zs
+gives_rest : (k : Scalar) (a m : ℕ) (zs : List Bool) → length zs ≡ length (low_bits (scalar_bits k) a) → number zs ≡ m % 2 ^ length (low_bits (scalar_bits k) a) → HasBits (single_shape k) (single k (m % modulus k)) zs
 gives_rest k a m zs l e =
     let n : length (low_bits (scalar_bits k) a) ≡ scalar_bits k = low_length (scalar_bits k) a in
     ((refl, rest_below k m), bits_with_number (scalar_bits k) (m % modulus k) zs (l ∙ n) (e ∙ ap (λ i. m % 2 ^ i) n))
@@ -118,7 +118,7 @@ below_low k a b l m =
     ∙ (ap₂ (is_below (is_signed (single_shape k)) (scalar_bits k)) (row_number_low (scalar_bits k) a l) (row_number_low (scalar_bits k) b m)
     ∙ below_by_type k a b)
 
-pub numbers_give : (op : BinaryOp) (k : Scalar) (a b : ℕ) (zs : List Bool) → FitsTwo op (single_shape k) → a < modulus k → b < modulus k → TwoBits op (single_shape k) (low_bits (scalar_bits k) a) (low_bits (scalar_bits k) b) zs → Gives (shape_by op (single_shape k)) (on_numbers op k a b) zs
+pub numbers_give : (op : BinaryOp) (k : Scalar) (a b : ℕ) (zs : List Bool) → FitsTwo op (single_shape k) → a < modulus k → b < modulus k → TwoBits op (single_shape k) (low_bits (scalar_bits k) a) (low_bits (scalar_bits k) b) zs → HasBits (shape_by op (single_shape k)) (on_numbers op k a b) zs
 numbers_give Or k a b zs f l m t = gives_truth (only_bit (low_bits (scalar_bits k) a) || only_bit (low_bits (scalar_bits k) b)) ((a == 1) || (b == 1)) zs t (ap₂ ◌||◌ (only_low k a f l) (only_low k b f m))
 numbers_give And k a b zs f l m t = gives_truth (only_bit (low_bits (scalar_bits k) a) && only_bit (low_bits (scalar_bits k) b)) ((a == 1) && (b == 1)) zs t (ap₂ ◌&&◌ (only_low k a f l) (only_low k b f m))
 numbers_give Eq k a b zs f l m t = gives_truth (same_bits (low_bits (scalar_bits k) a) (low_bits (scalar_bits k) b)) (a == b) zs t (same_low k a b l m)
@@ -141,7 +141,7 @@ numbers_give Mul k a b zs f l m t =
     gives_rest k a (a * b) zs t.0 (t.1 ∙ ap₂ (λ x y. (x * y) % 2 ^ length (low_bits (scalar_bits k) a)) (row_number_low (scalar_bits k) a l) (row_number_low (scalar_bits k) b m))
 numbers_give Div k a b zs f l m t = absurd t
 
-pub number_gives : (op : UnaryOp) (k : Scalar) (a : ℕ) (zs : List Bool) → FitsOne op (single_shape k) → a < modulus k → OneBits op (low_bits (scalar_bits k) a) zs → Gives (shape_by_one op (single_shape k)) (on_number op k a) zs
+pub number_gives : (op : UnaryOp) (k : Scalar) (a : ℕ) (zs : List Bool) → FitsOne op (single_shape k) → a < modulus k → OneBits op (low_bits (scalar_bits k) a) zs → HasBits (shape_by_one op (single_shape k)) (on_number op k a) zs
 number_gives Not k a zs f l t =
     let p : scalars.Bit ≡ k = sym (single_one k scalars.Bit f) in
     gives_truth (not (a == 1)) (not (a == 1)) zs (t ∙ (ap (λ i. map not (low_bits (scalar_bits i) a)) (sym p) ∙ ap (map not) (bit_bits a (subst (λ i. a < modulus i) (sym p) l)))) refl
@@ -179,14 +179,14 @@ fits_one_scalar : (op : UnaryOp) (s : Shape) → FitsOne op s → is_scalar s �
 fits_one_scalar Not s f = ap is_scalar f
 fits_one_scalar Neg s f = number_scalar s f
 
-pub one_gives : (op : UnaryOp) (s : Shape) (w : Value) (xs zs : List Bool) → FitsOne op s → HasShape s w → xs ≡ bits_of w → OneBits op xs zs → Gives (shape_by_one op s) (of_one op w) zs
+pub one_gives : (op : UnaryOp) (s : Shape) (w : Value) (xs zs : List Bool) → FitsOne op s → HasShape s w → xs ≡ bits_of w → OneBits op xs zs → HasBits (shape_by_one op s) (of_one op w) zs
 one_gives op s (whole z) xs zs f h e t = absurd h
 one_gives op s gone xs zs f h e t = absurd h
 one_gives op s (array k ns) xs zs f h e t = absurd (no_array k (length ns) s h.0 (fits_one_scalar op s f))
 one_gives op s (single k a) xs zs f h e t =
-    subst (λ r. Gives (shape_by_one op r) (on_number op k a) zs) (sym h.0) (number_gives op k a zs (subst (FitsOne op) h.0 f) h.1 (subst (λ ys. OneBits op ys zs) e t))
+    subst (λ r. HasBits (shape_by_one op r) (on_number op k a) zs) (sym h.0) (number_gives op k a zs (subst (FitsOne op) h.0 f) h.1 (subst (λ ys. OneBits op ys zs) e t))
 
-pub two_gives : (op : BinaryOp) (s : Shape) (v w : Value) (xs ys zs : List Bool) → FitsTwo op s → HasShape s v → HasShape s w → xs ≡ bits_of v → ys ≡ bits_of w → TwoBits op s xs ys zs → Gives (shape_by op s) (of_two_typed op v w) zs
+pub two_gives : (op : BinaryOp) (s : Shape) (v w : Value) (xs ys zs : List Bool) → FitsTwo op s → HasShape s v → HasShape s w → xs ≡ bits_of v → ys ≡ bits_of w → TwoBits op s xs ys zs → HasBits (shape_by op s) (of_two_typed op v w) zs
 two_gives op s (whole z) w xs ys zs f h g d e t = absurd h
 two_gives op s gone w xs ys zs f h g d e t = absurd h
 two_gives op s (array k ns) w xs ys zs f h g d e t = absurd (no_array k (length ns) s h.0 (fits_scalar op s f))
@@ -196,7 +196,7 @@ two_gives op s (single k a) (array j ns) xs ys zs f h g d e t = absurd (no_array
 two_gives op s (single k a) (single j b) xs ys zs f h g d e t =
     let p : j ≡ k = single_one j k (sym g.0 ∙ h.0) in
     let q : ys ≡ low_bits (scalar_bits k) b = e ∙ ap (λ i. low_bits (scalar_bits i) b) p in
-    subst (λ r. Gives (shape_by op r) (on_numbers op k a b) zs) (sym h.0)
+    subst (λ r. HasBits (shape_by op r) (on_numbers op k a b) zs) (sym h.0)
     (numbers_give op k a b zs (subst (FitsTwo op) h.0 f) h.1 (subst (λ i. b < modulus i) p g.1)
     (subst (λ r. TwoBits op r (low_bits (scalar_bits k) a) (low_bits (scalar_bits k) b) zs) h.0
     (subst (λ us. TwoBits op s us (low_bits (scalar_bits k) b) zs) d (subst (λ us. TwoBits op s xs us zs) q t))))
@@ -280,7 +280,7 @@ sub_typed (single k a) gone = refl
 sub_typed (single k a) (single j b) = refl
 sub_typed (single k a) (array j ms) = refl
 
-xor_gives : (s : Shape) (v w : Value) (xs ys zs : List Bool) → HasShape s v → HasShape s w → xs ≡ bits_of v → ys ≡ bits_of w → zs ≡ flip_bits xs ys → Gives s (update_typed updates.Xor v w) zs
+xor_gives : (s : Shape) (v w : Value) (xs ys zs : List Bool) → HasShape s v → HasShape s w → xs ≡ bits_of v → ys ≡ bits_of w → zs ≡ flip_bits xs ys → HasBits s (update_typed updates.Xor v w) zs
 xor_gives s (whole z) w xs ys zs h g d e t = absurd h
 xor_gives s gone w xs ys zs h g d e t = absurd h
 xor_gives s (single k a) (whole z) xs ys zs h g d e t = absurd g
@@ -294,13 +294,14 @@ xor_gives s (array k ns) gone xs ys zs h g d e t = absurd g
 xor_gives s (array k ns) (single j b) xs ys zs h g d e t = absurd (single_not_array j k (length ns) (sym g.0 ∙ h.0))
 xor_gives s (array k ns) (array j ms) xs ys zs h g d e t =
     let p : j ≡ k = array_item j k (length ms) (length ns) (sym g.0 ∙ h.0) in
-    let l : length ns ≡ length ms = array_length k j (length ns) (length ms) (sym h.0 ∙ g.0) in
-    ((h.0 ∙ ap (Array k) (sym (exclusive_length (scalar_bits k) ns ms l)), exclusive_all (scalar_bits k) ns ms),
-    t ∙ (ap₂ flip_bits d (e ∙ ap (λ i. flat_map (low_bits (scalar_bits i)) ms) p) ∙ exclusive_items (scalar_bits k) ns ms l))
+    let l : length ns ≡ length ms = array_length k j (length ns) (length ms) (sym h.0 ∙ g.0) in (
+      (h.0 ∙ ap (Array k) (sym (exclusive_length (scalar_bits k) ns ms l)), exclusive_all (scalar_bits k) ns ms),
+      t ∙ (ap₂ flip_bits d (e ∙ ap (λ i. flat_map (low_bits (scalar_bits i)) ms) p) ∙ exclusive_items (scalar_bits k) ns ms l),
+    )
 
-pub update_gives : (op : UpdateOp) (s : Shape) (v w : Value) (xs ys zs : List Bool) → IsUpdated op s → HasShape s v → HasShape s w → xs ≡ bits_of v → ys ≡ bits_of w → UpdateBits op xs ys zs → Gives s (update_typed op v w) zs
-update_gives updates.Add s v w xs ys zs i h g d e t = subst (λ x. Gives s x zs) (sym (add_typed v w)) (two_gives Add s v w xs ys zs (number_scalar s i) h g d e t)
-update_gives updates.Sub s v w xs ys zs i h g d e t = subst (λ x. Gives s x zs) (sym (sub_typed v w)) (two_gives Sub s v w xs ys zs (number_scalar s i) h g d e t)
+pub update_gives : (op : UpdateOp) (s : Shape) (v w : Value) (xs ys zs : List Bool) → IsUpdated op s → HasShape s v → HasShape s w → xs ≡ bits_of v → ys ≡ bits_of w → UpdateBits op xs ys zs → HasBits s (update_typed op v w) zs
+update_gives updates.Add s v w xs ys zs i h g d e t = subst (λ x. HasBits s x zs) (sym (add_typed v w)) (two_gives Add s v w xs ys zs (number_scalar s i) h g d e t)
+update_gives updates.Sub s v w xs ys zs i h g d e t = subst (λ x. HasBits s x zs) (sym (sub_typed v w)) (two_gives Sub s v w xs ys zs (number_scalar s i) h g d e t)
 update_gives updates.Xor s v w xs ys zs i h g d e t = xor_gives s v w xs ys zs h g d e t
 
 -- ---- equality
@@ -332,18 +333,20 @@ flip_self (false ∷ xs) = ap (λ bs. false ∷ bs) (flip_self xs)
 
 -- ---- repeated values
 
-pub repeat_gives : (z : ℤ) (s : Shape) (w : Value) (xs : List Bool) → is_scalar s ≡ true → HasShape s w → xs ≡ bits_of w → Gives (array_of s (nat_abs z)) (repeated (whole z) w) (flat_map (λ bs. bs) (replicate (nat_abs z) xs))
+pub repeat_gives : (z : ℤ) (s : Shape) (w : Value) (xs : List Bool) → is_scalar s ≡ true → HasShape s w → xs ≡ bits_of w → HasBits (array_of s (nat_abs z)) (repeated (whole z) w) (flat_map (λ bs. bs) (replicate (nat_abs z) xs))
 repeat_gives z s (whole y) xs f h e = absurd h
 repeat_gives z s gone xs f h e = absurd h
 repeat_gives z s (array k ns) xs f h e = absurd (no_array k (length ns) s h.0 f)
-repeat_gives z s (single k a) xs f h e =
-    ((ap (λ r. array_of r (nat_abs z)) h.0 ∙ (shape_of k (nat_abs z) ∙ ap (Array k) (sym (length-replicate (nat_abs z) a))), repeat_all (λ n. n < modulus k) (nat_abs z) a h.1),
-    ap (λ bs. flat_map (λ us. us) (replicate (nat_abs z) bs)) e ∙ again (nat_abs z) (scalar_bits k) a)
+repeat_gives z s (single k a) xs f h e = (
+  (ap (λ r. array_of r (nat_abs z)) h.0 ∙ (shape_of k (nat_abs z) ∙ ap (Array k) (sym (length-replicate (nat_abs z) a))), repeat_all (λ n. n < modulus k) (nat_abs z) a h.1),
+  ap (λ bs. flat_map (λ us. us) (replicate (nat_abs z) bs)) e ∙ again (nat_abs z) (scalar_bits k) a,
+)
   where
     shape_of : (j : Scalar) (n : ℕ) → array_of (single_shape j) n ≡ Array j n
     shape_of scalars.Bit n = refl
     shape_of (scalars.UInt m) n = refl
     shape_of (scalars.Int m) n = refl
+
     again : (n m b : ℕ) → flat_map (λ us. us) (replicate n (low_bits m b)) ≡ flat_map (low_bits m) (replicate n b)
     again zero m b = refl
     again (suc n) m b = ap (λ bs. low_bits m b ++ bs) (again n m b)
@@ -368,11 +371,11 @@ numbers_bits (suc n) w bs h =
     let d : length (drop w bs) ≡ length bs - w = length-drop w bs in
     ap₂ ◌++◌ (low_of_number w (take w bs) l) (numbers_bits n w (drop w bs) (omega (arith, h, d))) ∙ take-append-drop w bs
 
-single_given : (k : Scalar) (bs : List Bool) → length bs ≡ scalar_bits k → Gives (single_shape k) (single k (number_of bs)) bs
+single_given : (k : Scalar) (bs : List Bool) → length bs ≡ scalar_bits k → HasBits (single_shape k) (single k (number_of bs)) bs
 single_given k bs l = ((refl, subst (λ n. number_of bs < 2 ^ n) l (below_length bs)), sym (low_of_number (scalar_bits k) bs l))
 
 -- bits as many as a type has show the value that they give
-pub given_gives : (s : Shape) (bs : List Bool) → length bs ≡ shape_bits s → Gives s (value_of_bits s bs) bs
+pub given_gives : (s : Shape) (bs : List Bool) → length bs ≡ shape_bits s → HasBits s (value_of_bits s bs) bs
 given_gives Bit bs l = single_given scalars.Bit bs l
 given_gives (UInt n) bs l = single_given (scalars.UInt n) bs l
 given_gives (Int n) bs l = single_given (scalars.Int n) bs l
