@@ -7,3 +7,8 @@ pub mod Bits
 pub mod Operators
 pub mod OperatorRows
 pub mod Showing
+pub mod Kept
+pub mod Later
+pub mod Giving
+pub mod Goods
+pub mod Begins

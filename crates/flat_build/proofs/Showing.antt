@@ -24,6 +24,7 @@ use Rattle.flat_build.specs.Fine.{IsOf, FitsOne, FitsTwo, IsUpdated}
 use Rattle.flat_build.specs.Shows.{HasShape, Shows}
 use Rattle.flat_build.proofs.Numbers.{modulo_below, modulus_pos}
 use Rattle.flat_build.proofs.Pieces.{outside_map, part_map, with_map, same_apart, replaced, replaced_same, replaced_by}
+use Rattle.flat_build.proofs.Kept.{shows_lent}
 use Rattle.flat_build.proofs.Bits.{bits_length, IsThere, part_holds, part_bits, with_holds, with_bits_is}
 use Rattle.flat_build.proofs.Operators.{OneBits, TwoBits, UpdateBits, HasBits, one_gives, two_gives, update_gives, equal_one, repeat_gives, truth_holds, truth_bits, one_bits}
 
@@ -190,10 +191,7 @@ shows_rest v n need is start size a w l b t d h =
           ∙ sym (part_bits a.shape w is h.0 t)),
     )
 
--- what is known of a variable knows it also with a part lent
-pub shows_lent : (v : Row) (start size : ℕ) (a : Shown) (w : Value) → Shows v (shown a) w → Shows v (lent start size a) w
-shows_lent v start size a w h = (h.0, outside_map (bit_of v) start size a.operands ∙ ap (outside start size) h.1)
-
+-- what is known of a variable that was moved, or a part of it
 pub shows_moved : (v : Row) (is : List ℤ) (a : Shown) (w : Value) → Shows v (shown a) w → Shows v (moved is a) w
 shows_moved v [] a w h = tt
 shows_moved v (i ∷ is) a w h = shows_lent v (part_start a.shape (i ∷ is)) (shape_bits (part_shape a.shape (i ∷ is))) a w h
