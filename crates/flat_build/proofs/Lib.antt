@@ -12,3 +12,4 @@ pub mod Later
 pub mod Giving
 pub mod Goods
 pub mod Begins
+pub mod Naming
