@@ -21,3 +21,4 @@ pub mod Showing
 pub mod Goods
 pub mod Begins
 pub mod Naming
+pub mod Updating
