@@ -20,5 +20,4 @@ pub mod OperatorRows
 pub mod Showing
 pub mod Goods
 pub mod Begins
-pub mod Naming
 pub mod Updating
