@@ -20,4 +20,5 @@ pub mod OperatorRows
 pub mod Showing
 pub mod Goods
 pub mod Begins
+pub mod Naming
 pub mod Updating

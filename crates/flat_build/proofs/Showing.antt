@@ -179,9 +179,9 @@ shows_part v n need is a w t h =
     (part_holds a.shape w is h.0, part_map (bit_of v) a.shape is a.operands ∙ (ap (part_of a.shape is) h.1 ∙ sym (part_bits a.shape w is h.0 t)))
 
 -- also of a variable with a lent part, if it has nothing of that part
-pub shows_rest : (v : Row) (n : ℕ) (need : Need) (is : List ℤ) (start size : ℕ) (a : Shown) (w : Value) → length a.operands ≡ shape_bits a.shape → IsThere a.shape is
+pub shows_apart : (v : Row) (n : ℕ) (need : Need) (is : List ℤ) (start size : ℕ) (a : Shown) (w : Value) → length a.operands ≡ shape_bits a.shape → IsThere a.shape is
     → (start + size ≤ part_start a.shape is) ⊎ (part_start a.shape is + shape_bits (part_shape a.shape is) ≤ start) → Shows v (lent start size a) w → Shows v (part_used n need is a) (part w is)
-shows_rest v n need is start size a w l t d h =
+shows_apart v n need is start size a w l t d h =
     let m : length (bits_at v a.operands) ≡ length (bits_of w) = length-bits v a.operands ∙ (l ∙ sym (bits_length a.shape w h.0)) in
     let e : outside start size (bits_at v a.operands) ≡ outside start size (bits_of w) = sym (outside_map (bit_of v) start size a.operands) ∙ h.1 in (
       part_holds a.shape w is h.0,
@@ -189,6 +189,10 @@ shows_rest v n need is start size a w l t d h =
           ∙ (same_apart_from start size (part_start a.shape is) (shape_bits (part_shape a.shape is)) (bits_at v a.operands) (bits_of w) m d e
           ∙ sym (part_bits a.shape w is h.0 t)),
     )
+
+pub shows_rest : (v : Row) (n : ℕ) (need : Need) (is : List ℤ) (start size : ℕ) (a : Shown) (w : Value) → length a.operands ≡ shape_bits a.shape → start ≤ length a.operands → IsThere a.shape is
+    → (start + size ≤ part_start a.shape is) ⊎ (part_start a.shape is + shape_bits (part_shape a.shape is) ≤ start) → Shows v (lent start size a) w → Shows v (part_used n need is a) (part w is)
+shows_rest v n need is start size a w l b t d h = shows_apart v n need is start size a w l t d h
 
 -- what is known of a variable that was moved, or a part of it
 pub shows_moved : (v : Row) (is : List ℤ) (a : Shown) (w : Value) → Shows v (shown a) w → Shows v (moved is a) w

@@ -26,7 +26,7 @@ use Rattle.flat_build.specs.Names.{AllKnown, Spares}
 use Rattle.flat_build.specs.Good.{Good, IsShown, IsKnown}
 use Rattle.flat_build.specs.Fine.{IsOf, IsPart, IsUpdated, UpdatesPart, MayUpdate, without_part}
 use Rattle.flat_build.specs.Shows.{Shows, ListBoth, EnvBoth, CallerShows, Related}
-use Rattle.flat_build.proofs.Both.{found_both, both_drop, bound_right, reach_found, its_found}
+use Rattle.flat_build.proofs.Both.{found_both, first_both, both_drop, bound_right, reach_found, its_found}
 use Rattle.flat_build.proofs.Bits.{IndexFits, IsThere}
 use Rattle.flat_build.proofs.Kept.{AllShow, related_shows, all_show_its, all_show_after, known_its, known_last, known_name, shows_lent}
 use Rattle.flat_build.proofs.Giving.{length-in, wires_part, length-part, size_of, typed_as_known, typed_as_safe}
@@ -37,7 +37,14 @@ use Rattle.flat_build.proofs.Taking.{wires_are}
 use Rattle.flat_build.proofs.Operators.{HasBits, UpdateBits}
 use Rattle.flat_build.proofs.OperatorRows.{update_does}
 use Rattle.flat_build.proofs.Showing.{shows_part, shows_back, shows_as_like, updates_give}
-use Rattle.flat_build.proofs.Naming.{KnownFits, there_of, last_shows, name_shows}
+use Rattle.flat_build.proofs.Naming.{FitsIndex, is_there}
+
+-- what is known of the last value and of a variable shows it
+last_shows : (v : Row) (s : Flattening) (t : Term) → AllShow v s t → Shows v (last s) (last_value t)
+last_shows v s t h = first_both (Shows v) tt s.values t.values h.values
+
+name_shows : (v : Row) (s : Flattening) (t : Term) (x : NameId) → AllShow v s t → Shows v (known_in s x) (found gone t.env x)
+name_shows v s t x h = found_both (Shows v) absent gone tt s.env t.env x h.env
 
 -- the values of wires are the bits of the operands that they are
 wires_bits : (v : Row) (ps : List Operand) → are_wires ps ≡ true → values_at v (wires_in ps) ≡ bits_at v ps
@@ -60,7 +67,7 @@ updated_shows x is op s a v y t g k i f fits h ag q e en ev ec =
     let ps : List Operand = part_of a.shape is a.operands in
     let ws : List WireId = wires_in ps in
     let ar : are_wires ps ≡ true = wires_part a is f.wires in
-    let there : IsThere a.shape is = there_of n a is i f.there fits in
+    let there : IsThere a.shape is = is_there n a is i f.there fits in
     let lost : Known = lent (part_start a.shape is) (shape_bits (part_shape a.shape is)) a in
     let s' : Flattening = without_part x is a s in
     let old : Value = found gone t.env x in
@@ -97,7 +104,7 @@ updated_shows x is op s a v y t g k i f fits h ag q e en ev ec =
             (updates_give v op (part_shape a.shape is) b (values_at v (wires_in (part_of a.shape is a.operands))) (values_at y (wires_in (part_of a.shape is a.operands))) (part old is) (value_like (part old is) (last_value t)) j f.allowed
             (subst (HasBits (part_shape a.shape is) (part old is)) (sym d) hb) sh u)
 
-leads_update_known : (o : Outcome) (k : Known) (x : NameId) (is : List ℤ) (op : UpdateOp) (s : Flattening) → Good s → known_in s x ≡ k → IsKnown (length s.built.draft.wires) k → IsOf (UpdatesPart x is op s) k → KnownFits is k
+leads_update_known : (o : Outcome) (k : Known) (x : NameId) (is : List ℤ) (op : UpdateOp) (s : Flattening) → Good s → known_in s x ≡ k → IsKnown (length s.built.draft.wires) k → IsOf (UpdatesPart x is op s) k → FitsIndex is k
     → Leads o s (drop_last (update_variable k is op (last s) s)) (λ t. after (update_to x is op) t ∷ [])
 leads_update_known o (static z) x is op s g k i f fits = absurd f
 leads_update_known o (lent m c b) x is op s g k i f fits = absurd f
@@ -117,5 +124,5 @@ leads_update_known o (shown a) x is op s g k i f fits =
     f.change.condition refl (λ t. (refl, refl, refl))
     (λ u t y re ag q. updated_shows x is op s a u.row y t g k i f fits (related_shows s u t re) ag q (drop_last (update_variable (shown a) is op (last s) s)) refl refl refl)
 
-pub leads_update : (o : Outcome) (x : NameId) (is : List ℤ) (op : UpdateOp) (s : Flattening) → Good s → MayUpdate x is op s → KnownFits is (known_in s x) → Leads o s (flat_step (update_to x is op) s) (λ t. after (update_to x is op) t ∷ [])
+pub leads_update : (o : Outcome) (x : NameId) (is : List ℤ) (op : UpdateOp) (s : Flattening) → Good s → MayUpdate x is op s → FitsIndex is (known_in s x) → Leads o s (flat_step (update_to x is op) s) (λ t. after (update_to x is op) t ∷ [])
 leads_update o x is op s g f fits = leads_update_known o (known_in s x) x is op s g refl (known_name (IsKnown (length s.built.draft.wires)) s x tt g.known) f fits
