@@ -22,3 +22,4 @@ pub mod Goods
 pub mod Begins
 pub mod Naming
 pub mod Updating
+pub mod Claiming
