@@ -1,5 +1,5 @@
 -- Rows that give operands: how many, and that their wires are there.
-use Rattle.std.proofs.Common.{◌≡◌, ℕ, zero, suc, ◌+◌, ◌*◌, ◌≤◌, ◌<◌, Bool, true, false, cond, not, ◌&&◌, ◌||◌, List, [], ◌∷◌, ◌++◌, map, length, take, drop, replicate, ℤ, refl, sym, ap, ap₂, ◌∙◌, subst, arith, length-append, ◌-◌, ◌/◌, nat_le}
+use Rattle.std.proofs.Common.{◌≡◌, ℕ, zero, suc, ◌+◌, ◌*◌, ◌≤◌, ◌<◌, Bool, true, false, cond, not, ◌&&◌, ◌||◌, List, [], ◌∷◌, ◌++◌, map, length, take, drop, replicate, ℤ, refl, sym, ap, ap₂, ◌∙◌, subst, arith, length-append, ◌-◌, nat_le}
 use Rattle.std.proofs.lemmas.List.{length-map, length-take-le, length-drop, length-replicate}
 use Rattle.silq_tree.specs.declared.node.UnaryOp.{UnaryOp}
 use Rattle.silq_tree.specs.declared.node.UnaryOp.TheVariants.{Not, Neg}
@@ -9,7 +9,7 @@ use Rattle.silq_types.specs.declared.types.Scalar.{Scalar}
 use Rattle.silq_types.specs.declared.types.Scalar.TheVariants as scalars
 use Rattle.silq_types.specs.declared.types.Shape.{Shape}
 use Rattle.silq_types.specs.declared.types.Shape.TheVariants.{Bit, UInt, Int, Array}
-use Rattle.silq_types.specs.Types.{single_shape, scalar_bits, shape_bits, is_scalar}
+use Rattle.silq_types.specs.Types.{scalar_bits, shape_bits, is_scalar}
 use Rattle.silq_mean.specs.Value.{low_bits, modulo, modulus}
 use Rattle.flat_core.specs.declared.step.WireId.{WireId}
 use Rattle.flat_core.specs.Form.{DraftForm}
@@ -33,6 +33,8 @@ use Rattle.flat_build.specs.Flat.{negative, by_one, by_two, alone, opposite, sha
 use Rattle.flat_build.specs.Names.{Spares}
 use Rattle.flat_build.specs.Good.{IsShown, IsKnown}
 use Rattle.flat_build.specs.Fine.{IsOf, IsPart, FitsOne, FitsTwo}
+use Rattle.flat_build.proofs.Numbers.{low_length}
+use Rattle.flat_build.proofs.Bits.{shape_single}
 use Rattle.flat_build.proofs.Kept.{safe_take, safe_drop, safe_spared}
 use Rattle.flat_build.proofs.Later.{Later, later_same, later_does}
 
@@ -97,15 +99,6 @@ only_safe n T (p ∷ ps) s = s.0
 
 -- ---- static values with a type
 
-length-low : (n m : ℕ) → length (low_bits n m) ≡ n
-length-low zero m = refl
-length-low (suc n) m = ap suc (length-low n (m / 2))
-
-bits_single : (k : Scalar) → scalar_bits k ≡ shape_bits (single_shape k)
-bits_single scalars.Bit = refl
-bits_single (scalars.UInt n) = refl
-bits_single (scalars.Int n) = refl
-
 pub safe_consts : (n : ℕ) (T : Targets) (bs : List Bool) → AllSafe n T (map (λ b. Const b) bs)
 safe_consts n T [] = tt
 safe_consts n T (b ∷ bs) = (tt, safe_consts n T bs)
@@ -115,7 +108,7 @@ false_true e = absurd cc
 
 pub typed_known : (n m : ℕ) (k : Scalar) (z : ℤ) → IsKnown n (typed m k z)
 typed_known n m k z = record {
-  size = length-map (low_bits (scalar_bits k) (modulo z (modulus k))) (λ b. Const b) ∙ (length-low (scalar_bits k) (modulo z (modulus k)) ∙ bits_single k);
+  size = length-map (low_bits (scalar_bits k) (modulo z (modulus k))) (λ b. Const b) ∙ (low_length (scalar_bits k) (modulo z (modulus k)) ∙ sym (shape_single k));
   there = safe_consts n no_target (low_bits (scalar_bits k) (modulo z (modulus k)));
   wires = λ e. false_true e;
 }
@@ -364,16 +357,20 @@ takes_copied at ps b f g s =
           (safe_from (length b.draft.wires) (length b.draft.wires) (length (copy at ps b).built.draft.wires) (length ps) (under at []) (omega arith) r.later.longer g));
     }
 
+-- a value that keeps its wires is wires
+own_wires : (d : DraftForm) (v : Shown) → IsShown (length d.wires) v → v.own || are_new d v.began v.operands ≡ true → are_wires v.operands ≡ true
+own_wires d v k h = go v.own refl h
+  where
+    go : (x : Bool) → v.own ≡ x → x || are_new d v.began v.operands ≡ true → are_wires v.operands ≡ true
+    go true e h = k.wires e
+    go false e h = wires_new d v.began v.operands h
+
 -- the wires for a new owner: where a value keeps its own, none of them is the condition's
 pub takes_taken : (at : Setting) (v : Shown) (b : Built) → Fresh b.draft → Guards at (length b.draft.wires) no_target → IsShown (length b.draft.wires) v → (v.own || are_new b.draft v.began v.operands ≡ true → AllSafe (length b.draft.wires) (among (wires_in v.operands)) (under at [])) → Takes at b.draft (length v.operands) (taken at v b)
 takes_taken at v b f g k may = pick (v.own || are_new b.draft v.began v.operands) refl
   where
-    owned : (x : Bool) → v.own ≡ x → x || are_new b.draft v.began v.operands ≡ true → are_wires v.operands ≡ true
-    owned true e h = k.wires e
-    owned false e h = wires_new b.draft v.began v.operands h
-
     pick : (x : Bool) → (v.own || are_new b.draft v.began v.operands) ≡ x → Takes at b.draft (length v.operands) (cond x (as_they_are v.operands b) (copied at v.operands b))
-    pick true e = record { gives = gives_same v.operands b k.there; wires = owned v.own refl e; guards = may e }
+    pick true e = record { gives = gives_same v.operands b k.there; wires = own_wires b.draft v k e; guards = may e }
     pick false e = takes_copied at v.operands b f g k.there
 
 -- wires that are given
@@ -387,12 +384,8 @@ wires_copied at ps b f g s = record { gives = gives_copied at ps b f g s; wires 
 pub wires_taken : (at : Setting) (v : Shown) (b : Built) → Fresh b.draft → Guards at (length b.draft.wires) no_target → IsShown (length b.draft.wires) v → GivesWires b.draft (length v.operands) (taken at v b)
 wires_taken at v b f g k = pick (v.own || are_new b.draft v.began v.operands) refl
   where
-    owned : (x : Bool) → v.own ≡ x → x || are_new b.draft v.began v.operands ≡ true → are_wires v.operands ≡ true
-    owned true e h = k.wires e
-    owned false e h = wires_new b.draft v.began v.operands h
-
     pick : (x : Bool) → (v.own || are_new b.draft v.began v.operands) ≡ x → GivesWires b.draft (length v.operands) (cond x (as_they_are v.operands b) (copied at v.operands b))
-    pick true e = record { gives = gives_same v.operands b k.there; wires = owned v.own refl e }
+    pick true e = record { gives = gives_same v.operands b k.there; wires = own_wires b.draft v k e }
     pick false e = wires_copied at v.operands b f g k.there
 
 pub wires_kept : (at : Setting) (v : Shown) (b : Built) → Fresh b.draft → Guards at (length b.draft.wires) no_target → IsShown (length b.draft.wires) v → GivesWires b.draft (length v.operands) (kept at v b)

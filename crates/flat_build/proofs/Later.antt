@@ -122,6 +122,26 @@ later_end_all ending (w ∷ ws) b h =
     later_then b.draft (with_end b.draft w ending) (end_all ending (w ∷ ws) b).draft q
     (later_end_all ending ws (record b { draft = with_end b.draft w ending }) (below_more (length b.draft.wires) (length (with_end b.draft w ending).wires) ws q.longer h.1))
 
+-- ends change no step, no number of wires and no blank wire
+pub end_all_steps : (ending : End) (ws : List WireId) (b : Built) → (end_all ending ws b).draft.steps ≡ b.draft.steps
+end_all_steps ending [] b = refl
+end_all_steps ending (w ∷ ws) b = end_all_steps ending ws (record b { draft = with_end b.draft w ending })
+
+pub end_all_length : (ending : End) (ws : List WireId) (b : Built) → length (end_all ending ws b).draft.wires ≡ length b.draft.wires
+end_all_length ending [] b = refl
+end_all_length ending (w ∷ ws) b =
+    end_all_length ending ws (record b { draft = with_end b.draft w ending })
+    ∙ length-set b.draft.wires w.number (record { input = (wire_in b.draft.wires w).input; ending = ending })
+
+pub end_all_input : (ending : End) (ws : List WireId) (b : Built) (k : WireId) → Below (length b.draft.wires) ws → (wire_in (end_all ending ws b).draft.wires k).input ≡ (wire_in b.draft.wires k).input
+end_all_input ending [] b k h = refl
+end_all_input ending (w ∷ ws) b k h =
+    end_all_input ending ws (record b { draft = with_end b.draft w ending }) k (below_more (length b.draft.wires) (length (with_end b.draft w ending).wires) ws (later_end b.draft w ending h.0).longer h.1)
+    ∙ input_with_end b.draft.wires w ending k h.0
+
+pub end_all_blank : (ending : End) (ws : List WireId) (b : Built) (k : WireId) → Below (length b.draft.wires) ws → blank (end_all ending ws b).draft k ≡ blank b.draft k
+end_all_blank ending ws b k h = ap₂ (λ (i : Bool) (ss : List Step). not i && (label_after ss k == 0)) (end_all_input ending ws b k h) (end_all_steps ending ws b)
+
 -- ---- H and M
 
 pub later_step : (d : DraftForm) (s : Step) (line : ℕ) → ((w : WireId) → length d.wires ≤ w.number → label_after (s ∷ []) w ≡ 0) → Later d (with_step d s line)

@@ -21,5 +21,6 @@ pub mod Showing
 pub mod Goods
 pub mod Begins
 pub mod Naming
+pub mod Valuing
 pub mod Updating
-pub mod Claiming
+pub mod Zeroing

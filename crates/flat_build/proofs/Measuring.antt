@@ -63,7 +63,7 @@ all_marks at (w ∷ ws) b =
     ∙ (ap₂ (λ ss k. ss ++ marks k ws) (measure_steps at w b) (one_more at w b)
     ∙ append_assoc b.draft.steps (steps.M w n ∷ []) (marks (suc n) ws))
 
-ends_steps : (e : End) (ws : List WireId) (b : Built) → (end_all e ws b).draft.steps ≡ b.draft.steps
+pub ends_steps : (e : End) (ws : List WireId) (b : Built) → (end_all e ws b).draft.steps ≡ b.draft.steps
 ends_steps e [] b = refl
 ends_steps e (w ∷ ws) b = ends_steps e ws (record b { draft = with_end b.draft w e })
 

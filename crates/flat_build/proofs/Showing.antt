@@ -24,7 +24,7 @@ use Rattle.flat_build.specs.Fine.{IsOf, FitsOne, FitsTwo, IsUpdated}
 use Rattle.flat_build.specs.Shows.{HasShape, Shows}
 use Rattle.flat_build.proofs.Numbers.{modulo_below, modulus_pos}
 use Rattle.flat_build.proofs.Pieces.{outside_map, part_map, with_map, same_apart_from, replaced, replaced_same, replaced_by}
-use Rattle.flat_build.proofs.Kept.{shows_lent}
+pub use Rattle.flat_build.proofs.Kept.{shows_lent}
 use Rattle.flat_build.proofs.Bits.{bits_length, IsThere, part_holds, part_bits, with_holds, with_bits_is}
 use Rattle.flat_build.proofs.Operators.{OneBits, TwoBits, UpdateBits, HasBits, one_gives, two_gives, update_gives, equal_one, repeat_gives, truth_holds, truth_bits, one_bits}
 

@@ -1,128 +1,218 @@
--- Updates and claims: the wires of a variable change, and all else that is known stays as it was.
-use Rattle.std.proofs.Common.{◌≡◌, ℕ, ◌+◌, ◌≤◌, Bool, true, false, List, [], ◌∷◌, length, drop, ℤ, refl, sym, ap, ◌∙◌, subst, arith}
+-- Updates of variables, and what a variable is said to be equal to.
+use Rattle.std.proofs.Common.{◌≡◌, ℕ, ◌+◌, ◌≤◌, ◌<◌, Bool, true, false, cond, ◌||◌, List, [], ◌∷◌, ◌++◌, length, drop, ℤ, refl, sym, ap, ◌∙◌, subst, arith, append-nil}
 use Rattle.silq_tree.specs.declared.node.NameId.{NameId}
 use Rattle.silq_tree.specs.declared.node.UpdateOp.{UpdateOp}
-use Rattle.silq_tree.specs.declared.node.UpdateOp.TheVariants as updates
 use Rattle.silq_types.specs.declared.types.Shape.{Shape}
-use Rattle.silq_types.specs.Types.{shape_bits}
+use Rattle.silq_types.specs.Types.{same_name, shape_bits}
 use Rattle.check_scope.specs.declared.need.Need.TheVariants.{Held}
-use Rattle.silq_mean.specs.Value.{Value, gone, part, with_part, update_typed, updated, typed_like as value_like, bits_of}
-use Rattle.silq_mean.specs.Env.{found, is_in_reach, in_its_block, bound}
-use Rattle.silq_mean.specs.Term.{Term, last as last_value, update_part}
-use Rattle.silq_mean.specs.Effect.{Outcome, after, update_to}
+use Rattle.silq_mean.specs.Env.{Env, Block, is_in_block, in_block, found, is_in_reach, block_with, in_its_block}
+use Rattle.silq_mean.specs.Value.{Value, gone, part, with_part, update_typed, updated, typed_like as value_like}
+use Rattle.silq_mean.specs.Term.{Term, value_of, last as last_value, update_part}
+use Rattle.silq_mean.specs.Effect.{Outcome, step, follow, update_to}
 use Rattle.flat_core.specs.declared.step.WireId.{WireId}
+use Rattle.flat_core.specs.declared.step.End.{End}
+use Rattle.flat_core.specs.declared.step.End.TheVariants.{Zeroed}
+use Rattle.flat_core.specs.Form.{DraftForm}
+use Rattle.flat_core.specs.Sound.{count_measures}
 use Rattle.flat_mean.specs.Row.{Row}
-use Rattle.flat_mean.specs.Terms.{Term as WireTerm}
+use Rattle.flat_mean.specs.Terms.{Term as WireTerm, do_steps}
 use Rattle.bit_arith.specs.declared.operand.Operand.{Operand}
 use Rattle.bit_arith.specs.Built.{Built, all_made}
-use Rattle.bit_arith.specs.Calls.{among, AllSafe}
-use Rattle.bit_arith.specs.Values.{bit_of, bits_at, values_at}
-use Rattle.bit_arith.specs.Does.{Does, Below, Different}
-use Rattle.bit_arith.proofs.Steps.{Agree}
-use Rattle.bit_arith.proofs.Making.{bits_made}
-use Rattle.flat_build.specs.State.{Shown, Known, static, shown, lent, absent, Flattening, last, drop_last, operands_of, typed_as, typed_like, part_shape, part_start, part_of, wires_in, are_wires}
-use Rattle.flat_build.specs.Flat.{flat_step, update_by, update_variable, known_in}
+use Rattle.bit_arith.specs.Rows.{flip_each}
+use Rattle.bit_arith.specs.Calls.{Targets, among, AllSafe, AreTargets}
+use Rattle.bit_arith.specs.Values.{bits_at, values_at}
+use Rattle.bit_arith.specs.Does.{Fresh, Does, Below, Different}
+use Rattle.bit_arith.proofs.Steps.{Agree, clash}
+use Rattle.bit_arith.proofs.Doing.{does_fresh, does_grown}
+use Rattle.bit_arith.proofs.Listed.{below_more}
+use Rattle.bit_arith.proofs.Making.{bits_made, flip_bits, flip_each_does}
+use Rattle.flat_build.specs.State.{Shown, Known, static, shown, lent, absent, Flattening, last, drop_last, build, operands_of, typed_as, typed_like, part_shape, part_start, part_of, are_wires, wires_in}
+use Rattle.flat_build.specs.Flat.{flat, flat_step, known_in, part_used, update_by, update_variable, zero_variable, end_all}
 use Rattle.flat_build.specs.Names.{AllKnown, Spares}
 use Rattle.flat_build.specs.Good.{Good, IsShown, IsKnown}
-use Rattle.flat_build.specs.Fine.{IsOf, IsPart, IsUpdated, UpdatesPart, MayUpdate, without_part}
-use Rattle.flat_build.specs.Shows.{Shows, ListBoth, EnvBoth, CallerShows, Related}
-use Rattle.flat_build.proofs.Both.{found_both, first_both, both_drop, bound_right, reach_found, its_found}
+use Rattle.flat_build.specs.Fine.{Distinct, IsOf, MayChange, IsUpdated, UpdatesPart, MayUpdate, MayClaim, without_part}
+use Rattle.flat_build.specs.Shows.{HasShape, Shows, ListBoth, EnvBoth, Related}
+use Rattle.flat_build.proofs.Both.{both_drop, both_weak, found_both, bound_right, reach_found}
+use Rattle.flat_build.proofs.Kept.{known_last, known_name, known_its, shows_after, AllShow, related_shows, all_show_after, all_show_its}
+use Rattle.flat_build.proofs.Later.{Later, later_blank, later_end_all}
+use Rattle.flat_build.proofs.Giving.{typed_as_known, typed_like_known, typed_as_safe, typed_like_safe, size_of, length-part, wires_part, length-in}
 use Rattle.flat_build.proofs.Bits.{IndexFits, IsThere}
-use Rattle.flat_build.proofs.Kept.{AllShow, related_shows, all_show_its, all_show_after, known_its, known_last, known_name, shows_lent}
-use Rattle.flat_build.proofs.Giving.{length-in, wires_part, length-part, size_of, typed_as_known, typed_as_safe}
-use Rattle.flat_build.proofs.Goods.{below_targets, different_wires, last_spared}
+use Rattle.flat_build.proofs.OperatorRows.{update_does}
+use Rattle.flat_build.proofs.Operators.{UpdateBits, HasBits}
+use Rattle.flat_build.proofs.Showing.{shows_as_like, shows_part, shows_lent, shows_back, updates_give}
 use Rattle.flat_build.proofs.Compose.{Leads}
 use Rattle.flat_build.proofs.Rows.{leads_row}
-use Rattle.flat_build.proofs.Taking.{wires_are}
-use Rattle.flat_build.proofs.Operators.{HasBits, UpdateBits}
-use Rattle.flat_build.proofs.OperatorRows.{update_does}
-use Rattle.flat_build.proofs.Showing.{shows_part, shows_back, shows_as_like, updates_give}
+use Rattle.flat_build.proofs.Taking.{wires_are, last_shows}
+use Rattle.flat_build.proofs.Measuring.{ends_steps}
 use Rattle.flat_build.proofs.Naming.{FitsIndex, is_there}
 
--- what is known of the last value and of a variable shows it
-last_shows : (v : Row) (s : Flattening) (t : Term) → AllShow v s t → Shows v (last s) (last_value t)
-last_shows v s t h = first_both (Shows v) tt s.values t.values h.values
+-- ---- wires that may be changed
 
-name_shows : (v : Row) (s : Flattening) (t : Term) (x : NameId) → AllShow v s t → Shows v (known_in s x) (found gone t.env x)
-name_shows v s t x h = found_both (Shows v) absent gone tt s.env t.env x h.env
+targets_below : (d : DraftForm) (ws : List WireId) → AreTargets d ws → Below (length d.wires) ws
+targets_below d [] h = tt
+targets_below d (w ∷ ws) h = (h.0.0, targets_below d ws h.1)
 
--- the values of wires are the bits of the operands that they are
-wires_bits : (v : Row) (ps : List Operand) → are_wires ps ≡ true → values_at v (wires_in ps) ≡ bits_at v ps
-wires_bits v ps h = sym (bits_made v (wires_in ps)) ∙ ap (bits_at v) (sym (wires_are ps h))
+distinct_different : (ws : List WireId) → Distinct ws → Different ws
+distinct_different [] h = tt
+distinct_different (w ∷ ws) h = (h.0, distinct_different ws h.1)
 
-shown_reach : (s : Flattening) (x : NameId) (a : Shown) → known_in s x ≡ shown a → is_in_reach s.env x ≡ true
-shown_reach s x a e = reach_found s.env x absent (λ h. (let c : shown a ≡ absent = sym e ∙ h in cc))
+absent_spared : (T : Targets) → Spares T absent
+absent_spared T w t = refl
 
--- the value that an update gives to its variable
-abbrev new_value : NameId → List ℤ → UpdateOp → Term → Value
-new_value x is op t = with_part (found gone t.env x) is (updated op (part (found gone t.env x) is) (last_value t))
+-- ---- a variable in its block
 
--- what the state shows after the part's wires changed
-updated_shows : (x : NameId) (is : List ℤ) (op : UpdateOp) (s : Flattening) (a : Shown) (v y : Row) (t : Term) → Good s → known_in s x ≡ shown a → IsShown (length s.built.draft.wires) a → UpdatesPart x is op s a → IndexFits a.shape is
-    → AllShow v s t → Agree (length s.built.draft.wires) (among (wires_in (part_of a.shape is a.operands))) y v
-    → UpdateBits op (values_at v (wires_in (part_of a.shape is a.operands))) (bits_at v (operands_of (typed_as 0 (part_shape a.shape is) (last s)))) (values_at y (wires_in (part_of a.shape is a.operands)))
-    → (e : Flattening) → e.env ≡ s.env → e.values ≡ drop 1 s.values → e.callers ≡ s.callers → AllShow y e (after (update_to x is op) t)
-updated_shows x is op s a v y t g k i f fits h ag q e en ev ec =
-    let n : ℕ = length s.built.draft.wires in
-    let ps : List Operand = part_of a.shape is a.operands in
-    let ws : List WireId = wires_in ps in
-    let ar : are_wires ps ≡ true = wires_part a is f.wires in
-    let there : IsThere a.shape is = is_there n a is i f.there fits in
-    let lost : Known = lent (part_start a.shape is) (shape_bits (part_shape a.shape is)) a in
-    let s' : Flattening = without_part x is a s in
-    let old : Value = found gone t.env x in
-    let so : Shows v (shown a) old = subst (λ z. Shows v z old) k (name_shows v s t x h) in
-    let known : AllKnown (IsKnown n) s' = known_its (IsKnown n) x lost s i g.known in
-    let rest : AllShow y s' t = all_show_after n (among ws) y v s' t ag known f.change.spared (all_show_its v x lost s t (shows_lent v (part_start a.shape is) (shape_bits (part_shape a.shape is)) a old so) h) in
-    let reach : is_in_reach s.env x ≡ true = shown_reach s x a k in
-    let sl : Shows y lost old = subst (λ z. Shows y z old) (its_found s.env x lost absent reach) (found_both (Shows y) absent gone tt s'.env t.env x rest.env) in
-    let new : HasBits (part_shape a.shape is) (updated op (part old is) (last_value t)) (bits_at y ps) = given n ps ws ar there old so in
-    let sn : Shows y (shown a) (new_value x is op t) = shows_back y is a old (updated op (part old is) (last_value t)) i.size there new sl in
-    record {
-      env = subst (λ z. EnvBoth (Shows y) z (bound t.env x (new_value x is op t))) (sym en)
-          (bound_right (Shows y) lost absent (new_value x is op t) s.env t.env x rest.env reach (subst (λ z. Shows y z (new_value x is op t)) (sym k) sn));
-      values = subst (λ z. ListBoth (Shows y) z (drop 1 t.values)) (sym ev) (both_drop (Shows y) s.values t.values rest.values);
-      callers = subst (λ z. ListBoth (CallerShows y) z t.callers) (sym ec) rest.callers;
-    }
+block_in : (vs : Block Known) (x : NameId) (a : Known) → is_in_block vs x ≡ true → is_in_block (block_with vs x a) x ≡ true
+block_in [] x a h = cc
+block_in (v ∷ vs) x a h = pick (same_name v.0 x) refl h (block_in vs x a)
   where
-    given : (n : ℕ) (ps : List Operand) (ws : List WireId) → are_wires (part_of a.shape is a.operands) ≡ true → IsThere a.shape is → (old : Value) → Shows v (shown a) old → HasBits (part_shape a.shape is) (updated op (part old is) (last_value t)) (bits_at y (part_of a.shape is a.operands))
-    given n ps ws ar there old so =
-        let op' : List Operand = part_of a.shape is a.operands in
-        let r : Shape = part_shape a.shape is in
-        let p = shows_part v 0 Held is a old there so in
-        by_operand (typed_as 0 r (last s)) f.operand (shows_as_like v 0 r (part old is) (last s) (last_value t) p.0 (last_shows v s t h)) q p
-      where
-        by_operand : (l : Known) → IsOf (λ w. w.shape ≡ part_shape a.shape is) l → Shows v l (value_like (part old is) (last_value t)) → UpdateBits op (values_at v (wires_in (part_of a.shape is a.operands))) (bits_at v (operands_of l)) (values_at y (wires_in (part_of a.shape is a.operands)))
-            → HasBits (part_shape a.shape is) (part old is) (bits_at v (part_of a.shape is a.operands)) → HasBits (part_shape a.shape is) (updated op (part old is) (last_value t)) (bits_at y (part_of a.shape is a.operands))
-        by_operand (static z) j sh u hb = absurd j
-        by_operand (lent m c b) j sh u hb = absurd j
-        by_operand absent j sh u hb = absurd j
-        by_operand (shown b) j sh u hb =
-            let e : values_at y (wires_in (part_of a.shape is a.operands)) ≡ bits_at y (part_of a.shape is a.operands) = wires_bits y (part_of a.shape is a.operands) ar in
-            let d : values_at v (wires_in (part_of a.shape is a.operands)) ≡ bits_at v (part_of a.shape is a.operands) = wires_bits v (part_of a.shape is a.operands) ar in
-            subst (HasBits (part_shape a.shape is) (updated op (part old is) (last_value t))) e
-            (updates_give v op (part_shape a.shape is) b (values_at v (wires_in (part_of a.shape is a.operands))) (values_at y (wires_in (part_of a.shape is a.operands))) (part old is) (value_like (part old is) (last_value t)) j f.allowed
-            (subst (HasBits (part_shape a.shape is) (part old is)) (sym d) hb) sh u)
+    pick : (t : Bool) → same_name v.0 x ≡ t → t || is_in_block vs x ≡ true → (is_in_block vs x ≡ true → is_in_block (block_with vs x a) x ≡ true) → is_in_block (cond t ((v.0, a) ∷ vs) (v ∷ block_with vs x a)) x ≡ true
+    pick true e k ih = ap (λ b. b || is_in_block vs x) e
+    pick false e k ih = ap (λ b. b || is_in_block (block_with vs x a) x) e ∙ ih k
 
-leads_update_known : (o : Outcome) (k : Known) (x : NameId) (is : List ℤ) (op : UpdateOp) (s : Flattening) → Good s → known_in s x ≡ k → IsKnown (length s.built.draft.wires) k → IsOf (UpdatesPart x is op s) k → FitsIndex is k
-    → Leads o s (drop_last (update_variable k is op (last s) s)) (λ t. after (update_to x is op) t ∷ [])
-leads_update_known o (static z) x is op s g k i f fits = absurd f
-leads_update_known o (lent m c b) x is op s g k i f fits = absurd f
-leads_update_known o absent x is op s g k i f fits = absurd f
-leads_update_known o (shown a) x is op s g k i f fits =
-    let n : ℕ = length s.built.draft.wires in
-    let r : Shape = part_shape a.shape is in
-    let ps : List Operand = part_of a.shape is a.operands in
-    let ws : List WireId = wires_in ps in
-    let operand : Known = typed_as 0 r (last s) in
-    let kl : IsKnown n (last s) = known_last (IsKnown n) s tt g.known in
-    let e : length ws ≡ length (operands_of operand) =
-    length-in ps (wires_part a is f.wires) ∙ (length-part a is f.there ∙ sym (size_of n r operand (typed_as_known n 0 r (last s) kl) f.operand)) in
-    leads_row o s (drop_last (update_variable (shown a) is op (last s) s)) (among ws) _ (after (update_to x is op))
-    (update_does op s.setting ws (operands_of operand) s.built g.fresh e (below_targets s.built.draft ws f.change.targets) (different_wires ws f.change.distinct) f.change.condition
-    (typed_as_safe n 0 (among ws) r (last s) kl (last_spared (among ws) (without_part x is a s) f.change.spared)))
-    f.change.condition refl (λ t. (refl, refl, refl))
-    (λ u t y re ag q. updated_shows x is op s a u.row y t g k i f fits (related_shows s u t re) ag q (drop_last (update_variable (shown a) is op (last s) s)) refl refl refl)
+block_found : (vs : Block Known) (x : NameId) (a d : Known) → is_in_block vs x ≡ true → in_block d (block_with vs x a) x ≡ a
+block_found [] x a d h = cc
+block_found (v ∷ vs) x a d h = pick (same_name v.0 x) refl h (block_found vs x a d)
+  where
+    pick : (t : Bool) → same_name v.0 x ≡ t → t || is_in_block vs x ≡ true → (is_in_block vs x ≡ true → in_block d (block_with vs x a) x ≡ a) → in_block d (cond t ((v.0, a) ∷ vs) (v ∷ block_with vs x a)) x ≡ a
+    pick true e k ih = ap (λ b. cond b a (in_block d vs x)) e
+    pick false e k ih = ap (λ b. cond b v.1 (in_block d (block_with vs x a) x)) e ∙ ih k
 
-pub leads_update : (o : Outcome) (x : NameId) (is : List ℤ) (op : UpdateOp) (s : Flattening) → Good s → MayUpdate x is op s → FitsIndex is (known_in s x) → Leads o s (flat_step (update_to x is op) s) (λ t. after (update_to x is op) t ∷ [])
-leads_update o x is op s g f fits = leads_update_known o (known_in s x) x is op s g refl (known_name (IsKnown (length s.built.draft.wires)) s x tt g.known) f fits
+found_its : (env : Env Known) (x : NameId) (a d : Known) → is_in_reach env x ≡ true → found d (in_its_block env x a) x ≡ a
+found_its [] x a d h = cc
+found_its (b ∷ bs) x a d h = pick (is_in_block b x) refl h (found_its bs x a d)
+  where
+    pick : (t : Bool) → is_in_block b x ≡ t → t || is_in_reach bs x ≡ true → (is_in_reach bs x ≡ true → found d (in_its_block bs x a) x ≡ a) → found d (cond t (block_with b x a ∷ bs) (b ∷ in_its_block bs x a)) x ≡ a
+    pick true e k ih = ap (λ c. cond c (in_block d (block_with b x a) x) (found d bs x)) (block_in b x a e) ∙ block_found b x a d e
+    pick false e k ih = ap (λ c. cond c (in_block d b x) (found d (in_its_block bs x a) x)) e ∙ ih k
+
+not_absent : (v : Shown) → shown v ≡ absent → ⊥
+not_absent v e = clash (sym (ap is_shown e))
+  where
+    is_shown : Known → Bool
+    is_shown (shown v) = true
+    is_shown (static z) = true
+    is_shown (lent a b v) = true
+    is_shown absent = false
+
+reach_shown : (s : Flattening) (x : NameId) (v : Shown) → known_in s x ≡ shown v → is_in_reach s.env x ≡ true
+reach_shown s x v e = reach_found s.env x absent (λ f. not_absent v (sym e ∙ f))
+
+-- ---- updates
+
+-- the bits of the part after the update
+update_bits : (x : Row) (op : UpdateOp) (sh : Shape) (k : Known) (xs zs : List Bool) (p y : Value) → IsOf (λ w. w.shape ≡ sh) k → IsUpdated op sh → HasBits sh p xs → Shows x k y → UpdateBits op xs (bits_at x (operands_of k)) zs → HasBits sh (update_typed op p y) zs
+update_bits x op sh (static z) xs zs p y f i h g q = absurd f
+update_bits x op sh (lent a c v) xs zs p y f i h g q = absurd f
+update_bits x op sh absent xs zs p y f i h g q = absurd f
+update_bits x op sh (shown b) xs zs p y f i h g q = updates_give x op sh b xs zs p y f i h g q
+
+pub leads_update_to : (o : Outcome) (x : NameId) (is : List ℤ) (op : UpdateOp) (s : Flattening) → Good s → MayUpdate x is op s → FitsIndex is (known_in s x) → Leads o s (flat (step (update_to x is op)) s) (follow o (step (update_to x is op)))
+leads_update_to o x is op s g may fit = go (known_in s x) refl may fit (known_name (IsKnown (length s.built.draft.wires)) s x tt g.known)
+  where
+    go : (k : Known) → known_in s x ≡ k → IsOf (UpdatesPart x is op s) k → FitsIndex is k → IsKnown (length s.built.draft.wires) k → Leads o s (drop_last (update_variable k is op (last s) s)) (λ t. update_part x is op t ∷ [])
+    go (static z) e p f q = absurd p
+    go (lent a c v) e p f q = absurd p
+    go absent e p f q = absurd p
+    go (shown v) e p f q =
+        let n : ℕ = length s.built.draft.wires in
+        let sh : Shape = part_shape v.shape is in
+        let ps : List Operand = part_of v.shape is v.operands in
+        let ws : List WireId = wires_in ps in
+        let ops : List Operand = operands_of (typed_as 0 sh (last s)) in
+        let b : Built = update_by op s.setting ws ops s.built in
+        let T : Targets = among ws in
+        let m : MayChange ws s (without_part x is v s) = p.change in
+        let are : are_wires ps ≡ true = wires_part v is p.wires in
+        let made : ps ≡ all_made ws = wires_are ps are in
+        let last_known : IsKnown n (last s) = known_last (IsKnown n) s tt g.known in
+        let last_spared : Spares T (last s) = known_last (Spares T) (without_part x is v s) (absent_spared T) m.spared in
+        let size : length ws ≡ length ops = length-in ps are ∙ (length-part v is p.there ∙ sym (size_of n sh (typed_as 0 sh (last s)) (typed_as_known n 0 sh (last s) last_known) p.operand)) in
+        let r : Does s.setting s.built.draft b.draft T (λ y z. UpdateBits op (values_at y ws) (bits_at y ops) (values_at z ws)) =
+        update_does op s.setting ws ops s.built g.fresh size (targets_below s.built.draft ws m.targets) (distinct_different ws m.distinct) m.condition (typed_as_safe n 0 T sh (last s) last_known last_spared) in
+        let out : Known = lent (part_start v.shape is) (shape_bits sh) v in
+        let reach : is_in_reach s.env x ≡ true = reach_shown s x v e in
+        let there : IsThere v.shape is = is_there n v is q p.there f in
+        let known : AllKnown (IsKnown n) (without_part x is v s) = known_its (IsKnown n) x out s q g.known in
+        let out_spared : Spares T out = subst (Spares T) (found_its s.env x out absent reach) (known_name (Spares T) (without_part x is v s) x (absent_spared T) m.spared) in
+        leads_row o s (drop_last (build b s)) T (λ y z. UpdateBits op (values_at y ws) (bits_at y ops) (values_at z ws)) (update_part x is op) r m.condition refl (λ t. (refl, refl, refl))
+        (λ u t y re ag t'.
+        let old : Value = value_of t.env x in
+        let was : Shows u.row (shown v) old = subst (λ k. Shows u.row k old) e (found_both (Shows u.row) absent gone tt s.env t.env x re.env) in
+        let lends : Shows u.row out old = shows_lent u.row (part_start v.shape is) (shape_bits sh) v old was in
+        let a : AllShow y (without_part x is v s) t = all_show_after n T y u.row (without_part x is v s) t ag known m.spared (all_show_its u.row x out s t lends (related_shows s u t re)) in
+        let lends' : Shows y out old = shows_after n T y u.row ag out old (q, out_spared) lends in
+        let bits : (z : Row) → bits_at z ps ≡ values_at z ws = λ z. ap (bits_at z) made ∙ bits_made z ws in
+        let its : Shows u.row (part_used 0 Held is v) (part old is) = shows_part u.row 0 Held is v old there was in
+        let right : Shows u.row (typed_as 0 sh (last s)) (value_like (part old is) (last_value t)) = shows_as_like u.row 0 sh (part old is) (last s) (last_value t) its.0 (last_shows u.row s.values t.values re.values) in
+        let new : HasBits sh (updated op (part old is) (last_value t)) (values_at y ws) =
+        update_bits u.row op sh (typed_as 0 sh (last s)) (values_at u.row ws) (values_at y ws) (part old is) (value_like (part old is) (last_value t)) p.operand p.allowed (its.0, sym (bits u.row) ∙ its.1) right t' in
+        let back : Shows y (shown v) (with_part old is (updated op (part old is) (last_value t))) = shows_back y is v old (updated op (part old is) (last_value t)) q.size there (new.0, bits y ∙ new.1) lends' in
+        record {
+          env = bound_right (Shows y) out absent (with_part old is (updated op (part old is) (last_value t))) s.env t.env x a.env reach (subst (λ k. Shows y k (with_part old is (updated op (part old is) (last_value t)))) (sym e) back);
+          values = both_drop (Shows y) s.values t.values a.values;
+          callers = a.callers;
+        })
+
+-- ---- ends of wires
+
+pub leads_ends : (o : Outcome) (s e : Flattening) (ending : End) (ws : List WireId) (src : Term → List Term) → Fresh e.built.draft → Below (length e.built.draft.wires) ws → Leads o s e src → Leads o s (build (end_all ending ws e.built) e) src
+leads_ends o s e ending ws src f below m =
+    let b : Built = end_all ending ws e.built in
+    let l : Later e.built.draft b.draft = later_end_all ending ws e.built below in
+    let same : b.draft.steps ≡ e.built.draft.steps = ends_steps ending ws e.built in
+    record {
+      new = m.new;
+      grown = same ∙ m.grown;
+      wires = omega (arith, m.wires, l.longer);
+      setting = m.setting;
+      blanks = λ w h. m.blanks w (later_blank e.built.draft b.draft l f w h).0;
+      leaves = m.leaves;
+      told = m.told;
+      still = m.still;
+      gives = λ u t r on.
+          both_weak (Related e) (Related (build b e))
+          (λ z y q. record {
+            clean = λ w h. q.clean w (later_blank e.built.draft b.draft l f w h).0;
+            env = q.env;
+            values = q.values;
+            callers = q.callers;
+            eighths = q.eighths;
+            halvings = q.halvings;
+            measured = ap count_measures same ∙ q.measured;
+          }) (do_steps o m.new (u ∷ [])) (src t) (m.gives u t r on);
+    }
+
+-- ---- claims
+
+-- what the variable shows is undone, and it shows nothing more
+abbrev pub without_name : NameId → Flattening → Flattening
+without_name x s = record s { env = in_its_block s.env x absent }
+
+pub leads_claim : (o : Outcome) (x : NameId) (s : Flattening) → Good s → MayClaim x s → Leads o s (without_name x (zero_variable (known_in s x) (last s) s)) (λ t. t ∷ [])
+leads_claim o x s g may = go (known_in s x) refl may (known_name (IsKnown (length s.built.draft.wires)) s x tt g.known)
+  where
+    go : (k : Known) → known_in s x ≡ k → IsOf (λ v. IsOf (λ w. w.shape ≡ v.shape) (typed_like 0 (shown v) (last s)) × (are_wires v.operands ≡ true) × MayChange (wires_in v.operands) s (record s { env = in_its_block s.env x absent })) k → IsKnown (length s.built.draft.wires) k → Leads o s (without_name x (zero_variable k (last s) s)) (λ t. t ∷ [])
+    go (static z) e p q = absurd p
+    go (lent a c v) e p q = absurd p
+    go absent e p q = absurd p
+    go (shown v) e p q =
+        let n : ℕ = length s.built.draft.wires in
+        let ws : List WireId = wires_in v.operands in
+        let like : Known = typed_like 0 (shown v) (last s) in
+        let ops : List Operand = operands_of like in
+        let b : Built = flip_each s.setting ws ops s.built in
+        let T : Targets = among ws in
+        let m : MayChange ws s (without_name x s) = p.2 in
+        let last_known : IsKnown n (last s) = known_last (IsKnown n) s tt g.known in
+        let last_spared : Spares T (last s) = known_last (Spares T) (without_name x s) (absent_spared T) m.spared in
+        let size : length ws ≡ length ops = length-in v.operands p.1 ∙ (q.size ∙ sym (size_of n v.shape like (typed_like_known n 0 (shown v) (last s) last_known) p.0)) in
+        let below : Below n ws = targets_below s.built.draft ws m.targets in
+        let r : Does s.setting s.built.draft b.draft T (λ y z. values_at z ws ≡ flip_bits (values_at y ws) (bits_at y ops)) =
+        flip_each_does s.setting ws ops s.built g.fresh size below (distinct_different ws m.distinct) m.condition (typed_like_safe n 0 T (shown v) (last s) last_known last_spared) in
+        let known : AllKnown (IsKnown n) (without_name x s) = known_its (IsKnown n) x absent s tt g.known in
+        let e1 : Flattening = without_name x (build b s) in
+        leads_ends o s e1 Zeroed ws (λ t. t ∷ []) (does_fresh r g.fresh) (below_more n (length b.draft.wires) ws (does_grown r) below)
+        (leads_row o s e1 T (λ y z. values_at z ws ≡ flip_bits (values_at y ws) (bits_at y ops)) (λ t. t) r m.condition refl (λ t. (refl, refl, refl))
+        (λ u t y re ag t'.
+        let a : AllShow y (without_name x s) t = all_show_after n T y u.row (without_name x s) t ag known m.spared (all_show_its u.row x absent s t tt (related_shows s u t re)) in
+        record { env = a.env; values = a.values; callers = a.callers }))
