@@ -315,3 +315,21 @@ its_right S a d b xs ys x h s = subst (λ zs. EnvBoth S zs (in_its_block ys x b)
 pub bound_right : {A B : Type 0} (S : A → B → Type 0) (a d : A) (b : B) (xs : Env A) (ys : Env B) (x : NameId) → EnvBoth S (in_its_block xs x a) ys → is_in_reach xs x ≡ true → S (found d xs x) b → EnvBoth S xs (bound ys x b)
 bound_right S a d b xs ys x h r s =
     subst (EnvBoth S xs) (sym (bound_in_reach S (in_its_block xs x a) ys x b h (reach_kept xs x x a ∙ r))) (its_right S a d b xs ys x h s)
+
+-- ---- a variable shows what it was bound to
+
+block_found : {A : Type 0} (vs : Block A) (x : NameId) (a d : A) → is_in_block vs x ≡ true → in_block d (block_with vs x a) x ≡ a
+block_found [] x a d h = absurd (grind (arith, h))
+block_found (v ∷ vs) x a d h = pick (same_name v.0 x) refl h (block_found vs x a d)
+  where
+    pick : (t : Bool) → (same_name v.0 x) ≡ t → (t || is_in_block vs x) ≡ true → (is_in_block vs x ≡ true → in_block d (block_with vs x a) x ≡ a) → in_block d (cond t ((v.0, a) ∷ vs) (v ∷ block_with vs x a)) x ≡ a
+    pick true e k ih = ap (λ b. cond b a (in_block d vs x)) e
+    pick false e k ih = ap (λ b. cond b v.1 (in_block d (block_with vs x a) x)) e ∙ ih k
+
+pub its_found : {A : Type 0} (xs : Env A) (x : NameId) (a d : A) → is_in_reach xs x ≡ true → found d (in_its_block xs x a) x ≡ a
+its_found [] x a d h = absurd (grind (arith, h))
+its_found (b ∷ bs) x a d h = pick (is_in_block b x) refl h (its_found bs x a d)
+  where
+    pick : (t : Bool) → is_in_block b x ≡ t → (t || is_in_reach bs x) ≡ true → (is_in_reach bs x ≡ true → found d (in_its_block bs x a) x ≡ a) → found d (cond t (block_with b x a ∷ bs) (b ∷ in_its_block bs x a)) x ≡ a
+    pick true e k ih = ap (λ z. cond z (in_block d (block_with b x a) x) (found d bs x)) (block_in b x a e) ∙ block_found b x a d e
+    pick false e k ih = ap (λ z. cond z (in_block d b x) (found d (in_its_block bs x a) x)) e ∙ ih k

@@ -414,15 +414,15 @@ goes_back s (c ∷ cs) g k w =
 
 -- ---- updates and claims
 
-below_targets : (d : DraftForm) (ws : List WireId) → AreTargets d ws → Below (length d.wires) ws
+pub below_targets : (d : DraftForm) (ws : List WireId) → AreTargets d ws → Below (length d.wires) ws
 below_targets d [] h = tt
 below_targets d (w ∷ ws) h = (h.0.0, below_targets d ws h.1)
 
-different_wires : (ws : List WireId) → Distinct ws → Different ws
+pub different_wires : (ws : List WireId) → Distinct ws → Different ws
 different_wires [] h = tt
 different_wires (w ∷ ws) h = (h.0, different_wires ws h.1)
 
-last_spared : (T : Targets) (rest : Flattening) → AllKnown (Spares T) rest → Spares T (last rest)
+pub last_spared : (T : Targets) (rest : Flattening) → AllKnown (Spares T) rest → Spares T (last rest)
 last_spared T rest h = known_last (Spares T) rest (λ w t. refl) h
 
 later_update : (op : UpdateOp) (at : Setting) (ws : List WireId) (ps : List Operand) (b : Built) → Fresh b.draft → length ws ≡ length ps → Below (length b.draft.wires) ws → Different ws → Guards at (length b.draft.wires) (among ws) → AllSafe (length b.draft.wires) (among ws) ps → Later b.draft (update_by op at ws ps b).draft

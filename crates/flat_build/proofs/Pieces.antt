@@ -1,6 +1,7 @@
 -- Parts of lists: what stands from a place on, so much, and what stands outside it.
-use Rattle.std.proofs.Common.{◌≡◌, ◌⊎◌, inl, inr, ℕ, ◌+◌, ◌-◌, ◌≤◌, List, ◌++◌, length, map, take, drop, ℤ, sym, ap, ap₂, ◌∙◌, subst, arith, append_assoc, length-append, length-drop}
-use Rattle.std.proofs.lemmas.List.{map-append, take-map, drop-map, take_at, drop_at, length-take-le, drop-append-le, take-take, drop-drop, drop-take, take-append-drop}
+use Rattle.std.proofs.Common.{◌≡◌, ◌⊎◌, inl, inr, ℕ, ◌+◌, ◌-◌, ◌≤◌, ◌<◌, List, ◌++◌, length, map, take, drop, ℤ, sym, ap, ap₂, ◌∙◌, subst, arith, append_assoc, length-append, length-drop}
+use Rattle.std.proofs.lemmas.Bool.{cases_lt}
+use Rattle.std.proofs.lemmas.List.{append-nil, take_all, drop_all, map-append, take-map, drop-map, take_at, drop_at, length-take-le, drop-append-le, take-take, drop-drop, drop-take, take-append-drop}
 use Rattle.std.proofs.Math.Seq.{take-add}
 use Rattle.silq_types.specs.declared.types.Shape.{Shape}
 use Rattle.silq_types.specs.Types.{shape_bits}
@@ -60,6 +61,17 @@ same_apart {A = A} start size at count xs ys h l (inr b) e = sym (front xs) ∙ 
         let k : at + (start - at) ≡ start = omega arith in
         ap (λ n. take count (drop at (take n zs))) (sym k)
         ∙ (ap (take count) (drop-take at (start - at) zs) ∙ take-take count (start - at) (drop at zs) (omega arith))
+
+-- past the end there is no part
+past_end : {A : Type 0} (start size : ℕ) (xs : List A) → length xs ≤ start → outside start size xs ≡ xs
+past_end start size xs h = ap₂ ◌++◌ (take_all start xs h) (drop_all (start + size) xs (omega arith)) ∙ append-nil xs
+
+pub same_apart_from : {A : Type 0} (start size at count : ℕ) (xs ys : List A) → length xs ≡ length ys → (start + size ≤ at) ⊎ (at + count ≤ start) → outside start size xs ≡ outside start size ys → take count (drop at xs) ≡ take count (drop at ys)
+same_apart_from start size at count xs ys l d e = pick (cases_lt (length xs) start)
+  where
+    pick : (length xs < start) ⊎ (start ≤ length xs) → take count (drop at xs) ≡ take count (drop at ys)
+    pick (inr h) = same_apart start size at count xs ys h l d e
+    pick (inl h) = ap (λ zs. take count (drop at zs)) (sym (past_end start size xs (omega arith)) ∙ (e ∙ past_end start size ys (omega (arith, l, h))))
 
 -- ---- a part replaced
 

@@ -23,7 +23,8 @@ use Rattle.flat_build.specs.Flat.{shape_by, shape_by_one, array_of, as_operand, 
 use Rattle.flat_build.specs.Fine.{IsOf, FitsOne, FitsTwo, IsUpdated}
 use Rattle.flat_build.specs.Shows.{HasShape, Shows}
 use Rattle.flat_build.proofs.Numbers.{modulo_below, modulus_pos}
-use Rattle.flat_build.proofs.Pieces.{outside_map, part_map, with_map, same_apart, replaced, replaced_same, replaced_by}
+use Rattle.flat_build.proofs.Pieces.{outside_map, part_map, with_map, same_apart_from, replaced, replaced_same, replaced_by}
+pub use Rattle.flat_build.proofs.Kept.{shows_lent}
 use Rattle.flat_build.proofs.Bits.{bits_length, IsThere, part_holds, part_bits, with_holds, with_bits_is}
 use Rattle.flat_build.proofs.Operators.{OneBits, TwoBits, UpdateBits, HasBits, one_gives, two_gives, update_gives, equal_one, repeat_gives, truth_holds, truth_bits, one_bits}
 
@@ -178,22 +179,22 @@ shows_part v n need is a w t h =
     (part_holds a.shape w is h.0, part_map (bit_of v) a.shape is a.operands ∙ (ap (part_of a.shape is) h.1 ∙ sym (part_bits a.shape w is h.0 t)))
 
 -- also of a variable with a lent part, if it has nothing of that part
-pub shows_rest : (v : Row) (n : ℕ) (need : Need) (is : List ℤ) (start size : ℕ) (a : Shown) (w : Value) → length a.operands ≡ shape_bits a.shape → start ≤ length a.operands → IsThere a.shape is
+pub shows_apart : (v : Row) (n : ℕ) (need : Need) (is : List ℤ) (start size : ℕ) (a : Shown) (w : Value) → length a.operands ≡ shape_bits a.shape → IsThere a.shape is
     → (start + size ≤ part_start a.shape is) ⊎ (part_start a.shape is + shape_bits (part_shape a.shape is) ≤ start) → Shows v (lent start size a) w → Shows v (part_used n need is a) (part w is)
-shows_rest v n need is start size a w l b t d h =
+shows_apart v n need is start size a w l t d h =
     let m : length (bits_at v a.operands) ≡ length (bits_of w) = length-bits v a.operands ∙ (l ∙ sym (bits_length a.shape w h.0)) in
-    let c : start ≤ length (bits_at v a.operands) = subst (λ i. start ≤ i) (sym (length-bits v a.operands)) b in
     let e : outside start size (bits_at v a.operands) ≡ outside start size (bits_of w) = sym (outside_map (bit_of v) start size a.operands) ∙ h.1 in (
       part_holds a.shape w is h.0,
       part_map (bit_of v) a.shape is a.operands
-          ∙ (same_apart start size (part_start a.shape is) (shape_bits (part_shape a.shape is)) (bits_at v a.operands) (bits_of w) c m d e
+          ∙ (same_apart_from start size (part_start a.shape is) (shape_bits (part_shape a.shape is)) (bits_at v a.operands) (bits_of w) m d e
           ∙ sym (part_bits a.shape w is h.0 t)),
     )
 
--- what is known of a variable knows it also with a part lent
-pub shows_lent : (v : Row) (start size : ℕ) (a : Shown) (w : Value) → Shows v (shown a) w → Shows v (lent start size a) w
-shows_lent v start size a w h = (h.0, outside_map (bit_of v) start size a.operands ∙ ap (outside start size) h.1)
+pub shows_rest : (v : Row) (n : ℕ) (need : Need) (is : List ℤ) (start size : ℕ) (a : Shown) (w : Value) → length a.operands ≡ shape_bits a.shape → start ≤ length a.operands → IsThere a.shape is
+    → (start + size ≤ part_start a.shape is) ⊎ (part_start a.shape is + shape_bits (part_shape a.shape is) ≤ start) → Shows v (lent start size a) w → Shows v (part_used n need is a) (part w is)
+shows_rest v n need is start size a w l b t d h = shows_apart v n need is start size a w l t d h
 
+-- what is known of a variable that was moved, or a part of it
 pub shows_moved : (v : Row) (is : List ℤ) (a : Shown) (w : Value) → Shows v (shown a) w → Shows v (moved is a) w
 shows_moved v [] a w h = tt
 shows_moved v (i ∷ is) a w h = shows_lent v (part_start a.shape (i ∷ is)) (shape_bits (part_shape a.shape (i ∷ is))) a w h
