@@ -11,6 +11,7 @@ use Rattle.silq_types.specs.declared.types.Shape.{Shape}
 use Rattle.silq_types.specs.declared.types.Shape.TheVariants.{Bit, UInt, Int, Array}
 use Rattle.silq_types.specs.Types.{single_shape, scalar_bits, shape_bits}
 use Rattle.silq_mean.specs.Value.{Value, whole, single, array, gone, modulus, bits_of, low_bits, with_digit, digit_part, part, with_digit_part, with_part, number_in}
+use Rattle.flat_build.specs.Fine.{IndexFits}
 use Rattle.flat_build.specs.State.{part_shape, part_start, part_of, with_part as with_bits_of_part}
 use Rattle.flat_build.specs.Names.{AllOf}
 use Rattle.flat_build.specs.Shows.{HasShape}
@@ -90,10 +91,6 @@ number_bits k x h = ap bits_of (number_is k x h)
 
 -- ---- parts
 
--- an index of an item leads to one of its bits
-abbrev pub IndexFits : Shape → List ℤ → Type 0
-IndexFits (Array k n) (i ∷ j ∷ is) = nat_abs j < scalar_bits k
-IndexFits s is = ⊤
 
 -- indices lead to a part of each value of a type
 pub record IsThere (s : Shape) (is : List ℤ) : Type 0 where

@@ -31,7 +31,7 @@ use Rattle.bit_arith.proofs.Tidying.{flip_does}
 use Rattle.bit_arith.proofs.Carrying.{add_into_does, sub_into_does}
 use Rattle.bit_arith.proofs.Phases.{turn_does}
 use Rattle.flat_build.specs.State.{Shown, Known, static, shown, lent, absent, Caller, Flattening, push, last, drop_last, wires_so_far, build, operands_of, typed, typed_as, typed_like, part_shape, part_of, with_part, are_wires, copied, taken, kept, wires_in, only_wire, only_operand}
-use Rattle.flat_build.specs.Flat.{give, on_one, on_two, on_two_typed, began_at, as_operand, by_one, by_two, shape_by, shape_by_one, give_copy, give_repeated, array_of, repeated, on_wire, on_last_wire, turn_both, end_all, measure_all, measure_value, shape_for, taken_for, class_for, receive_value, bind, known_in, part_used, use_part, moved, after_use, use_variable, assigned, update_by, update_variable, zero_variable, enter, back_to, flat_step, count_statement, on_line, as_condition, entered, enter_branch, chosen_by, first_branch, second_branch, flat, under as with_condition}
+use Rattle.flat_build.specs.Flat.{without_name, give, on_one, on_two, on_two_typed, began_at, as_operand, by_one, by_two, shape_by, shape_by_one, give_copy, give_repeated, array_of, repeated, on_wire, on_last_wire, turn_both, end_all, measure_all, measure_value, shape_for, taken_for, class_for, receive_value, bind, known_in, part_used, use_part, moved, after_use, use_variable, assigned, update_by, update_variable, zero_variable, enter, back_to, flat_step, count_statement, on_line, as_condition, entered, enter_branch, chosen_by, first_branch, second_branch, flat, under as with_condition}
 use Rattle.flat_build.specs.Names.{AllOf, AllEnv, CallerOf, AllKnown, Spares}
 use Rattle.flat_build.specs.Good.{IsShown, IsKnown, IsOwned, Owned, Good}
 use Rattle.flat_build.specs.Fine.{Distinct, IsOf, IsPart, MayChange, MayTake, MayTurn, MayMeasure, without_part, UpdatesPart, MayUpdate, MayClaim, FitsOne, FitsTwo, MayJoin, IsStatic, IsAny, IsTaken, WasLent, IsLent, MayAssign, MayUse, FineStep, Fine}
@@ -453,7 +453,7 @@ goes_update x is op s g f =
     (goes_drop (update_variable (known_in s x) is op (last s) s) q.good)
 
 goes_claim_known : (k : Known) (x : NameId) (s : Flattening) → Good s → IsKnown (length s.built.draft.wires) k
-    → IsOf (λ v. IsOf (λ w. w.shape ≡ v.shape) (typed_like 0 (shown v) (last s)) × (are_wires v.operands ≡ true) × MayChange (wires_in v.operands) s (record s { env = in_its_block s.env x absent })) k → Goes s (zero_variable k (last s) s)
+    → IsOf (λ v. IsOf (λ w. w.shape ≡ v.shape) (typed_like 0 (shown v) (last s)) × (are_wires v.operands ≡ true) × MayChange (wires_in v.operands) s (without_name x s)) k → Goes s (zero_variable k (last s) s)
 goes_claim_known (static z) x s g h f = absurd f
 goes_claim_known (lent start size v) x s g h f = absurd f
 goes_claim_known absent x s g h f = absurd f
@@ -468,19 +468,26 @@ goes_claim_known (shown v) x s g h f =
     let b1 : Built = flip_each s.setting ws ps s.built in
     let q : Later s.built.draft b1.draft =
     later_does (flip_each_does s.setting ws ps s.built g.fresh e be (different_wires ws f.2.distinct) f.2.condition
-    (typed_like_safe n 0 (among ws) (shown v) (last s) (last_known s g) (last_spared (among ws) (record s { env = in_its_block s.env x absent }) f.2.spared))) in
+    (typed_like_safe n 0 (among ws) (shown v) (last s) (last_known s g) (last_spared (among ws) (without_name x s) f.2.spared))) in
     goes_build (end_all Zeroed ws b1) s g
     (later_then s.built.draft b1.draft (end_all Zeroed ws b1).draft q (later_end_all Zeroed ws b1 (below_more n (length b1.draft.wires) ws q.longer be)))
 
-pub goes_claim : (x : NameId) (s : Flattening) → Good s → MayClaim x s → Goes s (zero_variable (known_in s x) (last s) s)
-goes_claim x s g f = goes_claim_known (known_in s x) x s g (name_known s x g) f
+goes_without : (x : NameId) (s : Flattening) → Good s → Goes s (without_name x s)
+goes_without x s g =
+    goes_still s (without_name x s) g refl refl (known_its (IsKnown (length s.built.draft.wires)) x absent s tt g.known)
+    (record { env = its_all IsOwned s.env x absent tt g.owned.env; callers = g.owned.callers })
+
+pub goes_claim : (x : NameId) (s : Flattening) → Good s → MayClaim x s → Goes s (without_name x (zero_variable (known_in s x) (last s) s))
+goes_claim x s g f =
+    let t : Flattening = zero_variable (known_in s x) (last s) s in
+    let q : Goes s t = goes_claim_known (known_in s x) x s g (name_known s x g) f in goes_then s t (without_name x t) q (goes_without x t q.good)
 
 -- ---- steps
 
 pub goes_step : (st : Step) (s : Flattening) → Good s → FineStep st s → Goes s (flat_step st s)
 goes_step (give_static z) s g f = goes_push (static z) s g tt
 goes_step (give_typed k z) s g f = goes_push (typed (wires_so_far s) k z) s g (typed_known (length s.built.draft.wires) (wires_so_far s) k z)
-goes_step (give_part need x is) s g f = goes_use need x is s g f
+goes_step (give_part need x is) s g f = goes_use need x is s g f.0
 goes_step (one_operand op) s g f =
     let d : Goes s (drop_last s) = goes_drop s g in
     goes_then s (drop_last s) (on_one op (last s) (drop_last s)) d (goes_one op (last s) (drop_last s) d.good (last_known s g) f)
@@ -500,15 +507,15 @@ goes_step repeat_last s g f =
     (goes_then (drop_last s) (drop_last (drop_last s)) (flat_step repeat_last s) e
     (goes_repeated (last (drop_last s)) (last s) (drop_last (drop_last s)) e.good (last_known s g) f))
 goes_step flip_last s g f = goes_gate (λ at w b. flip at w [] b) (λ at w b x lt c u. later_flip at w b x lt u) s g f
-goes_step (turn_by k l) s g f = goes_gate (turn_both k l) (later_turn_both k l) s g f
+goes_step (turn_by k l) s g f = goes_gate (turn_both k l) (later_turn_both k l) s g f.0
 goes_step (turn_all k) s g f = goes_turn_all k s g
 goes_step (receive r) s g f =
     let d : Goes s (drop_last s) = goes_drop s g in
     goes_then s (drop_last s) (receive_value r (shape_for r (last s)) (drop_last s)) d
     (goes_receive r (shape_for r (last s)) (drop_last s) d.good (shape_for_known (length s.built.draft.wires) r (last s) (last_known s g)) f)
-goes_step (assign_to x is) s g f = goes_assign x is s g f
+goes_step (assign_to x is) s g f = goes_assign x is s g f.0
 goes_step (assign_in_turn xs) s g f = goes_in_turn xs s g f
-goes_step (update_to x is op) s g f = goes_update x is op s g f
+goes_step (update_to x is op) s g f = goes_update x is op s g f.0
 goes_step (end_name x) s g f = goes_end x s g
 goes_step (end_compared x) s g f = goes_end_compared x s g
 goes_step enter_block s g f = goes_enter_block s g

@@ -19,10 +19,10 @@ use Rattle.flat_mean.specs.Terms.{Term as WireTerm}
 use Rattle.flat_build.specs.State.{Shown, Known, static, shown, lent, absent, Caller, Flattening, first, last, drop_last, operands_of, part_shape, part_start, typed, wires_so_far, outside, with_part as with_bits_of_part}
 use Rattle.flat_build.specs.Flat.{flat, flat_step, known_in, use_part, after_use, moved, part_used, assigned, bind_all, paired, enter, back_to}
 use Rattle.flat_build.specs.Good.{Good, IsShown, IsKnown}
-use Rattle.flat_build.specs.Fine.{IsOf, IsTaken, IsPart, WasLent, IsLent, MayAssign, MayUse}
+use Rattle.flat_build.specs.Fine.{IsOf, IsTaken, IsPart, IndexFits, FitsIndex, WasLent, IsLent, MayAssign, MayUse}
 use Rattle.flat_build.specs.Shows.{Shows, ListBoth, Entry, EnvBoth, CallerShows, Related}
 use Rattle.flat_build.proofs.Both.{both_take, both_drop_more, both_drop, both_reverse, both_append, found_both, bound_both, its_left}
-use Rattle.flat_build.proofs.Bits.{bits_length, IndexFits, IsThere}
+use Rattle.flat_build.proofs.Bits.{bits_length, IsThere}
 use Rattle.flat_build.proofs.Kept.{known_last, known_name, AllShow}
 use Rattle.flat_build.proofs.Showing.{shows_typed, shows_part, shows_rest, shows_moved, shows_put}
 use Rattle.flat_build.proofs.Compose.{Leads, leads_named}
@@ -51,13 +51,6 @@ leads_give_typed o k z s =
     (λ u t r. related_by s (flat_step (give_typed k z) s) u t (record t { values = typed_value k z ∷ t.values }) refl r (record { env = r.env; values = (shows_typed u.row (wires_so_far s) k z, r.values); callers = r.callers }) refl refl refl)
 
 -- ---- uses of variables
-
--- the indices of a use lead to bits of items
-abbrev pub FitsIndex : List ℤ → Known → Type 0
-FitsIndex is (static z) = ⊤
-FitsIndex is (shown v) = IndexFits v.shape is
-FitsIndex is (lent start size v) = IndexFits v.shape is
-FitsIndex is absent = ⊤
 
 pub is_there : (n : ℕ) (v : Shown) (is : List ℤ) → IsShown n v → IsPart v is → IndexFits v.shape is → IsThere v.shape is
 is_there n v is q p f = record { within = subst (λ m. part_start v.shape is + shape_bits (part_shape v.shape is) ≤ m) q.size p; fits = f }

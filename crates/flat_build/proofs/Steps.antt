@@ -15,8 +15,8 @@ use Rattle.bit_arith.proofs.Steps.{label-append}
 use Rattle.flat_build.specs.State.{Known, static, shown, lent, absent, Flattening, last, only_operand, operands_of}
 use Rattle.flat_build.specs.Flat.{flat, known_in, count_statement, on_line, chosen_by, first_branch, second_branch, zero_variable}
 use Rattle.flat_build.specs.Good.{Good, IsKnown}
-use Rattle.flat_build.specs.Fine.{Fine, FineStep, FineEnds, Keeps, MayAssign}
-use Rattle.flat_build.specs.Laws.{Follows}
+use Rattle.flat_build.specs.Fine.{Fine, FineStep, FineEnds, Keeps, KeepsAll, MayAssign}
+use Rattle.flat_build.specs.Laws.{EffectsFollow, Follows}
 use Rattle.flat_build.proofs.Kept.{known_last}
 use Rattle.flat_build.proofs.Giving.{only_safe}
 use Rattle.flat_build.proofs.Later.{later_then}
@@ -26,77 +26,35 @@ use Rattle.flat_build.proofs.Choice.{leads_choice}
 use Rattle.flat_build.proofs.Gates.{choice_bit}
 use Rattle.flat_build.proofs.Turning.{leads_flip_last, leads_turn_by, leads_turn_all, leads_mix}
 use Rattle.flat_build.proofs.Measuring.{leads_measure}
-use Rattle.flat_build.proofs.Naming.{FitsIndex, leads_give_static, leads_give_typed, leads_give_part, leads_assign_to, leads_assign_in_turn, leads_end_name, leads_end_compared, leads_enter_block, leads_leave_block, leads_enter_body, leads_leave_body}
+use Rattle.flat_build.proofs.Naming.{leads_give_static, leads_give_typed, leads_give_part, leads_assign_to, leads_assign_in_turn, leads_end_name, leads_end_compared, leads_enter_block, leads_leave_block, leads_enter_body, leads_leave_body}
 use Rattle.flat_build.proofs.Valuing.{leads_one_operand, leads_two_operands, leads_copy_last, leads_repeat_last, leads_receive}
-use Rattle.flat_build.proofs.Updating.{without_name, leads_update_to, leads_claim}
+use Rattle.flat_build.proofs.Updating.{leads_update_to, leads_claim}
 
 -- ---- what is needed beside `Fine`
 
--- eighths below a full turn, and bits of items that are there
-abbrev pub AlsoStep : Step → Flattening → Type 0
-AlsoStep (turn_by k l) s = (k < 8) × (l < 8)
-AlsoStep (turn_all k) s = k < 8
-AlsoStep (give_part need x is) s = FitsIndex is (known_in s x)
-AlsoStep (assign_to x is) s = FitsIndex is (known_in s x)
-AlsoStep (update_to x is op) s = FitsIndex is (known_in s x)
-AlsoStep (give_static z) s = ⊤
-AlsoStep (give_typed k z) s = ⊤
-AlsoStep (one_operand op) s = ⊤
-AlsoStep (two_operands op) s = ⊤
-AlsoStep copy_last s = ⊤
-AlsoStep repeat_last s = ⊤
-AlsoStep flip_last s = ⊤
-AlsoStep (receive r) s = ⊤
-AlsoStep (assign_in_turn xs) s = ⊤
-AlsoStep (end_name x) s = ⊤
-AlsoStep (end_compared x) s = ⊤
-AlsoStep enter_block s = ⊤
-AlsoStep leave_block s = ⊤
-AlsoStep (enter_body xs) s = ⊤
-AlsoStep leave_body s = ⊤
-
--- no step of a branch changes the wire of the condition in force outside it
-abbrev pub KeepsAll : Option Operand → Flattening → Flattening → Type 0
-KeepsAll None s u = ⊤
-KeepsAll (Some p) s u = Keeps p s u
-
--- what a claim undoes is known no more
-abbrev pub Also : Effect → Flattening → Type 0
-Also nothing s = ⊤
-Also (a >> b) s = Also a s × Also b (flat a s)
-Also (statement line e) s = Also e (on_line line (count_statement s))
-Also (step st) s = AlsoStep st s
-Also mix s = ⊤
-Also measured s = ⊤
-Also (claim line x) s = without_name x (zero_variable (known_in s x) (last s) s) ≡ flat (claim line x) s
-Also (choice a b) s =
-    let first = first_branch s in
-    let second = second_branch (flat a first) s in
-    Also a first × Also b second × KeepsAll s.setting.condition first (flat a first) × KeepsAll s.setting.condition second (flat b second)
-
 -- ---- steps
 
-pub leads_step : (o : Outcome) (st : Step) (s : Flattening) → Good s → FineStep st s → AlsoStep st s → Leads o s (flat (step st) s) (follow o (step st))
-leads_step o (give_static z) s g f a = leads_give_static o z s
-leads_step o (give_typed k z) s g f a = leads_give_typed o k z s
-leads_step o (give_part need x is) s g f a = leads_give_part o need x is s g f a
-leads_step o (one_operand op) s g f a = leads_one_operand o op s g f
-leads_step o (two_operands op) s g f a = leads_two_operands o op s g f
-leads_step o copy_last s g f a = leads_copy_last o s g f
-leads_step o repeat_last s g f a = leads_repeat_last o s g f.0 f.1
-leads_step o flip_last s g f a = leads_flip_last o s g f
-leads_step o (turn_by k l) s g f a = leads_turn_by o k l s a.0 a.1 g f
-leads_step o (turn_all k) s g f a = leads_turn_all o k s a g
-leads_step o (receive r) s g f a = leads_receive o r s g f
-leads_step o (assign_to x is) s g f a = leads_assign_to o x is s g f a
-leads_step o (assign_in_turn xs) s g f a = leads_assign_in_turn o xs s
-leads_step o (update_to x is op) s g f a = leads_update_to o x is op s g f a
-leads_step o (end_name x) s g f a = leads_end_name o x s
-leads_step o (end_compared x) s g f a = leads_end_compared o x s
-leads_step o enter_block s g f a = leads_enter_block o s
-leads_step o leave_block s g f a = leads_leave_block o s
-leads_step o (enter_body xs) s g f a = leads_enter_body o xs s
-leads_step o leave_body s g f a = leads_leave_body o s
+pub leads_step : (o : Outcome) (st : Step) (s : Flattening) → Good s → FineStep st s → Leads o s (flat (step st) s) (follow o (step st))
+leads_step o (give_static z) s g f = leads_give_static o z s
+leads_step o (give_typed k z) s g f = leads_give_typed o k z s
+leads_step o (give_part need x is) s g f = leads_give_part o need x is s g f.0 f.1
+leads_step o (one_operand op) s g f = leads_one_operand o op s g f
+leads_step o (two_operands op) s g f = leads_two_operands o op s g f
+leads_step o copy_last s g f = leads_copy_last o s g f
+leads_step o repeat_last s g f = leads_repeat_last o s g f.0 f.1
+leads_step o flip_last s g f = leads_flip_last o s g f
+leads_step o (turn_by k l) s g f = leads_turn_by o k l s f.1 f.2 g f.0
+leads_step o (turn_all k) s g f = leads_turn_all o k s f g
+leads_step o (receive r) s g f = leads_receive o r s g f
+leads_step o (assign_to x is) s g f = leads_assign_to o x is s g f.0 f.1
+leads_step o (assign_in_turn xs) s g f = leads_assign_in_turn o xs s
+leads_step o (update_to x is op) s g f = leads_update_to o x is op s g f.0 f.1
+leads_step o (end_name x) s g f = leads_end_name o x s
+leads_step o (end_compared x) s g f = leads_end_compared o x s
+leads_step o enter_block s g f = leads_enter_block o s
+leads_step o leave_block s g f = leads_leave_block o s
+leads_step o (enter_body xs) s g f = leads_enter_body o xs s
+leads_step o leave_body s g f = leads_leave_body o s
 
 -- ---- choices
 
@@ -123,31 +81,31 @@ chosen_safe s g = go (last s) (known_last (IsKnown (length s.built.draft.wires))
 
 -- ---- effects
 
-pub leads_flat : (o : Outcome) (e : Effect) (s : Flattening) → Good s → Owned s → Fine e s → Also e s → Leads o s (flat e s) (follow o e)
-leads_flat o nothing s g w f a = leads_nothing o s
-leads_flat o (d >> e) s g w f a =
-    let q : Goes s (flat d s) = goes_flat d s g w f.0 in
-    leads_then o s (flat d s) (flat e (flat d s)) (follow o d) (follow o e) (leads_flat o d s g w f.0 a.0) (leads_flat o e (flat d s) q.good q.owned f.1 a.1)
-leads_flat o (statement line e) s g w f a =
-    leads_statement o line e s (leads_flat o e (on_line line (count_statement s)) (good_statement line s g) (record { env = w.env; callers = w.callers }) f a)
-leads_flat o (step st) s g w f a = leads_step o st s g f a
-leads_flat o mix s g w f a = leads_mix o s g f
-leads_flat o measured s g w f a = leads_measure o s g f
-leads_flat o (claim line x) s g w f a = subst (λ u. Leads o s u (follow o (claim line x))) a (leads_claim o x s g f)
-leads_flat o (choice d e) s g w f a =
+pub leads_flat : (o : Outcome) (e : Effect) (s : Flattening) → Good s → Fine e s → Leads o s (flat e s) (follow o e)
+leads_flat o nothing s g f = leads_nothing o s
+leads_flat o (d >> e) s g f =
+    let q : Goes s (flat d s) = goes_flat d s g f.0 in
+    leads_then o s (flat d s) (flat e (flat d s)) (follow o d) (follow o e) (leads_flat o d s g f.0) (leads_flat o e (flat d s) q.good f.1)
+leads_flat o (statement line e) s g f =
+    leads_statement o line e s (leads_flat o e (on_line line (count_statement s)) (good_statement line s g) f)
+leads_flat o (step st) s g f = leads_step o st s g f
+leads_flat o mix s g f = leads_mix o s g f
+leads_flat o measured s g f = leads_measure o s g f
+leads_flat o (claim line x) s g f = leads_claim o x s g f
+leads_flat o (choice d e) s g f =
     let first : Flattening = first_branch s in
     let one : Flattening = flat d first in
     let second : Flattening = second_branch one s in
     let two : Flattening = flat e second in
-    let p = goes_first s g w in
-    let q : Goes first one = goes_flat d first p.good p.owned f.1 in
-    let r = goes_second s one g w (later_then s.built.draft first.built.draft one.built.draft p.later q.later) in
-    let m : Leads o first one (follow o d) = leads_flat o d first p.good p.owned f.1 a.0 in
-    let n : Leads o second two (follow o e) = leads_flat o e second r.good r.owned f.2 a.1 in
+    let p = goes_first s g in
+    let q : Goes first one = goes_flat d first p.good f.1 in
+    let r = goes_second s one g (later_then s.built.draft first.built.draft one.built.draft p.later q.later) in
+    let m : Leads o first one (follow o d) = leads_flat o d first p.good f.1 in
+    let n : Leads o second two (follow o e) = leads_flat o e second r.good f.2 in
     leads_choice o s one two (chosen_by s) (follow o d) (follow o e) g q.good (chosen_safe s g) (choice_bit s g f.0) m n
     (keeps_leaves (chosen_by s) first one m.new m.grown f.3.kept)
-    (keeps_all s.setting.condition first one m.new m.grown a.2)
-    (keeps_all s.setting.condition second two n.new n.grown a.3) f.3.same
+    (keeps_all s.setting.condition first one m.new m.grown f.3.outer_first)
+    (keeps_all s.setting.condition second two n.new n.grown f.3.outer_second) f.3.same
 
-pub follows_flat : (o : Outcome) (e : Effect) (s : Flattening) → Good s → Owned s → Fine e s → Also e s → Follows o e s
-follows_flat o e s g w f a = follows_by o e s (goes_flat e s g w f).good (leads_flat o e s g w f a)
+pub effects_follow : EffectsFollow
+effects_follow o e s g f = follows_by o e s (goes_flat e s g f).good (leads_flat o e s g f)

@@ -27,16 +27,16 @@ use Rattle.bit_arith.proofs.Doing.{does_fresh, does_grown}
 use Rattle.bit_arith.proofs.Listed.{below_more}
 use Rattle.bit_arith.proofs.Making.{bits_made, flip_bits, flip_each_does}
 use Rattle.flat_build.specs.State.{Shown, Known, static, shown, lent, absent, Flattening, last, drop_last, build, operands_of, typed_as, typed_like, part_shape, part_start, part_of, are_wires, wires_in}
-use Rattle.flat_build.specs.Flat.{flat, flat_step, known_in, part_used, update_by, update_variable, zero_variable, end_all}
+use Rattle.flat_build.specs.Flat.{flat, flat_step, without_name, known_in, part_used, update_by, update_variable, zero_variable, end_all}
 use Rattle.flat_build.specs.Names.{AllKnown, Spares}
 use Rattle.flat_build.specs.Good.{Good, IsShown, IsKnown}
-use Rattle.flat_build.specs.Fine.{Distinct, IsOf, MayChange, IsUpdated, UpdatesPart, MayUpdate, MayClaim, without_part}
+use Rattle.flat_build.specs.Fine.{IndexFits, FitsIndex, Distinct, IsOf, MayChange, IsUpdated, UpdatesPart, MayUpdate, MayClaim, without_part}
 use Rattle.flat_build.specs.Shows.{HasShape, Shows, ListBoth, EnvBoth, Related}
 use Rattle.flat_build.proofs.Both.{both_drop, both_weak, found_both, bound_right, reach_found}
 use Rattle.flat_build.proofs.Kept.{known_last, known_name, known_its, shows_after, AllShow, related_shows, all_show_after, all_show_its}
 use Rattle.flat_build.proofs.Later.{end_all_input, Later, later_blank, later_end_all}
 use Rattle.flat_build.proofs.Giving.{typed_as_known, typed_like_known, typed_as_safe, typed_like_safe, size_of, length-part, wires_part, length-in}
-use Rattle.flat_build.proofs.Bits.{IndexFits, IsThere}
+use Rattle.flat_build.proofs.Bits.{IsThere}
 use Rattle.flat_build.proofs.OperatorRows.{update_does}
 use Rattle.flat_build.proofs.Operators.{UpdateBits, HasBits}
 use Rattle.flat_build.proofs.Showing.{shows_as_like, shows_part, shows_lent, shows_back, updates_give}
@@ -44,7 +44,7 @@ use Rattle.flat_build.proofs.Compose.{Leads}
 use Rattle.flat_build.proofs.Rows.{leads_row}
 use Rattle.flat_build.proofs.Taking.{wires_are, last_shows}
 use Rattle.flat_build.proofs.Measuring.{ends_steps}
-use Rattle.flat_build.proofs.Naming.{FitsIndex, is_there}
+use Rattle.flat_build.proofs.Naming.{is_there}
 
 -- ---- wires that may be changed
 
@@ -184,10 +184,6 @@ leads_ends o s e ending ws src f below m =
     }
 
 -- ---- claims
-
--- what the variable shows is undone, and it shows nothing more
-abbrev pub without_name : NameId → Flattening → Flattening
-without_name x s = record s { env = in_its_block s.env x absent }
 
 pub leads_claim : (o : Outcome) (x : NameId) (s : Flattening) → Good s → MayClaim x s → Leads o s (without_name x (zero_variable (known_in s x) (last s) s)) (λ t. t ∷ [])
 leads_claim o x s g may = go (known_in s x) refl may (known_name (IsKnown (length s.built.draft.wires)) s x tt g.known)

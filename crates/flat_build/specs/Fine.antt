@@ -1,5 +1,5 @@
 -- What flattening needs of a program, step by step: the rules of typing give it.
-use Rattle.std.specs.Prelude.{◌≡◌, ℕ, ◌+◌, ◌≤◌, true, false, ◌||◌, List, [], ◌∷◌, length, take, reverse, None, ℤ, ◌⊎◌, ⊤}
+use Rattle.std.specs.Prelude.{◌≡◌, ℕ, ◌+◌, ◌<◌, ◌≤◌, true, false, ◌||◌, List, [], ◌∷◌, length, take, reverse, Option, None, Some, ℤ, nat_abs, ◌⊎◌, ⊤}
 use Rattle.silq_tree.specs.declared.node.NameId.{NameId}
 use Rattle.silq_tree.specs.declared.node.UnaryOp.{UnaryOp}
 use Rattle.silq_tree.specs.declared.node.UnaryOp.TheVariants.{Not, Neg}
@@ -8,17 +8,18 @@ use Rattle.silq_tree.specs.declared.node.BinaryOp.TheVariants.{Or, And, Div}
 use Rattle.silq_tree.specs.declared.node.UpdateOp.{UpdateOp}
 use Rattle.silq_tree.specs.declared.node.UpdateOp.TheVariants as updates
 use Rattle.silq_types.specs.declared.types.Shape.{Shape}
-use Rattle.silq_types.specs.declared.types.Shape.TheVariants.{Bit}
-use Rattle.silq_types.specs.Types.{shape_bits, is_number, is_scalar}
+use Rattle.silq_types.specs.declared.types.Shape.TheVariants.{Bit, Array}
+use Rattle.silq_types.specs.Types.{scalar_bits, shape_bits, is_number, is_scalar}
 use Rattle.silq_mean.specs.Env.{in_its_block}
 use Rattle.silq_mean.specs.Effect.{Effect, nothing, ◌>>◌, statement, step, mix, measure, claim, choice, Step, give_static, give_typed, give_part, one_operand, two_operands, copy_last, repeat_last, flip_last, turn_by, turn_all, receive, assign_to, assign_in_turn, update_to, end_name, end_compared, enter_block, leave_block, enter_body, leave_body}
 use Rattle.flat_core.specs.declared.step.WireId.{WireId}
-use Rattle.flat_core.specs.Label.{label_after}
+use Rattle.flat_core.specs.declared.step.End.TheVariants.{Zeroed}
+use Rattle.flat_core.specs.Label.{wire_in, label_after}
 use Rattle.bit_arith.specs.declared.operand.Operand.{Operand}
 use Rattle.bit_arith.specs.Built.{under}
 use Rattle.bit_arith.specs.Calls.{among, AllSafe, AreTargets}
 use Rattle.flat_build.specs.State.{Shown, Known, static, shown, lent, absent, Flattening, last, drop_last, typed_as, typed_like, part_shape, part_start, part_of, are_wires, are_new, wires_in}
-use Rattle.flat_build.specs.Flat.{as_operand, shape_for, known_in, count_statement, on_line, chosen_by, first_branch, second_branch, flat}
+use Rattle.flat_build.specs.Flat.{as_operand, shape_for, without_name, known_in, count_statement, on_line, chosen_by, first_branch, second_branch, flat}
 use Rattle.flat_build.specs.Names.{AllOf, AllKnown, named_by, Spares}
 
 abbrev pub Distinct : List WireId → Type 0
@@ -32,6 +33,17 @@ IsOf Q k = ⊥
 -- the indices lead to a part of the value
 abbrev pub IsPart : Shown → List ℤ → Type 0
 IsPart v is = part_start v.shape is + shape_bits (part_shape v.shape is) ≤ length v.operands
+
+-- a second index leads to a bit of the item
+abbrev pub IndexFits : Shape → List ℤ → Type 0
+IndexFits (Array k n) (i ∷ j ∷ is) = nat_abs j < scalar_bits k
+IndexFits t is = ⊤
+
+abbrev pub FitsIndex : List ℤ → Known → Type 0
+FitsIndex is (static z) = ⊤
+FitsIndex is (shown v) = IndexFits v.shape is
+FitsIndex is (lent start size v) = IndexFits v.shape is
+FitsIndex is absent = ⊤
 
 -- ---- what may be changed
 
@@ -85,7 +97,7 @@ MayClaim x s =
     IsOf (λ v.
     IsOf (λ w. w.shape ≡ v.shape) (typed_like 0 (shown v) (last s))
     × (are_wires v.operands ≡ true)
-    × MayChange (wires_in v.operands) s (record s { env = in_its_block s.env x absent }))
+    × MayChange (wires_in v.operands) s (without_name x s))
     (known_in s x)
 
 -- ---- values
@@ -141,18 +153,18 @@ MayUse is k = ⊥
 abbrev pub FineStep : Step → Flattening → Type 0
 FineStep (give_static z) s = ⊤
 FineStep (give_typed k z) s = ⊤
-FineStep (give_part need x is) s = MayUse is (known_in s x)
+FineStep (give_part need x is) s = MayUse is (known_in s x) × FitsIndex is (known_in s x)
 FineStep (one_operand op) s = IsOf (λ v. FitsOne op v.shape) (last s)
 FineStep (two_operands op) s = MayJoin op (last (drop_last s)) (last s)
 FineStep copy_last s = IsAny (last s)
 FineStep repeat_last s = IsStatic (last (drop_last s)) × IsOf (λ v. is_scalar v.shape ≡ true) (last s)
 FineStep flip_last s = MayTurn s
-FineStep (turn_by k l) s = MayTurn s
-FineStep (turn_all k) s = ⊤
+FineStep (turn_by k l) s = MayTurn s × (k < 8) × (l < 8)
+FineStep (turn_all k) s = k < 8
 FineStep (receive r) s = IsAny (shape_for r (last s))
-FineStep (assign_to x is) s = MayAssign x is s
+FineStep (assign_to x is) s = MayAssign x is s × FitsIndex is (known_in s x)
 FineStep (assign_in_turn xs) s = AllOf IsTaken (reverse (take (length xs) s.values))
-FineStep (update_to x is op) s = MayUpdate x is op s
+FineStep (update_to x is op) s = MayUpdate x is op s × FitsIndex is (known_in s x)
 FineStep (end_name x) s = ⊤
 FineStep (end_compared x) s = ⊤
 FineStep enter_block s = ⊤
@@ -170,10 +182,24 @@ pub record SameEnd (s u : Flattening) : Type 0 where
 abbrev pub Keeps : Operand → Flattening → Flattening → Type 0
 Keeps p s u = (w : WireId) → named_by w p ≡ true → label_after u.built.draft.steps w ≡ label_after s.built.draft.steps w
 
--- the second branch finds the condition as the first one found it, and both leave the same
-pub record FineEnds (c : Operand) (first one other : Flattening) : Type 0 where
-  pub kept : Keeps c first one
-  pub same : SameEnd one other
+abbrev pub KeepsAll : Option Operand → Flattening → Flattening → Type 0
+KeepsAll None s u = ⊤
+KeepsAll (Some p) s u = Keeps p s u
+
+-- no wire that was there before ends as Zeroed since
+abbrev pub ZeroesNew : Flattening → Flattening → Type 0
+ZeroesNew s u =
+    (w : WireId) → w.number < length s.built.draft.wires → (wire_in u.built.draft.wires w).ending ≡ Zeroed → (wire_in s.built.draft.wires w).ending ≡ Zeroed
+
+-- the first branch goes from `first` to `one`, the second from `second` to `two`: neither changes the condition in force outside, the second
+-- finds its own condition as the first one found it, and both leave the same
+pub record FineEnds (s first one second two : Flattening) : Type 0 where
+  pub kept : Keeps (chosen_by s) first one
+  pub outer_first : KeepsAll s.setting.condition first one
+  pub outer_second : KeepsAll s.setting.condition second two
+  pub zeroed_first : ZeroesNew first one
+  pub zeroed_second : ZeroesNew second two
+  pub same : SameEnd one two
 
 abbrev pub Fine : Effect → Flattening → Type 0
 Fine nothing s = ⊤
@@ -186,4 +212,4 @@ Fine (claim line x) s = MayClaim x s
 Fine (choice a b) s =
     let first = first_branch s in
     let second = second_branch (flat a first) s in
-    IsBit (last s) × Fine a first × Fine b second × FineEnds (chosen_by s) first (flat a first) (flat b second)
+    IsBit (last s) × Fine a first × Fine b second × FineEnds s first (flat a first) second (flat b second)

@@ -176,6 +176,10 @@ receive_value r k s = push k s
 abbrev pub bind : NameId → Known → Flattening → Flattening
 bind x k s = record s { env = bound s.env x k }
 
+-- the name shows nothing
+abbrev pub without_name : NameId → Flattening → Flattening
+without_name x s = record s { env = in_its_block s.env x absent }
+
 abbrev pub known_in : Flattening → NameId → Known
 known_in s x = found absent s.env x
 
@@ -322,7 +326,7 @@ flat (statement line e) s = on_line s.setting.line (flat e (on_line line (count_
 flat (step st) s = flat_step st s
 flat mix s = on_last_wire had s
 flat measured s = measure_value (last s) (drop_last s)
-flat (claim line x) s = zero_variable (known_in s x) (last s) s
+flat (claim line x) s = without_name x (zero_variable (known_in s x) (last s) s)
 flat (choice a b) s = under s.setting.condition (flat b (second_branch (flat a (first_branch s)) s))
 
 -- ---- whole programs
