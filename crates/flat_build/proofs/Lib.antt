@@ -24,3 +24,4 @@ pub mod Naming
 pub mod Valuing
 pub mod Updating
 pub mod Steps
+pub mod Whole
