@@ -1,5 +1,5 @@
 -- Updates of variables, and what a variable is said to be equal to.
-use Rattle.std.proofs.Common.{◌≡◌, ℕ, ◌+◌, ◌≤◌, ◌<◌, Bool, true, false, cond, ◌||◌, List, [], ◌∷◌, ◌++◌, length, drop, ℤ, refl, sym, ap, ◌∙◌, subst, arith, append-nil}
+use Rattle.std.proofs.Common.{◌≡◌, ℕ, Bool, true, false, cond, ◌||◌, List, [], ◌∷◌, length, ℤ, refl, sym, ap, ◌∙◌, subst, arith}
 use Rattle.silq_tree.specs.declared.node.NameId.{NameId}
 use Rattle.silq_tree.specs.declared.node.UpdateOp.{UpdateOp}
 use Rattle.silq_types.specs.declared.types.Shape.{Shape}
@@ -15,28 +15,28 @@ use Rattle.flat_core.specs.declared.step.End.TheVariants.{Zeroed}
 use Rattle.flat_core.specs.Form.{DraftForm}
 use Rattle.flat_core.specs.Sound.{count_measures}
 use Rattle.flat_mean.specs.Row.{Row}
-use Rattle.flat_mean.specs.Terms.{Term as WireTerm, do_steps}
+use Rattle.flat_mean.specs.Terms.{do_steps}
 use Rattle.bit_arith.specs.declared.operand.Operand.{Operand}
 use Rattle.bit_arith.specs.Built.{Built, all_made}
 use Rattle.bit_arith.specs.Rows.{flip_each}
-use Rattle.bit_arith.specs.Calls.{Targets, among, AllSafe, AreTargets}
+use Rattle.bit_arith.specs.Calls.{Targets, among, AreTargets}
 use Rattle.bit_arith.specs.Values.{bits_at, values_at}
 use Rattle.bit_arith.specs.Does.{Fresh, Does, Below, Different}
-use Rattle.bit_arith.proofs.Steps.{Agree, clash}
+use Rattle.bit_arith.proofs.Steps.{clash}
 use Rattle.bit_arith.proofs.Doing.{does_fresh, does_grown}
 use Rattle.bit_arith.proofs.Listed.{below_more}
 use Rattle.bit_arith.proofs.Making.{bits_made, flip_bits, flip_each_does}
 use Rattle.flat_build.specs.State.{Shown, Known, static, shown, lent, absent, Flattening, last, drop_last, build, operands_of, typed_as, typed_like, part_shape, part_start, part_of, are_wires, wires_in}
-use Rattle.flat_build.specs.Flat.{flat, flat_step, known_in, part_used, update_by, update_variable, zero_variable, end_all}
+use Rattle.flat_build.specs.Flat.{flat, known_in, part_used, update_by, update_variable, zero_variable, end_all}
 use Rattle.flat_build.specs.Names.{AllKnown, Spares}
-use Rattle.flat_build.specs.Good.{Good, IsShown, IsKnown}
+use Rattle.flat_build.specs.Good.{Good, IsKnown}
 use Rattle.flat_build.specs.Fine.{Distinct, IsOf, MayChange, IsUpdated, UpdatesPart, MayUpdate, MayClaim, without_part}
-use Rattle.flat_build.specs.Shows.{HasShape, Shows, ListBoth, EnvBoth, Related}
+use Rattle.flat_build.specs.Shows.{Shows, Related}
 use Rattle.flat_build.proofs.Both.{both_drop, both_weak, found_both, bound_right, reach_found}
 use Rattle.flat_build.proofs.Kept.{known_last, known_name, known_its, shows_after, AllShow, related_shows, all_show_after, all_show_its}
 use Rattle.flat_build.proofs.Later.{end_all_input, Later, later_blank, later_end_all}
 use Rattle.flat_build.proofs.Giving.{typed_as_known, typed_like_known, typed_as_safe, typed_like_safe, size_of, length-part, wires_part, length-in}
-use Rattle.flat_build.proofs.Bits.{IndexFits, IsThere}
+use Rattle.flat_build.proofs.Bits.{IsThere}
 use Rattle.flat_build.proofs.OperatorRows.{update_does}
 use Rattle.flat_build.proofs.Operators.{UpdateBits, HasBits}
 use Rattle.flat_build.proofs.Showing.{shows_as_like, shows_part, shows_lent, shows_back, updates_give}

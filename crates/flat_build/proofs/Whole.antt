@@ -1,17 +1,15 @@
 -- The flat form of a program has the program's meaning.
-use Rattle.std.proofs.Common.{◌≡◌, ℕ, zero, suc, ◌+◌, ◌-◌, ◌≤◌, ◌<◌, get_or, inl, inr, Bool, true, false, cond, not, ◌&&◌, ◌==◌, List, [], ◌∷◌, ◌++◌, flat_map, map, length, take, drop, reverse, Option, Some, None, refl, sym, ap, ap₂, ◌∙◌, subst, arith, length-append, add-one}
+use Rattle.std.proofs.Common.{◌≡◌, ℕ, zero, suc, ◌+◌, ◌-◌, ◌≤◌, ◌<◌, get_or, inl, inr, Bool, true, false, cond, not, ◌&&◌, ◌==◌, List, [], ◌∷◌, ◌++◌, flat_map, map, length, take, drop, reverse, refl, sym, ap, ap₂, ◌∙◌, subst, arith, length-append, add-one}
 use Rattle.std.proofs.Math.Seq.{drop-cons}
 use Rattle.std.proofs.lemmas.Bool.{cases_lt}
 use Rattle.std.proofs.lemmas.List.{drop-drop, length-take-le, length-drop, map-append, get_or_append_left}
-use Rattle.amp_core.specs.declared.Amp.{Amp}
 use Rattle.amp_core.specs.Amplitude.{one as one_amplitude, times}
 use Rattle.silq_types.specs.declared.types.Shape.{Shape}
 use Rattle.silq_types.specs.Types.{shape_bits}
-use Rattle.silq_mean.specs.Value.{Value, whole, single, array, gone, bits_of as value_bits, value_of_bits}
+use Rattle.silq_mean.specs.Value.{Value, bits_of as value_bits, value_of_bits}
 use Rattle.silq_mean.specs.Term.{Term}
 use Rattle.silq_mean.specs.Effect.{Outcome, follow}
 use Rattle.silq_mean.specs.Table.{Job, total_size, meaning, start, inputs as input_values, shown as shown_term}
-use Rattle.flat_core.specs.declared.step.Step.{Step}
 use Rattle.flat_core.specs.declared.step.WireId.{WireId}
 use Rattle.flat_core.specs.declared.step.End.TheVariants.{Output, Dropped}
 use Rattle.flat_core.specs.Form.{DraftForm, WireForm}
@@ -22,19 +20,18 @@ use Rattle.flat_mean.specs.Row.{Row, bits_of}
 use Rattle.flat_mean.specs.Path.{input_row, inputs_before}
 use Rattle.flat_mean.specs.Terms.{Term as WireTerm, first_term, do_steps, seen_at, values_of, weight}
 use Rattle.flat_mean.proofs.Walks.{inputs_before-more}
-use Rattle.bit_arith.specs.declared.operand.Operand.{Operand}
-use Rattle.bit_arith.specs.Built.{Built, begun, or_later, blank, all_made, wires_from}
+use Rattle.bit_arith.specs.Built.{Built, begun, or_later, blank, wires_from}
 use Rattle.bit_arith.specs.Calls.{no_target}
-use Rattle.bit_arith.specs.Values.{bits_at, values_at, Clean}
+use Rattle.bit_arith.specs.Values.{bits_at, values_at}
 use Rattle.bit_arith.specs.Does.{Below}
 use Rattle.bit_arith.proofs.Steps.{clash}
 use Rattle.bit_arith.proofs.Making.{bits_made}
-use Rattle.flat_build.specs.State.{Shown, Known, static, shown, lent, absent, Flattening, are_wires, wires_in, operands_of}
+use Rattle.flat_build.specs.State.{Known, static, shown, lent, absent, Flattening, are_wires, wires_in, operands_of}
 use Rattle.flat_build.specs.Flat.{flat, begin, inputs, input_wires, flattened, wire_lists, end_all, joined as all_joined}
 use Rattle.flat_build.specs.Names.{AllOf}
 use Rattle.flat_build.specs.Good.{Good, IsKnown}
-use Rattle.flat_build.specs.Fine.{Fine, IsOf}
-use Rattle.flat_build.specs.Shows.{HasShape, Shows, ListBoth, Related}
+use Rattle.flat_build.specs.Fine.{IsOf}
+use Rattle.flat_build.specs.Shows.{Shows, ListBoth, Related}
 use Rattle.flat_build.specs.Laws.{FineJob, flat_meaning}
 use Rattle.flat_build.proofs.Both.{both_reverse, all_reverse}
 use Rattle.flat_build.proofs.Later.{end_all_length, end_all_steps, end_all_input}
