@@ -1,5 +1,5 @@
 -- A run-time condition: on each term one branch acts, and the other leaves it alone.
-use Rattle.std.proofs.Common.{◌≡◌, ℕ, ◌+◌, ◌≤◌, ◌<◌, Bool, true, false, cond, not, if◌then◌else◌, List, [], ◌∷◌, ◌++◌, flat_map, length, Option, Some, None, refl, sym, ap, ap₂, ◌∙◌, subst, arith, append_assoc, append-nil}
+use Rattle.std.proofs.Common.{◌≡◌, ℕ, ◌+◌, ◌≤◌, Bool, true, false, cond, not, if◌then◌else◌, List, [], ◌∷◌, ◌++◌, flat_map, length, Option, Some, None, refl, sym, ap, ◌∙◌, subst, arith, append_assoc}
 use Rattle.std.specs.Bool.{beq}
 use Rattle.silq_mean.specs.Value.{is_one}
 use Rattle.silq_mean.specs.Term.{Term, last as last_value, drop_last as but_last}
@@ -7,24 +7,23 @@ use Rattle.silq_mean.specs.Effect.{Outcome}
 use Rattle.flat_core.specs.declared.step.Step.{Step}
 use Rattle.flat_core.specs.declared.step.WireId.{WireId}
 use Rattle.flat_core.specs.Form.{DraftForm}
-use Rattle.flat_core.specs.Label.{label_after}
 use Rattle.flat_core.specs.Sound.{count_measures}
 use Rattle.flat_mean.specs.Row.{Row, holds}
 use Rattle.flat_mean.specs.Terms.{Term as WireTerm, each, do_steps}
 use Rattle.bit_arith.specs.declared.operand.Operand.{Operand}
 use Rattle.bit_arith.specs.declared.operand.Operand.TheVariants.{Const, Literal}
-use Rattle.bit_arith.specs.Built.{Built, Setting, Given, negated, blank, read, under as under_all, under_condition, new_wire, next_wire, made}
+use Rattle.bit_arith.specs.Built.{Built, Setting, negated, blank, read, under as under_all, under_condition, new_wire, next_wire, made}
 use Rattle.bit_arith.specs.Rows.{flip}
 use Rattle.bit_arith.specs.Calls.{Targets, no_target, Safe, AllSafe}
 use Rattle.bit_arith.specs.Values.{Clean, bit_of, all_hold, forced}
 use Rattle.bit_arith.specs.Does.{after, AllX, Fresh, Grows, Does, Tells}
 use Rattle.bit_arith.proofs.Steps.{and_one, bit_same, Agree, clash}
-use Rattle.bit_arith.proofs.Doing.{Guards, blank_before, clean_above, does_fresh, does_grown, does_none, does_weak, does_forced, grows_agree, grows_clean}
+use Rattle.bit_arith.proofs.Doing.{Guards, blank_before, clean_above, does_grown, does_none, does_weak, does_forced, grows_agree, grows_clean}
 use Rattle.bit_arith.proofs.Tidying.{read_bit}
 use Rattle.bit_arith.proofs.Listed.{safe_one, safe_more}
 use Rattle.bit_arith.proofs.Making.{conjunction_does, negated_bit, negated_safe}
 use Rattle.bit_arith.proofs.Phases.{do_steps-append, flips_one}
-use Rattle.flat_build.specs.State.{Flattening, last, drop_last}
+use Rattle.flat_build.specs.State.{Flattening, drop_last}
 use Rattle.flat_build.specs.Flat.{under, as_condition, entered, enter_branch}
 use Rattle.flat_build.specs.Good.{Good, IsKnown}
 use Rattle.flat_build.specs.Fine.{SameEnd}

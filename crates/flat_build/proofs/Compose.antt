@@ -6,7 +6,7 @@ use Rattle.std.proofs.lemmas.Bool.{cases_lt}
 use Rattle.std.proofs.lemmas.List.{get_or_past, get_or_append_left}
 use Rattle.std.proofs.lemmas.List.Sums.{sum_by-append}
 use Rattle.silq_mean.specs.Term.{Term}
-use Rattle.silq_mean.specs.Effect.{Effect, Outcome, nothing, ◌>>◌, statement, follow}
+use Rattle.silq_mean.specs.Effect.{Effect, Outcome, nothing, statement, follow}
 use Rattle.flat_core.specs.declared.step.Step.{Step}
 use Rattle.flat_core.specs.declared.step.Step.TheVariants as steps
 use Rattle.flat_core.specs.declared.step.WireId.{WireId}
@@ -242,17 +242,17 @@ leads_statement o line e s m =
     let inner : Flattening = flat e (on_line line (count_statement s)) in
     let with_line : Setting → Setting = λ at. record at { line = s.setting.line } in
     record {
-  new = m.new;
-  grown = m.grown;
-  wires = m.wires;
-  setting = ap with_line m.setting;
-  inputs = m.inputs;
-  blanks = m.blanks;
-  leaves = m.leaves;
-  told = m.told;
-  still = m.still;
-  gives = λ u t r on.
-      both_weak (Related inner) (Related (flat (statement line e) s)) (λ z x q. related_to inner (flat (statement line e) s) refl refl refl refl z x q)
-      (do_steps o m.new (u ∷ [])) (follow o e t)
-      (m.gives u t (related_to s (on_line line (count_statement s)) refl refl refl refl u t r) on);
-}
+      new = m.new;
+      grown = m.grown;
+      wires = m.wires;
+      setting = ap with_line m.setting;
+      inputs = m.inputs;
+      blanks = m.blanks;
+      leaves = m.leaves;
+      told = m.told;
+      still = m.still;
+      gives = λ u t r on.
+          both_weak (Related inner) (Related (flat (statement line e) s)) (λ z x q. related_to inner (flat (statement line e) s) refl refl refl refl z x q)
+          (do_steps o m.new (u ∷ [])) (follow o e t)
+          (m.gives u t (related_to s (on_line line (count_statement s)) refl refl refl refl u t r) on);
+    }

@@ -1,51 +1,42 @@
 -- Gates on the last value: X, phases, H; and measures.
-use Rattle.std.proofs.Common.{◌≡◌, ℕ, suc, ◌+◌, ◌%◌, ◌≤◌, ◌<◌, ◌==◌, Bool, true, false, cond, not, ◌&&◌, ◌||◌, if◌then◌else◌, List, [], ◌∷◌, ◌++◌, flat_map, map, length, drop, Option, Some, None, refl, sym, ap, ap₂, ◌∙◌, subst, arith, eqb, add-zero, append-nil, append_assoc}
+use Rattle.std.proofs.Common.{◌≡◌, ℕ, suc, ◌+◌, ◌%◌, ◌≤◌, ◌<◌, ◌==◌, Bool, true, false, cond, not, if◌then◌else◌, List, [], ◌∷◌, flat_map, length, drop, refl, sym, ap, ap₂, ◌∙◌, subst, arith, add-zero}
 use Rattle.std.specs.Bool.{beq}
-use Rattle.std.proofs.Math.Path.{fun_ext}
 use Rattle.std.proofs.Math.Nat.{mod-eq_of_lt}
-use Rattle.std.proofs.lemmas.Bool.{eqb-true, eq-eqb}
 use Rattle.silq_types.specs.declared.types.Scalar.{Scalar}
 use Rattle.silq_types.specs.declared.types.Scalar.TheVariants as scalars
-use Rattle.silq_types.specs.declared.types.Shape.TheVariants.{Bit, Array}
-use Rattle.silq_types.specs.Types.{single_shape, scalar_bits, shape_bits, bool_eq}
-use Rattle.silq_mean.specs.Value.{Value, whole, single, array, gone, modulus, truth_value, is_one, flipped, bits_of, low_bits}
-use Rattle.silq_mean.specs.Term.{Term, first as first_value, last as last_value, drop_last as but_last, on_last, turn as turn_term, hadamard}
-use Rattle.silq_mean.specs.Effect.{Outcome, after as after_step, flip_last, turn_by, turn_all, mix, measure as measured, step, follow, agrees, told}
-use Rattle.flat_core.specs.declared.step.Lit.{Lit}
-use Rattle.flat_core.specs.declared.step.Step.{Step}
-use Rattle.flat_core.specs.declared.step.Step.TheVariants as steps
+use Rattle.silq_types.specs.declared.types.Shape.TheVariants.{Bit}
+use Rattle.silq_types.specs.Types.{scalar_bits, shape_bits}
+use Rattle.silq_mean.specs.Value.{Value, whole, single, array, gone, modulus, truth_value, is_one, flipped, low_bits}
+use Rattle.silq_mean.specs.Term.{Term, first as first_value, last as last_value, drop_last as but_last, on_last, turn as turn_term}
+use Rattle.silq_mean.specs.Effect.{Outcome}
 use Rattle.flat_core.specs.declared.step.WireId.{WireId}
-use Rattle.flat_core.specs.Form.{DraftForm}
-use Rattle.flat_core.specs.Label.{wire_id, same_wire, label_after}
-use Rattle.flat_core.specs.Sound.{count_measures}
-use Rattle.flat_mean.specs.Row.{Row, holds, flipped as flipped_bit}
+use Rattle.flat_core.specs.Label.{same_wire}
+use Rattle.flat_mean.specs.Row.{Row}
 use Rattle.flat_mean.specs.Terms.{Term as WireTerm, do_steps}
 use Rattle.bit_arith.specs.declared.operand.Operand.{Operand}
-use Rattle.bit_arith.specs.declared.operand.Operand.TheVariants.{Const, Literal}
-use Rattle.bit_arith.specs.Built.{Built, Setting, Given, made, negated, push as push_step, under as under_all}
-use Rattle.bit_arith.specs.Rows.{flip, turn, had, had_under}
-use Rattle.bit_arith.specs.Calls.{Targets, no_target, among, AllSafe}
-use Rattle.bit_arith.specs.Values.{Clean, bit_of, bits_at, all_hold, forced}
-use Rattle.bit_arith.specs.Does.{Fresh, Grows, Does, Turns, Below}
-use Rattle.bit_arith.proofs.Steps.{Agree, clash, and_one, label-first, label-not, apart_above}
-use Rattle.bit_arith.proofs.Doing.{Guards, blank_before, grown, grows_fresh, does_fresh, does_grown}
+use Rattle.bit_arith.specs.Built.{Built, made, negated, under as under_all}
+use Rattle.bit_arith.specs.Rows.{flip, turn}
+use Rattle.bit_arith.specs.Calls.{no_target, AllSafe}
+use Rattle.bit_arith.specs.Values.{bit_of, bits_at, all_hold}
+use Rattle.bit_arith.specs.Does.{Fresh, Does, Turns}
+use Rattle.bit_arith.proofs.Steps.{Agree, and_one}
+use Rattle.bit_arith.proofs.Doing.{Guards, grown, grows_fresh}
 use Rattle.bit_arith.proofs.Gathered.{beq_one}
 use Rattle.bit_arith.proofs.Tidying.{flip_does, FlipIf}
-use Rattle.bit_arith.proofs.Listed.{safe_more, safe_under, off_first}
-use Rattle.bit_arith.proofs.Making.{negated_bit}
+use Rattle.bit_arith.proofs.Listed.{safe_more, safe_under}
 use Rattle.bit_arith.proofs.Phases.{turn_does}
-use Rattle.flat_build.specs.State.{Shown, Known, static, shown, lent, absent, Flattening, push, first, last, drop_last, build, taken, wires_in, only_wire, only_operand, operands_of}
-use Rattle.flat_build.specs.Flat.{flat, flat_step, on_wire, on_last_wire, turn_both, chosen_by}
+use Rattle.flat_build.specs.State.{Shown, Known, static, shown, lent, absent, Flattening, push, last, drop_last, build, only_operand, operands_of}
+use Rattle.flat_build.specs.Flat.{turn_both, chosen_by}
 use Rattle.flat_build.specs.Names.{AllKnown, Spares}
-use Rattle.flat_build.specs.Good.{Good, IsShown, IsKnown}
-use Rattle.flat_build.specs.Fine.{IsOf, IsBit, MayTake, MayTurn}
-use Rattle.flat_build.specs.Shows.{HasShape, Shows, ListBoth, EnvBoth, CallerShows, Related}
+use Rattle.flat_build.specs.Good.{Good, IsKnown}
+use Rattle.flat_build.specs.Fine.{IsBit}
+use Rattle.flat_build.specs.Shows.{Shows, ListBoth, EnvBoth, CallerShows, Related}
 use Rattle.flat_build.proofs.Bits.{single_one, single_not_array}
-use Rattle.flat_build.proofs.Kept.{known_map, known_same, known_drop, known_last, AllShow, related_shows, all_show_after, all_show_new, all_show_drop, all_known_more}
-use Rattle.flat_build.proofs.Compose.{Kept, leaves_none, Leads, leads_then, related_to}
-use Rattle.flat_build.proofs.Choice.{with_row, guard_leaves, guards_more}
+use Rattle.flat_build.proofs.Kept.{known_same, known_last, AllShow, related_shows, all_show_after, all_show_drop, all_known_more}
+use Rattle.flat_build.proofs.Compose.{Leads, leads_then}
+use Rattle.flat_build.proofs.Choice.{guards_more}
 use Rattle.flat_build.proofs.Rows.{leads_row, leads_turned, turn_measures}
-use Rattle.flat_build.proofs.Taking.{Taken, takes, one_wire, took, last_shown, shown_last, leads_taken}
+use Rattle.flat_build.proofs.Taking.{shown_last}
 
 -- ---- the same terms of the source in other words
 

@@ -25,3 +25,4 @@ pub mod Valuing
 pub mod Updating
 pub mod Steps
 pub mod Zeroing
+pub mod Whole

@@ -1,10 +1,9 @@
 -- Measures of the last value.
-use Rattle.std.proofs.Common.{◌≡◌, ℕ, suc, ◌+◌, ◌≤◌, ◌<◌, Bool, true, false, cond, not, ◌&&◌, ◌||◌, if◌then◌else◌, List, [], ◌∷◌, ◌++◌, length, drop, Option, Some, None, refl, sym, ap, ap₂, ◌∙◌, subst, arith, append-nil, append_assoc, add-zero}
+use Rattle.std.proofs.Common.{◌≡◌, ℕ, suc, ◌+◌, Bool, true, false, cond, ◌&&◌, if◌then◌else◌, List, [], ◌∷◌, ◌++◌, length, drop, None, refl, sym, ap, ap₂, ◌∙◌, subst, arith, append-nil, append_assoc, add-zero}
 use Rattle.std.specs.Bool.{beq}
-use Rattle.std.proofs.lemmas.List.{length-map}
 use Rattle.silq_types.specs.Types.{bool_eq}
 use Rattle.silq_mean.specs.Value.{Value, bits_of}
-use Rattle.silq_mean.specs.Term.{Term, last as last_value, drop_last as but_last}
+use Rattle.silq_mean.specs.Term.{Term, last as last_value}
 use Rattle.silq_mean.specs.Effect.{Outcome, measure as measured, follow, agrees as outcomes_agree, told}
 use Rattle.flat_core.specs.declared.step.Step.{Step}
 use Rattle.flat_core.specs.declared.step.Step.TheVariants as steps
@@ -20,10 +19,10 @@ use Rattle.flat_mean.specs.Terms.{Term as WireTerm, do_steps}
 use Rattle.bit_arith.specs.declared.operand.Operand.{Operand}
 use Rattle.bit_arith.specs.Built.{Built, Setting, Given, all_made}
 use Rattle.bit_arith.specs.Rows.{measure}
-use Rattle.bit_arith.specs.Values.{Clean, forced, bits_at, values_at}
+use Rattle.bit_arith.specs.Values.{forced, bits_at, values_at}
 use Rattle.bit_arith.specs.Does.{Fresh, Below}
 use Rattle.bit_arith.proofs.Steps.{clash}
-use Rattle.bit_arith.proofs.Doing.{does_fresh, does_grown}
+use Rattle.bit_arith.proofs.Doing.{does_fresh}
 use Rattle.bit_arith.proofs.Listed.{below_more}
 use Rattle.bit_arith.proofs.Making.{bits_made, length-values}
 use Rattle.flat_build.specs.State.{Shown, Known, static, shown, lent, absent, Flattening, push, last, drop_last, build, taken, wires_in}

@@ -1,11 +1,11 @@
 -- H on the last value.
-use Rattle.std.proofs.Common.{◌≡◌, ℕ, ◌+◌, ◌≤◌, ◌<◌, Bool, true, false, cond, not, ◌&&◌, ◌||◌, if◌then◌else◌, List, [], ◌∷◌, ◌++◌, length, drop, Option, Some, None, refl, sym, ap, ap₂, ◌∙◌, subst, arith, eqb, add-zero, append-nil}
+use Rattle.std.proofs.Common.{◌≡◌, ℕ, ◌+◌, ◌<◌, Bool, true, false, cond, ◌&&◌, ◌||◌, if◌then◌else◌, List, [], ◌∷◌, ◌++◌, length, Option, Some, None, refl, sym, ap, ◌∙◌, subst, arith, add-zero, append-nil}
 use Rattle.std.specs.Bool.{beq}
 use Rattle.std.proofs.Math.Path.{fun_ext}
 use Rattle.std.proofs.lemmas.Bool.{eqb-true, eq-eqb}
-use Rattle.silq_mean.specs.Value.{is_one, truth_value}
-use Rattle.silq_mean.specs.Term.{Term, last as last_value, drop_last as but_last, hadamard}
-use Rattle.silq_mean.specs.Effect.{Outcome, mix, follow}
+use Rattle.silq_mean.specs.Value.{is_one}
+use Rattle.silq_mean.specs.Term.{Term, last as last_value, hadamard}
+use Rattle.silq_mean.specs.Effect.{Outcome}
 use Rattle.flat_core.specs.declared.step.Lit.{Lit}
 use Rattle.flat_core.specs.declared.step.Step.{Step}
 use Rattle.flat_core.specs.declared.step.Step.TheVariants as steps
@@ -20,15 +20,14 @@ use Rattle.bit_arith.specs.declared.operand.Operand.{Operand}
 use Rattle.bit_arith.specs.declared.operand.Operand.TheVariants.{Const, Literal}
 use Rattle.bit_arith.specs.Built.{Built, Setting, push as push_step}
 use Rattle.bit_arith.specs.Rows.{had, had_under}
-use Rattle.bit_arith.specs.Calls.{Targets, no_target}
-use Rattle.bit_arith.specs.Values.{Clean, forced}
+use Rattle.bit_arith.specs.Values.{forced}
 use Rattle.bit_arith.specs.Does.{Grows}
 use Rattle.bit_arith.proofs.Steps.{Agree, clash, and_one, label-first, label-not, apart_above}
-use Rattle.bit_arith.proofs.Doing.{Guards, blank_before}
+use Rattle.bit_arith.proofs.Doing.{blank_before}
 use Rattle.flat_build.specs.State.{Shown, Flattening, build}
 use Rattle.flat_build.specs.Shows.{ListBoth, Related}
 use Rattle.flat_build.proofs.Kept.{AllShow}
-use Rattle.flat_build.proofs.Compose.{leaves_none, measures-append, Leads}
+use Rattle.flat_build.proofs.Compose.{leaves_none, Leads}
 use Rattle.flat_build.proofs.Choice.{condition_holds, guard_leaves, measures_grown}
 use Rattle.flat_build.proofs.Gates.{is_one_truth, Wired, with_wired, wired_bit, rest_shows, with_bit}
 

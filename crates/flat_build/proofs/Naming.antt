@@ -6,18 +6,17 @@ use Rattle.silq_tree.specs.declared.node.NameId.{NameId}
 use Rattle.silq_types.specs.declared.types.Scalar.{Scalar}
 use Rattle.silq_types.specs.Types.{shape_bits}
 use Rattle.check_scope.specs.declared.need.Need.{Need}
-use Rattle.check_scope.specs.declared.need.Need.TheVariants.{Held, Consumed}
 use Rattle.check_scope.specs.Uses.{is_consumed}
-use Rattle.silq_mean.specs.Env.{Env, Block, found, bound, in_its_block}
-use Rattle.silq_mean.specs.Value.{Value, whole, single, array, gone, part, with_part, bits_of, typed as typed_value}
+use Rattle.silq_mean.specs.Env.{Env, bound}
+use Rattle.silq_mean.specs.Value.{Value, whole, gone, part, with_part, bits_of, typed as typed_value}
 use Rattle.silq_mean.specs.Term.{Term, Caller as SourceCaller, value_of, last as last_value, back_to as back_to_caller, bind_all as bind_values, paired as paired_values, assign_part, assign_all, take_out, open_block, close_block, drop_last as but_last, enter as enter_values, leave}
 use Rattle.silq_mean.specs.Effect.{Outcome, step, follow, give_static, give_typed, give_part, assign_to, assign_in_turn, end_name, end_compared, enter_block, leave_block, enter_body, leave_body}
 use Rattle.flat_core.specs.Sound.{count_measures}
 use Rattle.bit_arith.specs.Values.{Clean, bits_at}
 use Rattle.flat_mean.specs.Row.{Row}
 use Rattle.flat_mean.specs.Terms.{Term as WireTerm}
-use Rattle.flat_build.specs.State.{Shown, Known, static, shown, lent, absent, Caller, Flattening, first, last, drop_last, operands_of, part_shape, part_start, typed, wires_so_far, outside, with_part as with_bits_of_part}
-use Rattle.flat_build.specs.Flat.{flat, flat_step, known_in, use_part, after_use, moved, part_used, assigned, bind_all, paired, enter, back_to}
+use Rattle.flat_build.specs.State.{Shown, Known, static, shown, lent, absent, Caller, Flattening, last, operands_of, part_shape, part_start, wires_so_far, outside, with_part as with_bits_of_part}
+use Rattle.flat_build.specs.Flat.{flat, flat_step, known_in, use_part, after_use, moved, part_used, assigned, bind_all, paired, back_to}
 use Rattle.flat_build.specs.Good.{Good, IsShown, IsKnown}
 use Rattle.flat_build.specs.Fine.{IsOf, IsTaken, IsPart, IndexFits, FitsIndex, WasLent, IsLent, MayAssign, MayUse}
 use Rattle.flat_build.specs.Shows.{Shows, ListBoth, Entry, EnvBoth, CallerShows, Related}

@@ -1,22 +1,19 @@
 -- Rows of steps as parts of steps: what each of them asks for, and what it leaves.
-use Rattle.std.proofs.Common.{◌≡◌, ℕ, zero, suc, ◌+◌, ◌%◌, ◌≤◌, ◌<◌, ◌==◌, Bool, true, false, cond, not, ◌&&◌, ◌||◌, List, [], ◌∷◌, ◌++◌, map, length, Option, Some, None, refl, sym, ap, ap₂, ◌∙◌, subst, arith, append_assoc, append-nil, add-zero}
-use Rattle.std.proofs.lemmas.List.{length-map}
+use Rattle.std.proofs.Common.{◌≡◌, ℕ, ◌+◌, ◌%◌, ◌==◌, Bool, true, false, cond, ◌&&◌, List, [], ◌∷◌, ◌++◌, length, Option, Some, None, refl, sym, ap, ◌∙◌, subst, arith, add-zero}
 use Rattle.silq_mean.specs.Term.{Term}
 use Rattle.silq_mean.specs.Effect.{Outcome}
 use Rattle.flat_core.specs.declared.step.Lit.{Lit}
 use Rattle.flat_core.specs.declared.step.Step.{Step}
-use Rattle.flat_core.specs.declared.step.Step.TheVariants.{X, H, P, M}
-use Rattle.flat_core.specs.declared.step.WireId.{WireId}
+use Rattle.flat_core.specs.declared.step.Step.TheVariants.{X, P}
 use Rattle.flat_core.specs.Form.{DraftForm}
-use Rattle.flat_core.specs.Label.{same_wire, label_after}
 use Rattle.flat_core.specs.Sound.{count_measures}
 use Rattle.flat_mean.specs.Row.{Row}
 use Rattle.flat_mean.specs.Terms.{Term as WireTerm, do_steps}
 use Rattle.bit_arith.specs.declared.operand.Operand.{Operand}
-use Rattle.bit_arith.specs.Built.{Built, Setting, Given, literals, under, new_wire, next_wire, plus, push}
+use Rattle.bit_arith.specs.Built.{Built, Setting, literals, under, new_wire, next_wire, plus, push}
 use Rattle.bit_arith.specs.Rows.{turn, turn_lits, gathered}
 use Rattle.bit_arith.specs.Calls.{Targets, no_target}
-use Rattle.bit_arith.specs.Values.{Clean, forced, all_hold}
+use Rattle.bit_arith.specs.Values.{all_hold}
 use Rattle.bit_arith.specs.Does.{after, Does, Turns}
 use Rattle.bit_arith.proofs.Steps.{Agree}
 use Rattle.bit_arith.proofs.Doing.{Guards, blank_before, grown, does_grown, grows_agree, grows_clean}
@@ -42,15 +39,18 @@ leads_row o s e T Q f r g at same h = record {
   gives = λ u t re on.
       let x : Row = after r.new u.row in
       let a : AllShow x e (f t) = h u t x re (grows_agree r.grows u.row) (r.gives u.row re.clean on) in
-      subst (λ us. ListBoth (Related e) us (f t ∷ [])) (sym (flips_one o r.new u r.all_x)) (record {
-        clean = grows_clean r.grows u.row re.clean;
-        env = a.env;
-        values = a.values;
-        callers = a.callers;
-        eighths = re.eighths ∙ sym (same t).0;
-        halvings = re.halvings ∙ sym (same t).1;
-        measured = measures_grown s.built.draft e.built.draft r.new r.grows.steps (no_measures r.new r.all_x) ∙ (re.measured ∙ sym (same t).2);
-      }, tt);
+      subst (λ us. ListBoth (Related e) us (f t ∷ [])) (sym (flips_one o r.new u r.all_x)) (
+        record {
+          clean = grows_clean r.grows u.row re.clean;
+          env = a.env;
+          values = a.values;
+          callers = a.callers;
+          eighths = re.eighths ∙ sym (same t).0;
+          halvings = re.halvings ∙ sym (same t).1;
+          measured = measures_grown s.built.draft e.built.draft r.new r.grows.steps (no_measures r.new r.all_x) ∙ (re.measured ∙ sym (same t).2);
+        },
+        tt,
+      );
 }
 
 -- ---- phases
@@ -107,15 +107,18 @@ leads_turned o s e k ps f r m g at same turns h = record {
       let a : AllShow x e (f t) = h u t x re (grows_agree r.grows u.row) in
       let n : ℕ = cond (all_hold u.row ps) (k % 8) 0 in
       let run : do_steps o r.new (u ∷ []) ≡ term_of u x n = r.gives o u re.clean ∙ ap (λ (b : Bool). term_of u x (cond (b && all_hold u.row ps) (k % 8) 0)) on in
-      subst (λ us. ListBoth (Related e) us (f t ∷ [])) (sym run) (record {
-        clean = grows_clean r.grows u.row re.clean;
-        env = a.env;
-        values = a.values;
-        callers = a.callers;
-        eighths = ap (λ (j : ℕ). j + n) re.eighths ∙ sym (turns u t re);
-        halvings = re.halvings ∙ sym (same t).0;
-        measured = m ∙ (re.measured ∙ sym (same t).1);
-      }, tt);
+      subst (λ us. ListBoth (Related e) us (f t ∷ [])) (sym run) (
+        record {
+          clean = grows_clean r.grows u.row re.clean;
+          env = a.env;
+          values = a.values;
+          callers = a.callers;
+          eighths = ap (λ (j : ℕ). j + n) re.eighths ∙ sym (turns u t re);
+          halvings = re.halvings ∙ sym (same t).0;
+          measured = m ∙ (re.measured ∙ sym (same t).1);
+        },
+        tt,
+      );
 }
   where
     term_of : WireTerm → Row → ℕ → List WireTerm

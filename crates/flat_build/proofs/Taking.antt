@@ -1,17 +1,12 @@
 -- A value that is taken over: its own wires, or copies.
-use Rattle.std.proofs.Common.{◌≡◌, ℕ, suc, ◌+◌, ◌≤◌, ◌<◌, Bool, true, false, cond, not, ◌&&◌, ◌||◌, List, [], ◌∷◌, ◌++◌, map, length, drop, Option, Some, None, refl, sym, ap, ap₂, ◌∙◌, subst, arith, inl, inr, ◌⊎◌}
+use Rattle.std.proofs.Common.{◌≡◌, ℕ, ◌≤◌, ◌<◌, Bool, true, false, cond, not, ◌&&◌, ◌||◌, List, [], ◌∷◌, length, drop, refl, sym, ap, ap₂, ◌∙◌, subst, arith, inl, inr}
 use Rattle.std.proofs.lemmas.Bool.{cases_lt}
 use Rattle.std.specs.Prelude.{nat_le}
 use Rattle.std.proofs.lemmas.List.{length-map}
 use Rattle.flat_core.specs.Drafts.{is_measured}
-use Rattle.silq_types.specs.declared.types.Shape.{Shape}
-use Rattle.silq_types.specs.declared.types.Scalar.TheVariants as scalars
-use Rattle.silq_types.specs.declared.types.Shape.TheVariants.{Bit, UInt, Int, Array}
-use Rattle.silq_types.specs.Types.{shape_bits}
-use Rattle.silq_mean.specs.Value.{Value, whole, single, array, gone, truth_value, is_one, flipped, bits_of}
+use Rattle.silq_mean.specs.Value.{Value}
 use Rattle.silq_mean.specs.Term.{Term, first as first_value, last as last_value, drop_last as but_last, on_last}
 use Rattle.silq_mean.specs.Effect.{Outcome}
-use Rattle.flat_core.specs.declared.step.Lit.{Lit}
 use Rattle.flat_core.specs.declared.step.WireId.{WireId}
 use Rattle.flat_core.specs.Form.{DraftForm}
 use Rattle.flat_core.specs.Label.{same_wire}
@@ -22,18 +17,18 @@ use Rattle.bit_arith.specs.declared.operand.Operand.TheVariants.{Const, Literal}
 use Rattle.bit_arith.specs.Built.{Built, Setting, Given, made, all_made, under as under_all}
 use Rattle.bit_arith.specs.Rows.{copy}
 use Rattle.bit_arith.specs.Calls.{Targets, no_target, among, AllSafe}
-use Rattle.bit_arith.specs.Values.{bit_of, bits_at}
-use Rattle.bit_arith.specs.Does.{Fresh, Does, AllNew, Below}
-use Rattle.bit_arith.proofs.Steps.{or_false, apart_above, clash, Agree, bits_same}
-use Rattle.bit_arith.proofs.Doing.{Guards, does_fresh, does_grown, does_none, does_weak}
+use Rattle.bit_arith.specs.Values.{bits_at}
+use Rattle.bit_arith.specs.Does.{Does, AllNew, Below}
+use Rattle.bit_arith.proofs.Steps.{apart_above, clash}
+use Rattle.bit_arith.proofs.Doing.{Guards, does_grown, does_none, does_weak}
 use Rattle.bit_arith.proofs.Listed.{safe_more}
-use Rattle.bit_arith.proofs.Making.{Copies, copy_does, bits_made, length-bits, length-from}
+use Rattle.bit_arith.proofs.Making.{Copies, copy_does, bits_made, length-from}
 use Rattle.flat_build.specs.State.{Shown, Known, static, shown, lent, absent, Flattening, push, first, last, drop_last, build, are_wires, are_new, as_they_are, copied, taken, wires_in, only_wire}
 use Rattle.flat_build.specs.Names.{AllKnown, Spares}
 use Rattle.flat_build.specs.Good.{Good, IsShown, IsKnown}
-use Rattle.flat_build.specs.Fine.{MayChange, KeepsWires, MayTake}
+use Rattle.flat_build.specs.Fine.{MayChange, MayTake}
 use Rattle.flat_build.specs.Shows.{HasShape, Shows, ListBoth, Related}
-use Rattle.flat_build.proofs.Kept.{known_map, known_same, known_drop, known_last, spares_new, AllShow, related_shows, all_show_new, all_show_drop, all_known_more}
+use Rattle.flat_build.proofs.Kept.{known_map, known_drop, spares_new, AllShow, related_shows, all_show_new, all_show_drop}
 use Rattle.flat_build.proofs.Compose.{Leads}
 use Rattle.flat_build.proofs.Rows.{leads_row}
 

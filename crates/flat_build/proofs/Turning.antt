@@ -1,11 +1,11 @@
 -- The steps of gates: the last value is taken, and the gate works on its wire.
-use Rattle.std.proofs.Common.{◌≡◌, ℕ, ◌+◌, ◌%◌, ◌≤◌, ◌<◌, Bool, true, false, cond, ◌||◌, if◌then◌else◌, List, [], ◌∷◌, ◌++◌, flat_map, length, drop, refl, sym, ap, ap₂, ◌∙◌, subst, arith, append-nil}
+use Rattle.std.proofs.Common.{◌≡◌, ℕ, ◌+◌, ◌≤◌, ◌<◌, true, false, ◌||◌, List, [], ◌∷◌, flat_map, length, drop, refl, sym, ap, ◌∙◌, subst, arith, append-nil}
 use Rattle.std.proofs.Math.Nat.{mod-eq_of_lt}
 use Rattle.std.proofs.lemmas.Bool.{eqb-true, eq-eqb}
 use Rattle.silq_types.specs.declared.types.Shape.TheVariants.{Bit}
 use Rattle.silq_types.specs.Types.{shape_bits}
-use Rattle.silq_mean.specs.Value.{Value, is_one}
-use Rattle.silq_mean.specs.Term.{Term, first as first_value, last as last_value, on_last, turn as turn_term}
+use Rattle.silq_mean.specs.Value.{Value}
+use Rattle.silq_mean.specs.Term.{Term, first as first_value, on_last, turn as turn_term}
 use Rattle.silq_mean.specs.Effect.{Outcome, flip_last, turn_by, turn_all, mix, step, follow}
 use Rattle.flat_core.specs.declared.step.WireId.{WireId}
 use Rattle.flat_core.specs.Label.{same_wire}
@@ -14,13 +14,13 @@ use Rattle.flat_mean.specs.Terms.{Term as WireTerm}
 use Rattle.bit_arith.specs.declared.operand.Operand.{Operand}
 use Rattle.bit_arith.specs.Built.{Built, Setting, Given, made, under as under_all}
 use Rattle.bit_arith.specs.Rows.{flip, turn, had}
-use Rattle.bit_arith.specs.Calls.{no_target, among, AllSafe}
-use Rattle.bit_arith.specs.Does.{Below, Turns}
+use Rattle.bit_arith.specs.Calls.{among}
+use Rattle.bit_arith.specs.Does.{Below}
 use Rattle.bit_arith.proofs.Doing.{Guards, does_fresh, does_grown}
 use Rattle.bit_arith.proofs.Listed.{safe_more, off_first}
 use Rattle.bit_arith.proofs.Phases.{turn_does}
 use Rattle.flat_build.specs.State.{Shown, Known, static, shown, lent, absent, Flattening, push, first, last, drop_last, build, taken, wires_in, only_wire}
-use Rattle.flat_build.specs.Flat.{flat, flat_step, on_wire, on_last_wire, turn_both}
+use Rattle.flat_build.specs.Flat.{flat, on_wire, on_last_wire, turn_both}
 use Rattle.flat_build.specs.Names.{AllKnown, Spares}
 use Rattle.flat_build.specs.Good.{Good, IsShown, IsKnown}
 use Rattle.flat_build.specs.Fine.{IsOf, MayTake, MayTurn}
@@ -31,7 +31,7 @@ use Rattle.flat_build.proofs.Choice.{guards_more}
 use Rattle.flat_build.proofs.Rows.{leads_turned, turn_measures}
 use Rattle.flat_build.proofs.Taking.{Taken, takes, one_wire, last_shown, leads_taken}
 use Rattle.flat_build.proofs.Gates.{leads_same, Wired, with_wired, leads_flip, leads_turn_both}
-use Rattle.flat_build.proofs.Mixing.{both_halves, leads_hadamard}
+use Rattle.flat_build.proofs.Mixing.{leads_hadamard}
 
 -- where the last value is known, the term has one
 pub values_whole : (x : Row) (ks : List Known) (ws : List Value) (v : Shown) → first ks ≡ shown v → ListBoth (Shows x) ks ws → ws ≡ first_value ws ∷ drop 1 ws

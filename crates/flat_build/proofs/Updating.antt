@@ -1,5 +1,5 @@
 -- Updates of variables, and what a variable is said to be equal to.
-use Rattle.std.proofs.Common.{◌≡◌, ℕ, ◌+◌, ◌≤◌, ◌<◌, Bool, true, false, cond, ◌||◌, List, [], ◌∷◌, ◌++◌, length, drop, ℤ, refl, sym, ap, ◌∙◌, subst, arith, append-nil}
+use Rattle.std.proofs.Common.{◌≡◌, ℕ, Bool, true, false, cond, ◌||◌, List, [], ◌∷◌, length, ℤ, refl, sym, ap, ◌∙◌, subst, arith}
 use Rattle.silq_tree.specs.declared.node.NameId.{NameId}
 use Rattle.silq_tree.specs.declared.node.UpdateOp.{UpdateOp}
 use Rattle.silq_types.specs.declared.types.Shape.{Shape}
@@ -15,14 +15,14 @@ use Rattle.flat_core.specs.declared.step.End.TheVariants.{Zeroed}
 use Rattle.flat_core.specs.Form.{DraftForm}
 use Rattle.flat_core.specs.Sound.{count_measures}
 use Rattle.flat_mean.specs.Row.{Row}
-use Rattle.flat_mean.specs.Terms.{Term as WireTerm, do_steps}
+use Rattle.flat_mean.specs.Terms.{do_steps}
 use Rattle.bit_arith.specs.declared.operand.Operand.{Operand}
 use Rattle.bit_arith.specs.Built.{Built, all_made}
 use Rattle.bit_arith.specs.Rows.{flip_each}
-use Rattle.bit_arith.specs.Calls.{Targets, among, AllSafe, AreTargets}
+use Rattle.bit_arith.specs.Calls.{Targets, among, AreTargets}
 use Rattle.bit_arith.specs.Values.{bits_at, values_at}
 use Rattle.bit_arith.specs.Does.{Fresh, Does, Below, Different}
-use Rattle.bit_arith.proofs.Steps.{Agree, clash}
+use Rattle.bit_arith.proofs.Steps.{clash}
 use Rattle.bit_arith.proofs.Doing.{does_fresh, does_grown}
 use Rattle.bit_arith.proofs.Listed.{below_more}
 use Rattle.bit_arith.proofs.Making.{bits_made, flip_bits, flip_each_does}

@@ -1,5 +1,5 @@
 -- The steps that give a new value for the last one or two: operators, copies, and what takes a value over.
-use Rattle.std.proofs.Common.{◌≡◌, ℕ, ◌+◌, ◌≤◌, ◌<◌, Bool, true, false, cond, not, ◌&&◌, ◌||◌, List, [], ◌∷◌, ◌++◌, length, drop, ℤ, refl, sym, ap, ◌∙◌, subst, arith}
+use Rattle.std.proofs.Common.{◌≡◌, ℕ, Bool, true, false, cond, not, ◌&&◌, ◌||◌, List, [], ◌∷◌, length, drop, refl, sym, ap, ◌∙◌, subst}
 use Rattle.std.specs.Prelude.{⊤, nat_abs}
 use Rattle.silq_tree.specs.declared.node.UnaryOp.{UnaryOp}
 use Rattle.silq_tree.specs.declared.node.BinaryOp.{BinaryOp}
@@ -7,24 +7,21 @@ use Rattle.silq_tree.specs.declared.node.BinaryOp.TheVariants.{Div}
 use Rattle.silq_types.specs.declared.types.Shape.{Shape}
 use Rattle.silq_types.specs.Types.{shape_bits, is_scalar}
 use Rattle.check_scope.specs.Uses.{is_consumed}
-use Rattle.silq_mean.specs.Value.{Value, of_one, of_two, of_two_typed, repeated as repeated_value, typed_like as value_like}
-use Rattle.silq_mean.specs.Term.{Term, first as first_value, last as last_value, last_but_one, drop_last as but_last, on_last, on_last_two}
+use Rattle.silq_mean.specs.Value.{Value, of_one, of_two, repeated as repeated_value, typed_like as value_like}
+use Rattle.silq_mean.specs.Term.{first as first_value, last as last_value, last_but_one, drop_last as but_last, on_last, on_last_two}
 use Rattle.silq_mean.specs.Effect.{Outcome, Receiver, variable, parameter, result, output, received, step, follow, one_operand, two_operands, copy_last, repeat_last, receive}
 use Rattle.flat_mean.specs.Row.{Row}
-use Rattle.flat_mean.specs.Terms.{Term as WireTerm}
 use Rattle.bit_arith.specs.declared.operand.Operand.{Operand}
-use Rattle.bit_arith.specs.Built.{Built, Setting, Given}
-use Rattle.bit_arith.specs.Calls.{no_target, AllSafe}
+use Rattle.bit_arith.specs.Built.{Built, Given}
+use Rattle.bit_arith.specs.Calls.{no_target}
 use Rattle.bit_arith.specs.Values.{bits_at}
 use Rattle.bit_arith.specs.Does.{Does}
-use Rattle.bit_arith.proofs.Steps.{Agree}
 use Rattle.bit_arith.proofs.Doing.{does_none, does_weak}
 use Rattle.flat_build.specs.State.{Shown, Known, static, shown, lent, absent, Flattening, push, first, last, drop_last, build, are_wires, are_new, as_they_are, copied, taken, kept}
-use Rattle.flat_build.specs.Flat.{flat, flat_step, by_one, by_two, shape_by, shape_by_one, on_one, on_two, on_two_typed, began_at, as_operand, give_copy, give_repeated, array_of, repeated, shape_for, taken_for, class_for, receive_value}
-use Rattle.flat_build.specs.Names.{AllKnown}
+use Rattle.flat_build.specs.Flat.{flat, by_one, by_two, shape_by, shape_by_one, on_one, on_two_typed, began_at, as_operand, give_copy, give_repeated, array_of, repeated, shape_for, taken_for, class_for, receive_value}
 use Rattle.flat_build.specs.Good.{Good, IsShown, IsKnown}
 use Rattle.flat_build.specs.Fine.{IsOf, IsAny, IsStatic, FitsOne, FitsTwo, MayJoin}
-use Rattle.flat_build.specs.Shows.{Shows, ListBoth, Related}
+use Rattle.flat_build.specs.Shows.{Shows, ListBoth}
 use Rattle.flat_build.proofs.Kept.{known_drop, known_last, AllShow, related_shows, all_show_new, all_show_drop}
 use Rattle.flat_build.proofs.Giving.{typed_as_known, as_operand_known, safe_repeated}
 use Rattle.flat_build.proofs.OperatorRows.{one_does, two_does}
@@ -32,7 +29,7 @@ use Rattle.flat_build.proofs.Operators.{OneBits, TwoBits}
 use Rattle.flat_build.proofs.Showing.{shows_bits, shows_one, shows_two, shows_for, shows_operand, shows_repeated}
 use Rattle.flat_build.proofs.Compose.{Leads}
 use Rattle.flat_build.proofs.Rows.{leads_row}
-use Rattle.flat_build.proofs.Taking.{Taken, copied_taken, last_shows}
+use Rattle.flat_build.proofs.Taking.{copied_taken, last_shows}
 
 -- ---- a new value for the last one, and for the last two
 
