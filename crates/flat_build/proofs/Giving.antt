@@ -21,10 +21,11 @@ use Rattle.bit_arith.specs.Built.{Built, Setting, Given, wires_from, made, all_m
 use Rattle.bit_arith.specs.Rows.{copy, sum, difference, product}
 use Rattle.bit_arith.specs.Calls.{Targets, no_target, among, Safe, AllSafe}
 use Rattle.bit_arith.specs.Values.{bits_at}
-use Rattle.bit_arith.specs.Does.{Fresh, Answers, Tells, Below}
+use Rattle.bit_arith.specs.Does.{Fresh, GivesNumber, Tells, Below}
 use Rattle.bit_arith.proofs.Steps.{and_true}
 use Rattle.bit_arith.proofs.Doing.{Guards}
-use Rattle.bit_arith.proofs.Making.{length-from, safe_new, Copies, copy_does, both_does, either_does, negated_safe, safe_from}
+use Rattle.bit_arith.specs.Does.{Copies}
+use Rattle.bit_arith.proofs.Making.{length-from, safe_new, copy_does, both_does, either_does, negated_safe, safe_from}
 use Rattle.bit_arith.proofs.Carrying.{sum_does, difference_does}
 use Rattle.bit_arith.proofs.Multiples.{product_does}
 use Rattle.bit_arith.proofs.Tests.{equal_does, less_does, safe_append}
@@ -233,8 +234,8 @@ pub record Gives (d : DraftForm) (n : ℕ) (row : Given (List Operand)) : Type 0
   pub size : length row.answer ≡ n
   pub there : AllSafe (length row.built.draft.wires) no_target row.answer
 
-gives_answers : {at : Setting} {d : DraftForm} {of : List Operand} {row : Given (List Operand)} {Q : Row → List Bool → Type 0} (n : ℕ) → Answers at d of row Q → AllSafe (length d.wires) no_target of → length row.answer ≡ n → Gives d n row
-gives_answers n a s e = record { later = later_does a.does; size = e; there = a.safe no_target (λ w le. refl) s }
+gives_number : {at : Setting} {d : DraftForm} {m : ℕ} {row : Given (List Operand)} {f : Row → ℕ} (n : ℕ) → m ≡ n → GivesNumber at d m row f → Gives d n row
+gives_number n e a = record { later = later_does a.does; size = a.count ∙ e; there = a.safe no_target (λ w le. refl) tt }
 
 gives_tells : {at : Setting} {d : DraftForm} {of : List Operand} {row : Given Operand} {f : Row → Bool} → Tells at d of row f → AllSafe (length d.wires) no_target of → Gives d 1 (alone row)
 gives_tells a s = record { later = later_does a.does; size = refl; there = (a.safe no_target (λ w le. refl) s, tt) }
@@ -250,18 +251,6 @@ gives_size d n m row e g = record { later = g.later; size = g.size ∙ e; there 
 
 length-made : (n w : ℕ) → length (all_made (wires_from w n)) ≡ n
 length-made n w = length-map (wires_from w n) made ∙ length-from w n
-
-length-sum : (at : Setting) (ps qs : List Operand) (b : Built) → length (sum at ps qs b).answer ≡ length ps
-unfolding sum
-length-sum at ps qs b = length-made (length ps) (length b.draft.wires)
-
-length-difference : (at : Setting) (ps qs : List Operand) (b : Built) → length (difference at ps qs b).answer ≡ length ps
-unfolding difference
-length-difference at ps qs b = length-made (length ps) (length b.draft.wires)
-
-length-product : (at : Setting) (ps qs : List Operand) (b : Built) → length (product at ps qs b).answer ≡ length ps
-unfolding product
-length-product at ps qs b = length-made (length ps) (length b.draft.wires)
 
 pub copy_answer : (at : Setting) (ps : List Operand) (b : Built) → (copy at ps b).answer ≡ wires_from (length b.draft.wires) (length ps)
 unfolding copy
@@ -294,7 +283,7 @@ gives_negative : (at : Setting) (ps : List Operand) (b : Built) → Fresh b.draf
 gives_negative at ps b f g s =
     let zs : List Operand = replicate (length ps) (Const false) in
     let e : length zs ≡ length ps = length-replicate (length ps) (Const false) in
-    gives_answers (length ps) (difference_does at zs ps b f e g (safe_zeros (length b.draft.wires) no_target (length ps)) s) tt (length-difference at zs ps b ∙ e)
+    gives_number (length ps) e (difference_does at zs ps b f e g (safe_zeros (length b.draft.wires) no_target (length ps)) s)
 
 pub gives_one : (op : UnaryOp) (at : Setting) (v : Shown) (b : Built) → Fresh b.draft → Guards at (length b.draft.wires) no_target → IsShown (length b.draft.wires) v → FitsOne op v.shape → Gives b.draft (shape_bits (shape_by_one op v.shape)) (by_one op at v.operands b)
 gives_one Not at v b f g k fits =
@@ -314,9 +303,9 @@ gives_two Lt s at ps qs b f g sp sq ep eq fits = gives_tells (less_does at (is_s
 gives_two Gt s at ps qs b f g sp sq ep eq fits = gives_tells (less_does at (is_signed s) qs ps b f (eq ∙ sym ep) g sq sp) tt
 gives_two Le s at ps qs b f g sp sq ep eq fits = gives_opposite (less_does at (is_signed s) qs ps b f (eq ∙ sym ep) g sq sp) tt
 gives_two Ge s at ps qs b f g sp sq ep eq fits = gives_opposite (less_does at (is_signed s) ps qs b f (ep ∙ sym eq) g sp sq) tt
-gives_two Add s at ps qs b f g sp sq ep eq fits = gives_answers (shape_bits s) (sum_does at ps qs b f (ep ∙ sym eq) g sp sq) tt (length-sum at ps qs b ∙ ep)
-gives_two Sub s at ps qs b f g sp sq ep eq fits = gives_answers (shape_bits s) (difference_does at ps qs b f (ep ∙ sym eq) g sp sq) tt (length-difference at ps qs b ∙ ep)
-gives_two Mul s at ps qs b f g sp sq ep eq fits = gives_answers (shape_bits s) (product_does at ps qs b f (ep ∙ sym eq) g sp sq) tt (length-product at ps qs b ∙ ep)
+gives_two Add s at ps qs b f g sp sq ep eq fits = gives_number (shape_bits s) ep (sum_does at ps qs b f (ep ∙ sym eq) g sp sq)
+gives_two Sub s at ps qs b f g sp sq ep eq fits = gives_number (shape_bits s) ep (difference_does at ps qs b f (ep ∙ sym eq) g sp sq)
+gives_two Mul s at ps qs b f g sp sq ep eq fits = gives_number (shape_bits s) ep (product_does at ps qs b f (ep ∙ sym eq) g sp sq)
 gives_two Div s at ps qs b f g sp sq ep eq fits = absurd fits
 
 -- ---- repeated values

@@ -9,7 +9,7 @@ use Rattle.silq_types.specs.Types.{single_shape, scalar_bits}
 use Rattle.silq_mean.specs.Value.{modulus, modulo, by_type, low_bits, number_of}
 use Rattle.bit_arith.specs.Numbers.{number, low_bits as row_bits}
 use Rattle.bit_arith.proofs.Adder.{number_low, low_number, number_below}
-use Rattle.bit_arith.proofs.Tests.{is_below}
+use Rattle.bit_arith.specs.Numbers.{is_below}
 use Rattle.flat_build.specs.State.{is_signed}
 
 pub number_same : (bs : List Bool) → number bs ≡ number_of bs

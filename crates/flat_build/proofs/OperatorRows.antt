@@ -25,7 +25,8 @@ use Rattle.bit_arith.proofs.Doing.{Guards, does_none, does_weak}
 use Rattle.bit_arith.proofs.Making.{length-bits, length-values, length-from, negated_bit, both_does, either_does, flip_each_does}
 use Rattle.bit_arith.proofs.Carrying.{bits_negated, sum_does, difference_does, add_into_does, sub_into_does}
 use Rattle.bit_arith.proofs.Multiples.{product_does}
-use Rattle.bit_arith.proofs.Tests.{is_below, equal_does, less_does}
+use Rattle.bit_arith.specs.Numbers.{is_below}
+use Rattle.bit_arith.proofs.Tests.{equal_does, less_does}
 use Rattle.flat_build.specs.State.{is_signed, only_operand}
 use Rattle.flat_build.specs.Flat.{by_one, by_two, update_by}
 use Rattle.flat_build.proofs.Operators.{only_bit, OneBits, TwoBits, UpdateBits}

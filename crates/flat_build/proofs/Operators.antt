@@ -18,9 +18,9 @@ use Rattle.silq_mean.specs.Value.{Value, whole, single, array, gone, modulus, by
 use Rattle.sum_laws.specs.Terms.{same_bits}
 use Rattle.flat_mean.specs.Row.{flipped}
 use Rattle.bit_arith.specs.Numbers.{number}
-use Rattle.bit_arith.proofs.Making.{flip_bits}
+use Rattle.bit_arith.specs.Values.{flip_bits}
 use Rattle.bit_arith.proofs.Orders.{same_bits_numbers}
-use Rattle.bit_arith.proofs.Tests.{is_below}
+use Rattle.bit_arith.specs.Numbers.{is_below}
 use Rattle.flat_build.specs.State.{is_signed}
 use Rattle.flat_build.specs.Flat.{shape_by, shape_by_one, array_of}
 use Rattle.flat_build.specs.Names.{AllOf}

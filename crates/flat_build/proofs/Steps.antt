@@ -17,7 +17,7 @@ use Rattle.flat_build.specs.Laws.{EffectsFollow, Follows}
 use Rattle.flat_build.proofs.Kept.{known_last}
 use Rattle.flat_build.proofs.Giving.{only_safe}
 use Rattle.flat_build.proofs.Later.{later_then}
-use Rattle.flat_build.proofs.Goods.{Owned, Goes, good_statement, goes_first, goes_second, goes_flat}
+use Rattle.flat_build.proofs.Goods.{Goes, good_statement, goes_first, goes_second, goes_flat}
 use Rattle.flat_build.proofs.Compose.{LeavesOperand, Leaves, Leads, leads_nothing, leads_then, leads_statement, follows_by}
 use Rattle.flat_build.proofs.Choice.{leads_choice}
 use Rattle.flat_build.proofs.Gates.{choice_bit}

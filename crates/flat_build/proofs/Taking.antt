@@ -22,7 +22,8 @@ use Rattle.bit_arith.specs.Does.{Does, AllNew, Below}
 use Rattle.bit_arith.proofs.Steps.{apart_above, clash}
 use Rattle.bit_arith.proofs.Doing.{Guards, does_grown, does_none, does_weak}
 use Rattle.bit_arith.proofs.Listed.{safe_more}
-use Rattle.bit_arith.proofs.Making.{Copies, copy_does, bits_made, length-from}
+use Rattle.bit_arith.specs.Does.{Copies}
+use Rattle.bit_arith.proofs.Making.{copy_does, bits_made, length-from}
 use Rattle.flat_build.specs.State.{Shown, Known, static, shown, lent, absent, Flattening, push, first, last, drop_last, build, are_wires, are_new, as_they_are, copied, taken, wires_in, only_wire}
 use Rattle.flat_build.specs.Names.{AllKnown, Spares}
 use Rattle.flat_build.specs.Good.{Good, IsShown, IsKnown}

@@ -25,7 +25,8 @@ use Rattle.bit_arith.specs.Does.{Fresh, Does, Below, Different}
 use Rattle.bit_arith.proofs.Steps.{clash}
 use Rattle.bit_arith.proofs.Doing.{does_fresh, does_grown}
 use Rattle.bit_arith.proofs.Listed.{below_more}
-use Rattle.bit_arith.proofs.Making.{bits_made, flip_bits, flip_each_does}
+use Rattle.bit_arith.specs.Values.{flip_bits}
+use Rattle.bit_arith.proofs.Making.{bits_made, flip_each_does}
 use Rattle.flat_build.specs.State.{Shown, Known, static, shown, lent, absent, Flattening, last, drop_last, build, operands_of, typed_as, typed_like, part_shape, part_start, part_of, are_wires, wires_in}
 use Rattle.flat_build.specs.Flat.{flat, flat_step, without_name, known_in, part_used, update_by, update_variable, zero_variable, end_all}
 use Rattle.flat_build.specs.Names.{AllKnown, Spares}

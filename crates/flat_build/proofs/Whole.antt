@@ -32,16 +32,16 @@ use Rattle.flat_build.specs.Names.{AllOf}
 use Rattle.flat_build.specs.Good.{Good, IsKnown}
 use Rattle.flat_build.specs.Fine.{IsOf}
 use Rattle.flat_build.specs.Shows.{Shows, ListBoth, Related}
-use Rattle.flat_build.specs.Laws.{FineJob, flat_meaning}
+use Rattle.flat_build.specs.Laws.{FineJob, flat_meaning, FlatHasTheMeaning}
 use Rattle.flat_build.proofs.Both.{both_reverse, all_reverse}
 use Rattle.flat_build.proofs.Later.{end_all_length, end_all_steps, end_all_input}
 use Rattle.flat_build.proofs.Giving.{below_in}
 use Rattle.flat_build.proofs.Goods.{Goes, goes_flat}
-use Rattle.flat_build.proofs.Begins.{length-inputs, good_begin, owned_begin}
+use Rattle.flat_build.proofs.Begins.{length-inputs, good_begin}
 use Rattle.flat_build.proofs.Operators.{HasBits, given_gives}
 use Rattle.flat_build.proofs.Compose.{no_input, Leads}
 use Rattle.flat_build.proofs.Taking.{wires_are}
-use Rattle.flat_build.proofs.Steps.{Also, leads_flat}
+use Rattle.flat_build.proofs.Steps.{leads_flat}
 
 -- ---- the wires of the parameters are inputs
 
@@ -180,16 +180,16 @@ all_below n (k ∷ ks) h = below_both n (wires_in (operands_of k)) (all_joined (
 
 -- ---- the whole program
 
-pub flat_has_the_meaning : (j : Job) (input : List Bool) (o : Outcome) → FineJob j → Also j.effect (begin j.shapes) → length input ≡ total_size j.shapes → flat_meaning (flattened j).form input o ≡ meaning j input o
-flat_has_the_meaning j input o fine also size =
+pub flat_has_the_meaning : FlatHasTheMeaning
+flat_has_the_meaning j input o fine size =
     let first : Flattening = begin j.shapes in
     let s : Flattening = flat j.effect first in
     let d : DraftForm = first.built.draft in
     let outs : List (List WireId) = wire_lists (reverse s.values) in
     let b : Built = end_all Output (all_joined outs) s.built in
     let good : Good first = good_begin j.shapes in
-    let went : Goes first s = goes_flat j.effect first good (owned_begin j.shapes) fine.0 in
-    let m : Leads o first s (follow o j.effect) = leads_flat o j.effect first good (owned_begin j.shapes) fine.0 also in
+    let went : Goes first s = goes_flat j.effect first good fine.0 in
+    let m : Leads o first s (follow o j.effect) = leads_flat o j.effect first good fine.0 in
     let below : Below (length s.built.draft.wires) (all_joined outs) = all_below (length s.built.draft.wires) (reverse s.values) (all_reverse (IsKnown (length s.built.draft.wires)) s.values went.good.known.values) in
     let ins : AllInputs d = begin_inputs j.shapes (begun empty_draft) (λ w lt. absurd (omega (arith, lt))) in
     let many : length d.wires ≡ length input = begin_length j.shapes (begun empty_draft) ∙ (none (total_size j.shapes) ∙ sym size) in

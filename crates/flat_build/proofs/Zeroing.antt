@@ -7,7 +7,8 @@ use Rattle.silq_mean.specs.Term.{Term, last as last_value, equals_last}
 use Rattle.flat_core.specs.declared.step.WireId.{WireId}
 use Rattle.flat_mean.specs.Row.{Row}
 use Rattle.bit_arith.specs.Values.{bits_at, values_at}
-use Rattle.bit_arith.proofs.Making.{flip_bits, bits_made, length-values}
+use Rattle.bit_arith.specs.Values.{flip_bits}
+use Rattle.bit_arith.proofs.Making.{bits_made, length-values}
 use Rattle.flat_build.specs.State.{Shown, shown, absent, Flattening, last, operands_of, typed_like, wires_in, are_wires}
 use Rattle.flat_build.specs.Flat.{known_in}
 use Rattle.flat_build.specs.Fine.{IsOf}

@@ -1,2 +1,8 @@
 #![tactic(auto)]
 //! The flat form of a program.
+//!
+//! It is read off what the program does (`silq_mean`'s effect), step by step in the order of the text (`specs/Flat`): a value is the operands
+//! that show its bits, and each step makes its row of steps on wires. The laws say that it has the meaning of the source, for programs that keep
+//! what the rules of typing give (`specs/Fine`).
+
+pub mod laws;

@@ -1,0 +1,14 @@
+//! Laws of flat forms, each a contract over the definitions alone.
+
+ghost use Rattle.flat_build.specs.Laws.{EffectsFollow, FlatHasTheMeaning};
+
+/// Step by step the terms of the flat form show those of the source, in the same order; where the condition in force does not hold the
+/// steps leave each term as it is.
+pub fn effects_follow()
+    ensures { EffectsFollow }
+{}
+
+/// The flat form of a program gives the list of bits and amplitudes that its source gives.
+pub fn flat_has_the_meaning()
+    ensures { FlatHasTheMeaning }
+{}
