@@ -26,3 +26,5 @@ pub mod Updating
 pub mod Steps
 pub mod Zeroing
 pub mod Whole
+pub mod Sparing
+pub mod Spared
