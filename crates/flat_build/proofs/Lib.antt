@@ -28,3 +28,4 @@ pub mod Zeroing
 pub mod Whole
 pub mod Sparing
 pub mod Spared
+pub mod Settling
