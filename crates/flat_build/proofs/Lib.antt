@@ -29,3 +29,4 @@ pub mod Whole
 pub mod Sparing
 pub mod Spared
 pub mod Settling
+pub mod Zeroes

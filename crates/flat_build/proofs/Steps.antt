@@ -56,14 +56,14 @@ leads_step o leave_body s g f = leads_leave_body o s
 -- ---- choices
 
 -- what keeps its label is not changed by the new steps
-keeps_leaves : (p : Operand) (s u : Flattening) (new : List FlatStep) → u.built.draft.steps ≡ s.built.draft.steps ++ new → Keeps p s u → LeavesOperand p new
+pub keeps_leaves : (p : Operand) (s u : Flattening) (new : List FlatStep) → u.built.draft.steps ≡ s.built.draft.steps ++ new → Keeps p s u → LeavesOperand p new
 keeps_leaves (Const b) s u new g k = tt
 keeps_leaves (Literal l) s u new g k =
     let a : label_after u.built.draft.steps l.wire ≡ label_after s.built.draft.steps l.wire = k l.wire (eq-eqb l.wire.number l.wire.number refl) in
     let b : label_after u.built.draft.steps l.wire ≡ label_after s.built.draft.steps l.wire + label_after new l.wire = ap (λ ss. label_after ss l.wire) g ∙ label-append s.built.draft.steps new l.wire in
     omega (arith, a, b)
 
-keeps_all : (c : Option Operand) (s u : Flattening) (new : List FlatStep) → u.built.draft.steps ≡ s.built.draft.steps ++ new → KeepsAll c s u → Leaves c new
+pub keeps_all : (c : Option Operand) (s u : Flattening) (new : List FlatStep) → u.built.draft.steps ≡ s.built.draft.steps ++ new → KeepsAll c s u → Leaves c new
 keeps_all None s u new g k = tt
 keeps_all (Some p) s u new g k = keeps_leaves p s u new g k
 

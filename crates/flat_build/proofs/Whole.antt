@@ -1,6 +1,7 @@
 -- The flat form of a program has the program's meaning.
 use Rattle.std.proofs.Common.{◌≡◌, ℕ, zero, suc, ◌+◌, ◌-◌, ◌≤◌, ◌<◌, get_or, inl, inr, Bool, true, false, cond, not, ◌&&◌, ◌==◌, List, [], ◌∷◌, ◌++◌, flat_map, map, length, take, drop, reverse, refl, sym, ap, ap₂, ◌∙◌, subst, arith, length-append, add-one}
 use Rattle.std.proofs.Math.Seq.{drop-cons}
+use Rattle.std.specs.Prelude.{◌⊎◌}
 use Rattle.std.proofs.lemmas.Bool.{cases_lt}
 use Rattle.std.proofs.lemmas.List.{drop-drop, length-take-le, length-drop, map-append, get_or_append_left}
 use Rattle.amp_core.specs.Amplitude.{one as one_amplitude, times}
@@ -10,10 +11,11 @@ use Rattle.silq_mean.specs.Value.{Value, bits_of as value_bits, value_of_bits}
 use Rattle.silq_mean.specs.Term.{Term}
 use Rattle.silq_mean.specs.Effect.{Outcome, follow}
 use Rattle.silq_mean.specs.Table.{Job, total_size, meaning, start, inputs as input_values, shown as shown_term}
+use Rattle.flat_core.specs.declared.step.Step.{Step}
 use Rattle.flat_core.specs.declared.step.WireId.{WireId}
-use Rattle.flat_core.specs.declared.step.End.TheVariants.{Output, Dropped}
+use Rattle.flat_core.specs.declared.step.End.TheVariants.{Output, Dropped, Zeroed}
 use Rattle.flat_core.specs.Form.{DraftForm, WireForm}
-use Rattle.flat_core.specs.Label.{wire_id, wire_in, no_wire, label_after}
+use Rattle.flat_core.specs.Label.{wire_id, wire_in, no_wire, label_after, end_of}
 use Rattle.flat_core.specs.Drafts.{with_wire, over_by_wire, empty_draft}
 use Rattle.flat_core.specs.Sound.{count_measures, joined}
 use Rattle.flat_mean.specs.Row.{Row, bits_of}
@@ -21,19 +23,20 @@ use Rattle.flat_mean.specs.Path.{input_row, inputs_before}
 use Rattle.flat_mean.specs.Terms.{Term as WireTerm, first_term, do_steps, seen_at, values_of, weight}
 use Rattle.flat_mean.proofs.Walks.{inputs_before-more}
 use Rattle.bit_arith.specs.Built.{Built, begun, or_later, blank, wires_from}
-use Rattle.bit_arith.specs.Calls.{no_target}
+use Rattle.bit_arith.specs.Calls.{no_target, among}
 use Rattle.bit_arith.specs.Values.{bits_at, values_at}
 use Rattle.bit_arith.specs.Does.{Below}
 use Rattle.bit_arith.proofs.Steps.{clash}
 use Rattle.bit_arith.proofs.Making.{bits_made}
 use Rattle.flat_build.specs.State.{Known, static, shown, lent, absent, Flattening, are_wires, wires_in, operands_of}
 use Rattle.flat_build.specs.Flat.{flat, begin, inputs, input_wires, flattened, wire_lists, end_all, joined as all_joined}
-use Rattle.flat_build.specs.Names.{AllOf}
+use Rattle.flat_build.specs.Names.{AllOf, AllKnown, Spares}
 use Rattle.flat_build.specs.Good.{Good, IsKnown}
 use Rattle.flat_build.specs.Fine.{IsOf}
 use Rattle.flat_build.specs.Shows.{Shows, ListBoth, Related}
-use Rattle.flat_build.specs.Laws.{FineJob, flat_meaning, FlatHasTheMeaning}
-use Rattle.flat_build.proofs.Both.{both_reverse, all_reverse}
+use Rattle.flat_build.specs.Laws.{FineJob, flat_meaning, FlatHasTheMeaning, EachZero, ZeroedAreZero}
+use Rattle.flat_build.proofs.Both.{both_reverse, all_reverse, all_weak}
+use Rattle.flat_build.proofs.Kept.{known_map}
 use Rattle.flat_build.proofs.Later.{end_all_length, end_all_steps, end_all_input}
 use Rattle.flat_build.proofs.Giving.{below_in}
 use Rattle.flat_build.proofs.Goods.{Goes, goes_flat}
@@ -42,6 +45,9 @@ use Rattle.flat_build.proofs.Operators.{HasBits, given_gives}
 use Rattle.flat_build.proofs.Compose.{no_input, Leads}
 use Rattle.flat_build.proofs.Taking.{wires_are}
 use Rattle.flat_build.proofs.Steps.{leads_flat}
+use Rattle.flat_build.proofs.Sparing.{is_zeroed, zeroed, end_all_zeroed}
+use Rattle.flat_build.proofs.Settling.{Done}
+use Rattle.flat_build.proofs.Zeroes.{Zeros, zero_flat}
 
 -- ---- the wires of the parameters are inputs
 
@@ -180,8 +186,15 @@ all_below n (k ∷ ks) h = below_both n (wires_in (operands_of k)) (all_joined (
 
 -- ---- the whole program
 
-pub flat_has_the_meaning : FlatHasTheMeaning
-flat_has_the_meaning j input o fine size =
+-- the first term shows that of the source, and the form's steps are those of the effect
+pub record Starts (j : Job) (input : List Bool) : Type 0 where
+  pub steps : (new : List Step) → (flat j.effect (begin j.shapes)).built.draft.steps ≡ (begin j.shapes).built.draft.steps ++ new → (flattened j).form.steps ≡ new
+  pub related : Related (begin j.shapes) (first_term (input_row (flattened j).form.wires (bits_of input))) (start j input)
+  -- the wires that end as Output
+  pub below : Below (length (flat j.effect (begin j.shapes)).built.draft.wires) (all_joined (wire_lists (reverse (flat j.effect (begin j.shapes)).values)))
+
+pub starts : (j : Job) (input : List Bool) (o : Outcome) → FineJob j → length input ≡ total_size j.shapes → Starts j input
+starts j input o fine size =
     let first : Flattening = begin j.shapes in
     let s : Flattening = flat j.effect first in
     let d : DraftForm = first.built.draft in
@@ -197,19 +210,20 @@ flat_has_the_meaning j input o fine size =
     let row : Row = input_row b.draft.wires (bits_of input) in
     let r : RowOf input row = the_row d b.draft.wires input ins many longer (λ w. end_all_input Output (all_joined outs) s.built w below ∙ m.inputs w) in
     let no_steps : d.steps ≡ [] = begin_steps j.shapes (begun empty_draft) in
-    let steps : b.draft.steps ≡ m.new = end_all_steps Output (all_joined outs) s.built ∙ (m.grown ∙ ap (λ ss. ss ++ m.new) no_steps) in
     let values : ListBoth (Shows row) (inputs j.shapes (begun empty_draft)).answer (input_values j.shapes input) = inputs_show input row r j.shapes (begun empty_draft) (omega (arith, size)) in
-    let related : Related first (first_term row) (start j input) = record {
-      clean = λ w h. clean d input row ins many r w h;
-      env = tt;
-      values = both_reverse (Shows row) (inputs j.shapes (begun empty_draft)).answer (input_values j.shapes input) values;
-      callers = tt;
-      eighths = refl;
-      halvings = refl;
-      measured = ap count_measures no_steps;
-    } in
-    ap (λ ss. seen_at (joined outs) (do_steps o ss (first_term row ∷ []))) steps
-    ∙ seen s (do_steps o m.new (first_term row ∷ [])) (follow o j.effect (start j input)) fine.1 (m.gives (first_term row) (start j input) related refl)
+    record {
+      steps = λ new grown. end_all_steps Output (all_joined outs) s.built ∙ (grown ∙ ap (λ ss. ss ++ new) no_steps);
+      below = below;
+      related = record {
+        clean = λ w h. clean d input row ins many r w h;
+        env = tt;
+        values = both_reverse (Shows row) (inputs j.shapes (begun empty_draft)).answer (input_values j.shapes input) values;
+        callers = tt;
+        eighths = refl;
+        halvings = refl;
+        measured = ap count_measures no_steps;
+      };
+    }
   where
     none : (n : ℕ) → 0 + n ≡ n
     none n = omega arith
@@ -219,3 +233,53 @@ flat_has_the_meaning j input o fine size =
       | inl lt ↦ absurd (clash (ap (λ i. not i && (label_after d.steps w == 0)) (sym (ins w lt)) ∙ h))
       | inr le ↦ r.high w.number (omega (arith, many, le))
     ]
+
+pub flat_has_the_meaning : FlatHasTheMeaning
+flat_has_the_meaning j input o fine size =
+    let first : Flattening = begin j.shapes in
+    let s : Flattening = flat j.effect first in
+    let m : Leads o first s (follow o j.effect) = leads_flat o j.effect first (good_begin j.shapes) fine.0 in
+    let row : Row = input_row (flattened j).form.wires (bits_of input) in
+    let r : Starts j input = starts j input o fine size in
+    ap (λ ss. seen_at (joined (flattened j).form.outs) (do_steps o ss (first_term row ∷ []))) (r.steps m.new m.grown)
+    ∙ seen s (do_steps o m.new (first_term row ∷ [])) (follow o j.effect (start j input)) fine.1 (m.gives (first_term row) (start j input) r.related refl)
+
+-- ---- wires that end as Zeroed
+
+with_input : (ws : List WireForm) (k : ℕ) → is_zeroed (get_or (ws ++ record { input = true; ending = Dropped } ∷ []) k no_wire).ending ≡ true → is_zeroed (get_or ws k no_wire).ending ≡ true
+with_input [] zero z = z
+with_input [] (suc k) z = z
+with_input (w ∷ ws) zero z = z
+with_input (w ∷ ws) (suc k) z = with_input ws k z
+
+inputs_ends : (n : ℕ) (b : Built) (w : WireId) → zeroed (input_wires n b).draft w ≡ true → zeroed b.draft w ≡ true
+inputs_ends zero b w z = z
+inputs_ends (suc n) b w z = with_input b.draft.wires w.number (inputs_ends n (record { draft = with_wire b.draft true; over = or_later b.over (over_by_wire b.draft) }) w z)
+
+begin_ends : (ss : List Shape) (b : Built) (w : WireId) → zeroed (inputs ss b).built.draft w ≡ true → zeroed b.draft w ≡ true
+begin_ends [] b w z = z
+begin_ends (s ∷ ss) b w z = inputs_ends (shape_bits s) b w (begin_ends ss (input_wires (shape_bits s) b) w z)
+
+pub none_zeroed : (ss : List Shape) (w : WireId) → zeroed (begin ss).built.draft w ≡ true → ⊥
+none_zeroed ss w z = clash (begin_ends ss (begun empty_draft) w z)
+
+pub zeroed_are_zero : ZeroedAreZero
+zeroed_are_zero j input o fine size honest =
+    let first : Flattening = begin j.shapes in
+    let s : Flattening = flat j.effect first in
+    let good : Good first = good_begin j.shapes in
+    let m : Leads o first s (follow o j.effect) = leads_flat o j.effect first good fine.0 in
+    let u : WireTerm = first_term (input_row (flattened j).form.wires (bits_of input)) in
+    let r : Starts j input = starts j input o fine size in
+    let done : Done first = known_map (IsKnown (length first.built.draft.wires)) (Spares (zeroed first.built.draft)) (λ k p w z. absurd (none_zeroed j.shapes w z)) first good.known in
+    subst (λ ss. EachZero (flattened j).form (do_steps o ss (u ∷ []))) (sym (r.steps m.new m.grown))
+    (all_weak (Zeros s.built.draft) (λ y. (w : WireId) → end_of (flattened j).form w ≡ Zeroed → y.row w.number ≡ false)
+    (λ y z w h. z w (ended j w r.below (ap is_zeroed h))) (do_steps o m.new (u ∷ []))
+    (zero_flat o j.effect first good fine.0 done m.new m.grown u (start j input) r.related refl (honest o) (λ w z. absurd (none_zeroed j.shapes w z))))
+  where
+    ended : (j : Job) (w : WireId) → Below (length (flat j.effect (begin j.shapes)).built.draft.wires) (all_joined (wire_lists (reverse (flat j.effect (begin j.shapes)).values))) → is_zeroed (end_of (flattened j).form w) ≡ true → zeroed (flat j.effect (begin j.shapes)).built.draft w ≡ true
+    ended j w below z = pick (end_all_zeroed Output (all_joined (wire_lists (reverse (flat j.effect (begin j.shapes)).values))) (flat j.effect (begin j.shapes)).built w below z)
+      where
+        pick : (zeroed (flat j.effect (begin j.shapes)).built.draft w ≡ true) ⊎ ((among (all_joined (wire_lists (reverse (flat j.effect (begin j.shapes)).values))) w ≡ true) × (is_zeroed Output ≡ true)) → zeroed (flat j.effect (begin j.shapes)).built.draft w ≡ true
+        pick (inl y) = y
+        pick (inr y) = absurd (clash y.1)

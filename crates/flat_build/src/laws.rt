@@ -1,6 +1,6 @@
 //! Laws of flat forms, each a contract over the definitions alone.
 
-ghost use Rattle.flat_build.specs.Laws.{EffectsFollow, FlatHasTheMeaning};
+ghost use Rattle.flat_build.specs.Laws.{EffectsFollow, FlatHasTheMeaning, ZeroedAreZero};
 
 /// Step by step the terms of the flat form show those of the source, in the same order; where the condition in force does not hold the
 /// steps leave each term as it is.
@@ -11,4 +11,9 @@ pub fn effects_follow()
 /// The flat form of a program gives the list of bits and amplitudes that its source gives.
 pub fn flat_has_the_meaning()
     ensures { FlatHasTheMeaning }
+{}
+
+/// Where each forget of a program is true, each wire that the flat form says is Zeroed is 0 on every term at the end.
+pub fn zeroed_are_zero()
+    ensures { ZeroedAreZero }
 {}
