@@ -146,7 +146,7 @@ pub typed_like_known : (n m : ℕ) (other k : Known) → IsKnown n k → IsKnown
 typed_like_known n m other k h = typed_like_all (IsKnown n) m other k (λ j z e. typed_known n m j z) h
 
 -- the operands of what is known are safe from what it does not name
-known_operands : (n : ℕ) (T : Targets) (k : Known) → IsKnown n k → Spares T k → AllSafe n T (operands_of k)
+pub known_operands : (n : ℕ) (T : Targets) (k : Known) → IsKnown n k → Spares T k → AllSafe n T (operands_of k)
 known_operands n T (static z) h s = tt
 known_operands n T (shown v) h s = safe_spared n T v.operands h.there s
 known_operands n T (lent start size v) h s = tt
@@ -271,11 +271,11 @@ gives_copied at ps b f g s =
 
 -- ---- operators
 
-safe_zeros : (n : ℕ) (T : Targets) (k : ℕ) → AllSafe n T (replicate k (Const false))
+pub safe_zeros : (n : ℕ) (T : Targets) (k : ℕ) → AllSafe n T (replicate k (Const false))
 safe_zeros n T zero = tt
 safe_zeros n T (suc k) = (tt, safe_zeros n T k)
 
-safe_negated : (n : ℕ) (T : Targets) (ps : List Operand) → AllSafe n T ps → AllSafe n T (map negated ps)
+pub safe_negated : (n : ℕ) (T : Targets) (ps : List Operand) → AllSafe n T ps → AllSafe n T (map negated ps)
 safe_negated n T [] s = tt
 safe_negated n T (p ∷ ps) s = (negated_safe n T p s.0, safe_negated n T ps s.1)
 

@@ -166,7 +166,7 @@ IsGate gate = (at : Setting) (w : WireId) (b : Built) → Fresh b.draft → w.nu
 takes_last : (s : Flattening) (v : Shown) → Good s → IsShown (length s.built.draft.wires) v → MayTake v s → Takes s.setting s.built.draft (length v.operands) (taken s.setting v s.built)
 takes_last s v g h m = takes_taken s.setting v s.built g.fresh g.condition h (λ k. (m k).condition)
 
-only_guard : (n : ℕ) (ps : List Operand) (cs : List Operand) → are_wires ps ≡ true → length ps ≡ 1 → AllSafe n (among (wires_in ps)) cs → AllSafe n (same_wire (only_wire ps)) cs
+pub only_guard : (n : ℕ) (ps : List Operand) (cs : List Operand) → are_wires ps ≡ true → length ps ≡ 1 → AllSafe n (among (wires_in ps)) cs → AllSafe n (same_wire (only_wire ps)) cs
 only_guard n [] cs h e s = cc
 only_guard n (Const b ∷ ps) cs h e s = cc
 only_guard n (Literal l ∷ []) cs h e s = safe_more n n (among (l.wire ∷ [])) (same_wire l.wire) cs (omega arith) (λ w lt t. same_wire_swap w l.wire (or_false (same_wire w l.wire) false t).0) s
@@ -598,7 +598,7 @@ goes_branch c s g h =
 
 -- ---- effects
 
-chosen_safe : (s : Flattening) → Good s → Safe (length s.built.draft.wires) no_target (chosen_by s)
+pub chosen_safe : (s : Flattening) → Good s → Safe (length s.built.draft.wires) no_target (chosen_by s)
 chosen_safe s g = go (last s) (last_known s g)
   where
     go : (k : Known) → IsKnown (length s.built.draft.wires) k → Safe (length s.built.draft.wires) no_target (only_operand (operands_of k))

@@ -28,7 +28,7 @@ use Rattle.flat_build.proofs.Kept.{known_map, known_and, known_last, known_name,
 use Rattle.flat_build.proofs.Later.{end_all_steps}
 use Rattle.flat_build.proofs.Giving.{typed_like_known, typed_like_safe, size_of, length-in, only_safe}
 use Rattle.flat_build.proofs.Choice.{Enters, enters, guards_more}
-use Rattle.flat_build.proofs.Goods.{Goes, good_statement, goes_first, goes_second, goes_flat, below_targets, different_wires, last_spared}
+use Rattle.flat_build.proofs.Goods.{Goes, chosen_safe, good_statement, goes_first, goes_second, goes_flat, below_targets, different_wires, last_spared}
 use Rattle.flat_build.proofs.Later.{later_then}
 use Rattle.flat_build.proofs.Sparing.{is_zeroed, zeroed, zeroed_end, zeroed_low, Low, Passes, passes_same, passes_grows, ends_grows, end_all_zeroed, none_among}
 use Rattle.flat_build.proofs.Spared.{Spared, spared_step, spared_mix, spared_measured}
@@ -140,15 +140,6 @@ settles_claim x s g may d = go (known_in s x) refl may
 
 -- ---- choices
 
-pub choice_safe : (s : Flattening) → Good s → Safe (length s.built.draft.wires) no_target (chosen_by s)
-choice_safe s g = go (last s) (known_last (IsKnown (length s.built.draft.wires)) s tt g.known)
-  where
-    go : (k : Known) → IsKnown (length s.built.draft.wires) k → Safe (length s.built.draft.wires) no_target (only_operand (operands_of k))
-    go (static z) h = tt
-    go (shown v) h = only_safe (length s.built.draft.wires) no_target v.operands h.there
-    go (lent start size v) h = tt
-    go absent h = tt
-
 pub zeroes_new : (s u : Flattening) → ZeroesNew s u → (w : WireId) → w.number < length s.built.draft.wires → zeroed u.built.draft w ≡ true → zeroed s.built.draft w ≡ true
 zeroes_new s u h w lt z = ap is_zeroed (h w lt (zeroed_end (wire_in u.built.draft.wires w).ending z))
 
@@ -157,7 +148,7 @@ module _ (s one : Flattening) (g : Good s) (g1 : Good one) (up : length (first_b
   begins = length s.built.draft.wires
 
   pub first_enters : Enters s.setting (chosen_by s) s.built
-  first_enters = enters s.setting (chosen_by s) s.built g.fresh g.condition (choice_safe s g)
+  first_enters = enters s.setting (chosen_by s) s.built g.fresh g.condition (chosen_safe s g)
 
   pub first_longer : begins ≤ length (first_branch s).built.draft.wires
   first_longer = does_grown first_enters.does
@@ -168,7 +159,7 @@ module _ (s one : Flattening) (g : Good s) (g1 : Good one) (up : length (first_b
   pub second_enters : Enters s.setting (negated (chosen_by s)) one.built
   second_enters =
       enters s.setting (negated (chosen_by s)) one.built g1.fresh (guards_more s.setting begins (length one.built.draft.wires) longer g.condition)
-      (negated_safe (length one.built.draft.wires) no_target (chosen_by s) (safe_one begins (length one.built.draft.wires) no_target no_target (chosen_by s) longer (λ w lt t. t) (choice_safe s g)))
+      (negated_safe (length one.built.draft.wires) no_target (chosen_by s) (safe_one begins (length one.built.draft.wires) no_target no_target (chosen_by s) longer (λ w lt t. t) (chosen_safe s g)))
 
   pub second_longer : length one.built.draft.wires ≤ length (second_branch one s).built.draft.wires
   second_longer = does_grown second_enters.does

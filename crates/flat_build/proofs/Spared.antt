@@ -50,11 +50,11 @@ use Rattle.flat_build.specs.Good.{Good, IsShown, IsKnown}
 use Rattle.flat_build.specs.Fine.{IsOf, IsPart, MayTake, MayChange, MayTurn, MayMeasure, UpdatesPart, MayUpdate, FitsOne, FitsTwo, MayJoin, IsStatic, IsAny, WasLent, IsLent, MayAssign, MayUse, FineStep, without_part}
 use Rattle.flat_build.proofs.Kept.{known_last, known_name, known_push, known_drop, known_bind, known_its, known_in_turn, known_enter_block, known_leave_block, known_enter, known_back, known_same, safe_spared, safe_outside, safe_take, safe_drop}
 use Rattle.flat_build.proofs.Later.{Later, later_fresh, later_measure_all}
-use Rattle.flat_build.proofs.Giving.{Takes, takes_taken, typed_as_all, typed_as_known, typed_as_safe, as_operand_known, size_of, length-part, wires_part, length-in, safe_part, below_in, safe_consts, only_safe, safe_repeated, only_below}
+use Rattle.flat_build.proofs.Giving.{known_operands, safe_zeros, safe_negated, Takes, takes_taken, typed_as_all, typed_as_known, typed_as_safe, as_operand_known, size_of, length-part, wires_part, length-in, safe_part, below_in, safe_consts, only_safe, safe_repeated, only_below}
 use Rattle.flat_build.proofs.OperatorRows.{update_does}
 use Rattle.flat_build.proofs.Taking.{one_wire}
-use Rattle.flat_build.proofs.Goods.{below_targets, different_wires, last_spared}
-use Rattle.flat_build.proofs.Sparing.{Low, none_new, Passes, passes_same, passes_then, passes_grows, passes_end, NoneNamed, none_named, none_among, safe_known, safe_lent, safe_apart}
+use Rattle.flat_build.proofs.Goods.{only_guard, below_targets, different_wires, last_spared}
+use Rattle.flat_build.proofs.Sparing.{Low, none_new, Passes, passes_same, passes_then, passes_grows, passes_end, NoneNamed, none_named, none_among, safe_lent, safe_apart}
 
 -- ---- rows that give operands
 
@@ -95,19 +95,11 @@ safely_copied T at ps b low f g s =
       unnamed = none_named (length (copy at ps b).built.draft.wires) T (all_made (copy at ps b).answer) (safe_new b.draft (copy at ps b).built.draft (copy at ps b).answer T c.new (none_new T b.draft low));
     }
 
-zeros_safe : (n : ℕ) (T : Targets) (k : ℕ) → AllSafe n T (replicate k (Const false))
-zeros_safe n T ℕ.zero = tt
-zeros_safe n T (ℕ.suc k) = (tt, zeros_safe n T k)
-
-map_negated : (n : ℕ) (T : Targets) (ps : List Operand) → AllSafe n T ps → AllSafe n T (map negated ps)
-map_negated n T [] s = tt
-map_negated n T (p ∷ ps) s = (negated_safe n T p s.0, map_negated n T ps s.1)
-
 safely_one : (op : UnaryOp) (T : Targets) (at : Setting) (ps : List Operand) (b : Built) → Low T b.draft → Fresh b.draft → Guards at (length b.draft.wires) no_target → AllSafe (length b.draft.wires) no_target ps → AllSafe (length b.draft.wires) T ps → Safely T b.draft (by_one op at ps b)
-safely_one Not T at ps b low f g s t = safely_same (length b.draft.wires) T (map negated ps) b (map_negated (length b.draft.wires) T ps t)
+safely_one Not T at ps b low f g s t = safely_same (length b.draft.wires) T (map negated ps) b (safe_negated (length b.draft.wires) T ps t)
 safely_one Neg T at ps b low f g s t =
     let zs : List Operand = replicate (length ps) (Const false) in
-    safely_number T low (difference_does at zs ps b f (length-replicate (length ps) (Const false)) g (zeros_safe (length b.draft.wires) no_target (length ps)) s)
+    safely_number T low (difference_does at zs ps b f (length-replicate (length ps) (Const false)) g (safe_zeros (length b.draft.wires) no_target (length ps)) s)
 
 safely_two : (op : BinaryOp) (s : Shape) (T : Targets) (at : Setting) (ps qs : List Operand) (b : Built) → Low T b.draft → Fresh b.draft → Guards at (length b.draft.wires) no_target → AllSafe (length b.draft.wires) no_target ps → AllSafe (length b.draft.wires) no_target qs → AllSafe (length b.draft.wires) T ps → AllSafe (length b.draft.wires) T qs → length ps ≡ length qs → FitsTwo op s → Safely T b.draft (by_two op s at ps qs b)
 safely_two Or s T at ps qs b low f g sp sq tp tq e fits =
@@ -204,13 +196,6 @@ measured_longer at ws b = (later_measure_all at ws b).longer
 
 only_named : (T : Targets) (ps : List Operand) → are_wires ps ≡ true → length ps ≡ 1 → NoneNamed T ps → (v : WireId) → T v ≡ true → same_wire (only_wire ps) v ≡ false
 only_named T ps a l u v t = (or_false (same_wire (only_wire ps) v) false (subst (λ qs. list_any (named_by v) qs ≡ false) (one_wire ps a l) (u v t))).0
-
--- the condition in force is not on the wire
-wire_guard : (n : ℕ) (ps cs : List Operand) → are_wires ps ≡ true → length ps ≡ 1 → AllSafe n (among (wires_in ps)) cs → AllSafe n (same_wire (only_wire ps)) cs
-wire_guard n [] cs h e s = cc
-wire_guard n (Const b ∷ ps) cs h e s = cc
-wire_guard n (Literal l ∷ []) cs h e s = safe_more n n (among (l.wire ∷ [])) (same_wire l.wire) cs (omega arith) (λ w lt t. same_wire_swap w l.wire (or_false (same_wire w l.wire) false t).0) s
-wire_guard n (Literal l ∷ p ∷ ps) cs h e s = absurd (omega (arith, e))
 
 -- nothing that is known names a wire of the set; all of them are there
 module _ (T : Targets) (s : Flattening) (low : Low T s.built.draft) (g : Good s) (all : AllKnown (Spares T) s) where
@@ -369,7 +354,7 @@ module _ (T : Targets) (s : Flattening) (low : Low T s.built.draft) (g : Good s)
           let b : Built = gate s.setting (only_wire row.answer) row.built in
           let q : Passes T row.built.draft b.draft =
           ok T s.setting (only_wire row.answer) row.built (later_fresh s.built.draft row.built.draft r.gives.later g.fresh) (only_below m no_target row.answer r.wires one r.gives.there)
-          (safe_more n m no_target no_target (under s.setting []) up (λ w lt e. e) g.condition) (wire_guard m row.answer (under s.setting []) r.wires one r.guards)
+          (safe_more n m no_target no_target (under s.setting []) up (λ w lt e. e) g.condition) (only_guard m row.answer (under s.setting []) r.wires one r.guards)
           (λ w t. let lw = low w t in omega (arith, lw, up)) (only_named T row.answer r.wires one a.unnamed) in
           spared_give T s (drop_last s) _ _ _ _ (record { answer = row.answer; built = b }) (record { passes = passes_then T s.built.draft row.built.draft b.draft a.passes q; unnamed = a.unnamed }) but_last
 
@@ -463,7 +448,7 @@ module _ (T : Targets) (s : Flattening) (low : Low T s.built.draft) (g : Good s)
       let b' : AllSafe n T (drop (part_start v.shape (i ∷ is) + shape_bits (part_shape v.shape (i ∷ is))) v.operands) = subst (λ m. AllSafe n T (drop m v.operands)) (ap₂ (λ (x y : ℕ). x + y) w.starts w.sizes) b in
       none_named n T (with_part v.shape (i ∷ is) v.operands (operands_of k))
       (safe_append n T (take (part_start v.shape (i ∷ is)) v.operands) (operands_of k ++ drop (part_start v.shape (i ∷ is) + shape_bits (part_shape v.shape (i ∷ is))) v.operands) a'
-      (safe_append n T (operands_of k) (drop (part_start v.shape (i ∷ is) + shape_bits (part_shape v.shape (i ∷ is))) v.operands) (safe_known n T k j q) b'))
+      (safe_append n T (operands_of k) (drop (part_start v.shape (i ∷ is) + shape_bits (part_shape v.shape (i ∷ is))) v.operands) (known_operands n T k j q) b'))
 
   assigned_spares : (i : ℤ) (is : List ℤ) (old new : Known) → IsKnown n old → IsKnown n new → Spares T old → Spares T new → IsLent (i ∷ is) old new → Spares T (assigned (i ∷ is) old new)
   assigned_spares i is (static z) new h j p q f = absurd f

@@ -174,13 +174,6 @@ none_among T (Literal l ∷ ps) h w t =
     neither (same_wire w l.wire) (among (wires_in ps) w) (same_wire_swap l.wire w (or_false (same_wire l.wire w) (list_any (named_by w) ps) (h w t)).0)
     (none_among T ps (λ v u. (or_false (same_wire l.wire v) (list_any (named_by v) ps) (h v u)).1) w t)
 
--- the operands of what is known
-pub safe_known : (n : ℕ) (T : Targets) (k : Known) → IsKnown n k → Spares T k → AllSafe n T (operands_of k)
-safe_known n T (static z) h s = tt
-safe_known n T (shown v) h s = safe_spared n T v.operands h.there s
-safe_known n T (lent start size v) h s = tt
-safe_known n T absent h s = tt
-
 -- what stands outside a lent part
 pub safe_lent : (n : ℕ) (T : Targets) (start size : ℕ) (ps : List Operand) → AllSafe n no_target ps → NoneNamed T (outside start size ps) → AllSafe n T (take start ps) × AllSafe n T (drop (start + size) ps)
 safe_lent n T start size ps h s =

@@ -17,7 +17,7 @@ use Rattle.flat_build.specs.Laws.{EffectsFollow, Follows}
 use Rattle.flat_build.proofs.Kept.{known_last}
 use Rattle.flat_build.proofs.Giving.{only_safe}
 use Rattle.flat_build.proofs.Later.{later_then}
-use Rattle.flat_build.proofs.Goods.{Goes, good_statement, goes_first, goes_second, goes_flat}
+use Rattle.flat_build.proofs.Goods.{Goes, chosen_safe, good_statement, goes_first, goes_second, goes_flat}
 use Rattle.flat_build.proofs.Compose.{LeavesOperand, Leaves, Leads, leads_nothing, leads_then, leads_statement, follows_by}
 use Rattle.flat_build.proofs.Choice.{leads_choice}
 use Rattle.flat_build.proofs.Gates.{choice_bit}
@@ -66,15 +66,6 @@ keeps_leaves (Literal l) s u new g k =
 pub keeps_all : (c : Option Operand) (s u : Flattening) (new : List FlatStep) → u.built.draft.steps ≡ s.built.draft.steps ++ new → KeepsAll c s u → Leaves c new
 keeps_all None s u new g k = tt
 keeps_all (Some p) s u new g k = keeps_leaves p s u new g k
-
-chosen_safe : (s : Flattening) → Good s → Safe (length s.built.draft.wires) no_target (chosen_by s)
-chosen_safe s g = go (last s) (known_last (IsKnown (length s.built.draft.wires)) s tt g.known)
-  where
-    go : (k : Known) → IsKnown (length s.built.draft.wires) k → Safe (length s.built.draft.wires) no_target (only_operand (operands_of k))
-    go (static z) h = tt
-    go (shown v) h = only_safe (length s.built.draft.wires) no_target v.operands h.there
-    go (lent start size v) h = tt
-    go absent h = tt
 
 -- ---- effects
 

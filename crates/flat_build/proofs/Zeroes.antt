@@ -35,12 +35,12 @@ use Rattle.flat_build.proofs.Later.{Later, later_then, end_all_steps}
 use Rattle.flat_build.proofs.Compose.{steps-each, Kept, steps_keep, LeavesOperand, Leaves, condition_kept, no_measures, Leads, related_to}
 use Rattle.flat_build.proofs.Choice.{Enters, with_row, flips_first, measures_grown, operand_kept, condition_holds}
 use Rattle.flat_build.proofs.Gates.{choice_bit}
-use Rattle.flat_build.proofs.Goods.{Goes, good_statement, goes_first, goes_second, goes_flat}
+use Rattle.flat_build.proofs.Goods.{Goes, chosen_safe, good_statement, goes_first, goes_second, goes_flat}
 use Rattle.flat_build.proofs.Steps.{leads_flat, keeps_leaves, keeps_all}
 use Rattle.flat_build.proofs.Zeroing.{claim_zeros}
 use Rattle.flat_build.proofs.Sparing.{passes_same, zeroed, zeroed_low, Low, ends_grows}
 use Rattle.flat_build.proofs.Spared.{Spared, spared_step, spared_mix, spared_measured}
-use Rattle.flat_build.proofs.Settling.{Done, Settles, settle, claim_wires, claim_flips, claim_does, claim_ends, claim_off, zeroes_new, choice_safe, first_enters, second_enters, settles_first, second_done}
+use Rattle.flat_build.proofs.Settling.{Done, Settles, settle, claim_wires, claim_flips, claim_does, claim_ends, claim_off, zeroes_new, first_enters, second_enters, settles_first, second_done}
 
 -- the wires that end as Zeroed are 0
 abbrev pub Zeros : DraftForm → WireTerm → Type 0
@@ -204,7 +204,7 @@ module _ (o : Outcome) (s one two : Flattening) (src next : Term → List Term) 
       on' = does_forced r1.does u.row gs.condition ∙ on
 
       its_bit : bit_of v (chosen_by s) ≡ bit_of u.row (chosen_by s)
-      its_bit = bit_same begins no_target v u.row (chosen_by s) (choice_safe s gs) ag
+      its_bit = bit_same begins no_target v u.row (chosen_by s) (chosen_safe s gs) ag
 
       shows : AllShow u.row (drop_last s) (but_last t)
       shows = all_show_drop u.row s t (related_shows s u t r)

@@ -2,7 +2,7 @@
 //! The flat form of a program.
 //!
 //! It is read off what the program does (`silq_mean`'s effect), step by step in the order of the text (`specs/Flat`): a value is the operands
-//! that show its bits, and each step makes its row of steps on wires. The laws say that it has the meaning of the source, for programs that keep
-//! what the rules of typing give (`specs/Fine`).
+//! that show its bits, and each step makes its row of steps on wires. The laws say that it has the meaning of the source, and that the wires that
+//! a true forget undoes are 0 in the end, for programs that keep what the rules of typing give (`specs/Fine`).
 
 pub mod laws;
