@@ -1,6 +1,6 @@
 -- Values against their bits: their shape, their parts, and values with a part changed.
 use Rattle.std.proofs.Common.{◌≡◌, ◌⊎◌, inl, inr, ℕ, suc, ◌+◌, ◌*◌, ◌≤◌, ◌<◌, List, [], ◌∷◌, ◌++◌, length, get_or, take, drop, ℤ, refl, sym, ap, ap₂, ◌∙◌, subst, arith}
-use Rattle.std.specs.Prelude.{⊤, Bool, nat_abs, set, flat_map}
+use Rattle.std.specs.Prelude.{Bool, nat_abs, set, flat_map}
 use Rattle.std.proofs.Math.Nat.{mul-le-mul_left}
 use Rattle.std.proofs.Math.Seq.{take-nil, drop-nil}
 use Rattle.std.proofs.lemmas.Bool.{cases_lt}
@@ -90,7 +90,6 @@ pub number_bits : (k : Scalar) (x : Value) → HasShape (single_shape k) x → b
 number_bits k x h = ap bits_of (number_is k x h)
 
 -- ---- parts
-
 
 -- indices lead to a part of each value of a type
 pub record IsThere (s : Shape) (is : List ℤ) : Type 0 where

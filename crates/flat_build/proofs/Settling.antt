@@ -1,36 +1,32 @@
 -- Wires that end as Zeroed: nothing that is known names them, and no step changes them after that.
-use Rattle.std.proofs.Common.{◌≡◌, ℕ, ◌+◌, ◌≤◌, ◌<◌, Bool, true, false, List, [], ◌∷◌, ◌++◌, length, Option, Some, None, refl, sym, ap, ◌∙◌, subst, arith, ◌⊎◌, inl, inr}
-use Rattle.std.specs.Prelude.{⊤}
-use Rattle.std.proofs.lemmas.Bool.{cases_Bool, cases_lt}
+use Rattle.std.proofs.Common.{◌≡◌, ℕ, ◌≤◌, ◌<◌, true, false, List, length, refl, sym, ap, ◌∙◌, subst, arith, ◌⊎◌, inl, inr}
+use Rattle.std.proofs.lemmas.Bool.{cases_lt}
 use Rattle.silq_tree.specs.declared.node.NameId.{NameId}
 use Rattle.silq_mean.specs.Effect.{Effect, nothing, ◌>>◌, statement, step, mix, measure as measured, claim, choice}
 use Rattle.flat_core.specs.declared.step.WireId.{WireId}
 use Rattle.flat_core.specs.declared.step.End.TheVariants.{Zeroed}
-use Rattle.flat_core.specs.Form.{DraftForm}
 use Rattle.flat_core.specs.Label.{wire_in, label_after}
-use Rattle.flat_mean.specs.Row.{Row}
 use Rattle.bit_arith.specs.declared.operand.Operand.{Operand}
-use Rattle.bit_arith.specs.declared.operand.Operand.TheVariants.{Const, Literal}
 use Rattle.bit_arith.specs.Built.{Built, negated}
 use Rattle.bit_arith.specs.Rows.{flip_each}
-use Rattle.bit_arith.specs.Calls.{Targets, no_target, among, Safe}
+use Rattle.bit_arith.specs.Calls.{Targets, no_target, among}
 use Rattle.bit_arith.specs.Values.{bits_at, values_at, flip_bits}
 use Rattle.bit_arith.specs.Does.{Does, Below}
 use Rattle.bit_arith.proofs.Doing.{does_grown}
 use Rattle.bit_arith.proofs.Listed.{below_more, safe_one}
 use Rattle.bit_arith.proofs.Making.{flip_each_does, negated_safe}
-use Rattle.flat_build.specs.State.{Shown, Known, static, shown, lent, absent, Flattening, last, drop_last, operands_of, only_operand, typed_like, are_wires, wires_in, build}
+use Rattle.flat_build.specs.State.{Shown, Known, static, shown, lent, absent, Flattening, last, drop_last, operands_of, typed_like, are_wires, wires_in}
 use Rattle.flat_build.specs.Flat.{flat, flat_step, known_in, count_statement, on_line, chosen_by, first_branch, second_branch, zero_variable, without_name, end_all}
 use Rattle.flat_build.specs.Names.{AllKnown, Spares, names}
 use Rattle.flat_build.specs.Good.{Good, IsKnown}
 use Rattle.flat_build.specs.Fine.{IsOf, MayChange, MayClaim, Fine, ZeroesNew}
-use Rattle.flat_build.proofs.Kept.{known_map, known_and, known_last, known_name, known_drop, known_its, safe_spared, new_unnamed}
+use Rattle.flat_build.proofs.Kept.{known_map, known_and, known_last, known_name, known_drop, known_its, new_unnamed}
 use Rattle.flat_build.proofs.Later.{end_all_steps}
-use Rattle.flat_build.proofs.Giving.{typed_like_known, typed_like_safe, size_of, length-in, only_safe}
+use Rattle.flat_build.proofs.Giving.{typed_like_known, typed_like_safe, size_of, length-in}
 use Rattle.flat_build.proofs.Choice.{Enters, enters, guards_more}
 use Rattle.flat_build.proofs.Goods.{Goes, chosen_safe, good_statement, goes_first, goes_second, goes_flat, below_targets, different_wires, last_spared}
 use Rattle.flat_build.proofs.Later.{later_then}
-use Rattle.flat_build.proofs.Sparing.{is_zeroed, zeroed, zeroed_end, zeroed_low, Low, Passes, passes_same, passes_grows, ends_grows, end_all_zeroed, none_among}
+use Rattle.flat_build.proofs.Sparing.{is_zeroed, zeroed, zeroed_end, zeroed_low, Low, passes_grows, ends_grows, end_all_zeroed, none_among}
 use Rattle.flat_build.proofs.Spared.{Spared, spared_step, spared_mix, spared_measured}
 
 -- nothing that is known names a wire that ends as Zeroed

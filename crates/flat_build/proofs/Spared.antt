@@ -1,8 +1,7 @@
 -- Each step of a program spares wires that nothing known names.
-use Rattle.std.proofs.Common.{◌≡◌, ℕ, ◌+◌, ◌≤◌, ◌<◌, Bool, true, false, cond, not, ◌&&◌, ◌||◌, List, [], ◌∷◌, ◌++◌, length, take, drop, replicate, map, ℤ, refl, sym, ap, ap₂, ◌∙◌, subst, arith, ◌⊎◌, inl, inr}
-use Rattle.std.specs.Prelude.{nat_abs, ⊤}
+use Rattle.std.proofs.Common.{◌≡◌, ℕ, ◌+◌, ◌≤◌, ◌<◌, Bool, true, false, cond, not, ◌&&◌, ◌||◌, List, [], ◌∷◌, ◌++◌, length, take, drop, replicate, map, ℤ, refl, sym, ap, ap₂, ◌∙◌, subst, arith}
+use Rattle.std.specs.Prelude.{nat_abs}
 use Rattle.std.specs.List.{list_any}
-use Rattle.std.proofs.lemmas.Bool.{eq-eqb, cases_Bool}
 use Rattle.std.proofs.lemmas.List.{length-replicate}
 use Rattle.silq_tree.specs.declared.node.NameId.{NameId}
 use Rattle.silq_tree.specs.declared.node.UnaryOp.{UnaryOp}
@@ -14,7 +13,7 @@ use Rattle.silq_types.specs.declared.types.Scalar.{Scalar}
 use Rattle.silq_types.specs.declared.types.Scalar.TheVariants as scalars
 use Rattle.silq_types.specs.declared.types.Shape.{Shape}
 use Rattle.silq_types.specs.declared.types.Shape.TheVariants.{Bit, UInt, Int, Array}
-use Rattle.silq_types.specs.Types.{scalar_bits, shape_bits, is_scalar}
+use Rattle.silq_types.specs.Types.{scalar_bits, shape_bits}
 use Rattle.check_scope.specs.declared.need.Need.{Need}
 use Rattle.check_scope.specs.Uses.{is_consumed}
 use Rattle.silq_mean.specs.Value.{low_bits, modulo, modulus}
@@ -27,15 +26,15 @@ use Rattle.flat_core.specs.Label.{same_wire}
 use Rattle.flat_core.specs.Sound.{count_measures}
 use Rattle.flat_mean.specs.Row.{Row}
 use Rattle.bit_arith.specs.declared.operand.Operand.{Operand}
-use Rattle.bit_arith.specs.declared.operand.Operand.TheVariants.{Const, Literal}
+use Rattle.bit_arith.specs.declared.operand.Operand.TheVariants.{Const}
 use Rattle.bit_arith.specs.Built.{Built, Setting, Given, made, all_made, negated, under}
 use Rattle.bit_arith.specs.Rows.{copy, flip, turn, had, measure}
-use Rattle.bit_arith.specs.Calls.{Targets, no_target, among, Safe, AllSafe}
+use Rattle.bit_arith.specs.Calls.{Targets, no_target, among, AllSafe}
 use Rattle.bit_arith.specs.Values.{bits_at}
-use Rattle.bit_arith.specs.Does.{Fresh, Below, GivesNumber, Tells, Copies, Turns, Splits, Measures}
+use Rattle.bit_arith.specs.Does.{Fresh, GivesNumber, Tells, Copies, Turns, Measures}
 use Rattle.bit_arith.proofs.Doing.{Guards, grows_fresh, grown}
-use Rattle.bit_arith.proofs.Steps.{or_false, clash}
-use Rattle.bit_arith.proofs.Listed.{safe_under, safe_more, below_more, same_wire_swap}
+use Rattle.bit_arith.proofs.Steps.{or_false}
+use Rattle.bit_arith.proofs.Listed.{safe_under, safe_more, below_more}
 use Rattle.bit_arith.proofs.Making.{safe_new, copy_does, both_does, either_does, negated_safe}
 use Rattle.bit_arith.proofs.Carrying.{sum_does, difference_does}
 use Rattle.bit_arith.proofs.Multiples.{product_does}
@@ -43,13 +42,13 @@ use Rattle.bit_arith.proofs.Tests.{equal_does, less_does, safe_append}
 use Rattle.bit_arith.proofs.Tidying.{flip_does}
 use Rattle.bit_arith.proofs.Phases.{turn_does}
 use Rattle.bit_arith.proofs.Halves.{had_does, measure_does}
-use Rattle.flat_build.specs.State.{Shown, Known, static, shown, lent, absent, Caller, Flattening, push, last, drop_last, wires_so_far, build, operands_of, is_signed, typed, typed_as, typed_like, part_shape, part_start, part_of, with_part, outside, are_wires, are_new, as_they_are, copied, taken, kept, wires_in, only_wire, only_operand}
-use Rattle.flat_build.specs.Flat.{negative, by_one, by_two, alone, opposite, give, on_one, on_two_typed, began_at, as_operand, give_copy, give_repeated, repeated, on_wire, turn_both, end_all, measure_all, measure_value, shape_for, taken_for, receive_value, known_in, part_used, use_part, moved, after_use, use_variable, assigned, bind, update_variable, update_by, back_to, flat_step}
+use Rattle.flat_build.specs.State.{Shown, Known, static, shown, lent, absent, Caller, Flattening, push, last, drop_last, wires_so_far, operands_of, is_signed, typed, typed_as, part_shape, part_start, part_of, with_part, outside, are_wires, are_new, as_they_are, copied, taken, kept, wires_in, only_wire, only_operand}
+use Rattle.flat_build.specs.Flat.{by_one, by_two, alone, opposite, give, on_one, on_two_typed, began_at, as_operand, give_copy, give_repeated, repeated, on_wire, turn_both, end_all, measure_all, measure_value, shape_for, taken_for, receive_value, known_in, part_used, use_part, moved, after_use, use_variable, assigned, bind, update_variable, back_to, flat_step}
 use Rattle.flat_build.specs.Names.{AllOf, AllKnown, CallerOf, named_by, Spares}
 use Rattle.flat_build.specs.Good.{Good, IsShown, IsKnown}
-use Rattle.flat_build.specs.Fine.{IsOf, IsPart, MayTake, MayChange, MayTurn, MayMeasure, UpdatesPart, MayUpdate, FitsOne, FitsTwo, MayJoin, IsStatic, IsAny, WasLent, IsLent, MayAssign, MayUse, FineStep, without_part}
-use Rattle.flat_build.proofs.Kept.{known_last, known_name, known_push, known_drop, known_bind, known_its, known_in_turn, known_enter_block, known_leave_block, known_enter, known_back, known_same, safe_spared, safe_outside, safe_take, safe_drop}
-use Rattle.flat_build.proofs.Later.{Later, later_fresh, later_measure_all}
+use Rattle.flat_build.specs.Fine.{IsOf, MayTake, MayTurn, MayMeasure, UpdatesPart, MayUpdate, FitsTwo, MayJoin, WasLent, IsLent, MayAssign, MayUse, FineStep, without_part}
+use Rattle.flat_build.proofs.Kept.{known_last, known_name, known_push, known_drop, known_bind, known_its, known_in_turn, known_enter_block, known_leave_block, known_enter, known_back, safe_spared, safe_outside}
+use Rattle.flat_build.proofs.Later.{later_fresh, later_measure_all}
 use Rattle.flat_build.proofs.Giving.{known_operands, safe_zeros, safe_negated, Takes, takes_taken, typed_as_all, typed_as_known, typed_as_safe, as_operand_known, size_of, length-part, wires_part, length-in, safe_part, below_in, safe_consts, only_safe, safe_repeated, only_below}
 use Rattle.flat_build.proofs.OperatorRows.{update_does}
 use Rattle.flat_build.proofs.Taking.{one_wire}

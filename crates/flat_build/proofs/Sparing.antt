@@ -1,5 +1,5 @@
 -- Steps that change none of some wires, after which nothing that is known names one of them.
-use Rattle.std.proofs.Common.{◌≡◌, ℕ, zero, suc, ◌+◌, ◌-◌, ◌≤◌, ◌<◌, Bool, true, false, cond, not, ◌&&◌, ◌||◌, List, [], ◌∷◌, ◌++◌, length, take, drop, reverse, map, ℤ, refl, sym, ap, ap₂, ◌∙◌, subst, arith, length-set, get_or-set_same, get_or-set_other, slice_set, ◌⊎◌, inl, inr}
+use Rattle.std.proofs.Common.{◌≡◌, ℕ, zero, suc, ◌+◌, ◌-◌, ◌≤◌, ◌<◌, Bool, true, false, ◌||◌, List, [], ◌∷◌, ◌++◌, length, take, drop, refl, sym, ap, ◌∙◌, subst, arith, length-set, get_or-set_same, get_or-set_other, slice_set, ◌⊎◌, inl, inr}
 use Rattle.std.specs.Prelude.{get_or}
 use Rattle.std.specs.List.{list_any}
 use Rattle.std.proofs.lemmas.Bool.{eqb-true, eq-eqb, cases_Bool, cases_lt, cases_eq}
@@ -13,16 +13,15 @@ use Rattle.flat_core.specs.Label.{same_wire, label_after, wire_in, no_wire}
 use Rattle.flat_core.specs.Drafts.{with_end}
 use Rattle.bit_arith.specs.declared.operand.Operand.{Operand}
 use Rattle.bit_arith.specs.declared.operand.Operand.TheVariants.{Const, Literal}
-use Rattle.bit_arith.specs.Built.{Built, Setting}
+use Rattle.bit_arith.specs.Built.{Built}
 use Rattle.bit_arith.specs.Calls.{Targets, no_target, among, AllSafe}
 use Rattle.bit_arith.specs.Does.{dropped_wires, Grows, NoneNew, Below}
 use Rattle.bit_arith.proofs.Steps.{label-append, or_false, clash}
 use Rattle.bit_arith.proofs.Listed.{same_wire_swap, below_more}
-use Rattle.bit_arith.proofs.Tests.{safe_left, safe_right, safe_append}
-use Rattle.flat_build.specs.State.{Shown, Known, static, shown, lent, absent, operands_of, outside, wires_in}
+use Rattle.bit_arith.proofs.Tests.{safe_left, safe_right}
+use Rattle.flat_build.specs.State.{outside, wires_in}
 use Rattle.flat_build.specs.Flat.{end_all}
-use Rattle.flat_build.specs.Names.{AllOf, AllKnown, named_by, names, Spares}
-use Rattle.flat_build.specs.Good.{IsShown, IsKnown}
+use Rattle.flat_build.specs.Names.{named_by}
 use Rattle.flat_build.proofs.Kept.{safe_spared, safe_outside, safe_take, safe_drop}
 use Rattle.flat_build.proofs.Later.{end_all_steps}
 

@@ -1,7 +1,7 @@
 -- Where each forget is true, the wires that end as Zeroed are 0.
 use Rattle.std.proofs.Common.{◌≡◌, ℕ, ◌+◌, ◌≤◌, ◌<◌, Bool, true, false, not, ◌||◌, List, [], ◌∷◌, ◌++◌, length, replicate, drop, refl, sym, ap, ◌∙◌, subst, arith, append_assoc, ◌⊎◌, inl, inr}
 use Rattle.std.specs.Prelude.{get_or}
-use Rattle.std.proofs.lemmas.Bool.{eqb-true, cases_Bool, cases_lt}
+use Rattle.std.proofs.lemmas.Bool.{eqb-true, cases_lt}
 use Rattle.std.proofs.lemmas.List.{append_cancel_left}
 use Rattle.silq_tree.specs.declared.node.NameId.{NameId}
 use Rattle.silq_mean.specs.Value.{is_one}
@@ -16,31 +16,31 @@ use Rattle.flat_core.specs.Sound.{count_measures}
 use Rattle.flat_mean.specs.Row.{Row}
 use Rattle.flat_mean.specs.Terms.{Term as WireTerm, each, do_steps}
 use Rattle.bit_arith.specs.Built.{Setting, negated}
-use Rattle.bit_arith.specs.Calls.{no_target, among, Safe}
+use Rattle.bit_arith.specs.Calls.{no_target, among}
 use Rattle.bit_arith.specs.Values.{Clean, bit_of, forced, values_at}
-use Rattle.bit_arith.specs.Does.{after, Fresh, Grows}
+use Rattle.bit_arith.specs.Does.{after, Fresh}
 use Rattle.bit_arith.proofs.Steps.{Agree, label-append, bit_same, clash}
-use Rattle.bit_arith.proofs.Doing.{does_grown, clean_above, does_forced, grows_agree, grows_clean, blank_before}
+use Rattle.bit_arith.proofs.Doing.{does_grown, clean_above, does_forced, grows_agree, grows_clean}
 use Rattle.bit_arith.proofs.Making.{negated_bit}
 use Rattle.bit_arith.proofs.Phases.{do_steps-append, flips_one}
 use Rattle.flat_build.specs.State.{Shown, Known, static, shown, lent, absent, Flattening, last, drop_last, are_wires, typed_like, wires_in}
-use Rattle.flat_build.specs.Flat.{flat, flat_step, known_in, count_statement, on_line, chosen_by, first_branch, second_branch, zero_variable, without_name, end_all, under}
-use Rattle.flat_build.specs.Names.{AllOf, AllKnown, Spares}
+use Rattle.flat_build.specs.Flat.{flat, flat_step, known_in, count_statement, on_line, chosen_by, first_branch, second_branch, zero_variable, without_name}
+use Rattle.flat_build.specs.Names.{AllOf}
 use Rattle.flat_build.specs.Good.{Good, IsKnown}
 use Rattle.flat_build.specs.Fine.{IsOf, MayChange, Fine, ZeroesNew}
 use Rattle.flat_build.specs.Shows.{ListBoth, Related}
-use Rattle.flat_build.proofs.Both.{all_append, all_weak, both_weak}
+use Rattle.flat_build.proofs.Both.{all_append, all_weak}
 use Rattle.flat_build.proofs.Kept.{known_drop, AllShow, related_shows, all_show_new, all_show_drop, all_and}
-use Rattle.flat_build.proofs.Later.{Later, later_then, end_all_steps}
+use Rattle.flat_build.proofs.Later.{later_then, end_all_steps}
 use Rattle.flat_build.proofs.Compose.{steps-each, Kept, steps_keep, LeavesOperand, Leaves, condition_kept, no_measures, Leads, related_to}
 use Rattle.flat_build.proofs.Choice.{Enters, with_row, flips_first, measures_grown, operand_kept, condition_holds}
 use Rattle.flat_build.proofs.Gates.{choice_bit}
 use Rattle.flat_build.proofs.Goods.{Goes, chosen_safe, good_statement, goes_first, goes_second, goes_flat}
 use Rattle.flat_build.proofs.Steps.{leads_flat, keeps_leaves, keeps_all}
 use Rattle.flat_build.proofs.Zeroing.{claim_zeros}
-use Rattle.flat_build.proofs.Sparing.{passes_same, zeroed, zeroed_low, Low, ends_grows}
+use Rattle.flat_build.proofs.Sparing.{passes_same, zeroed, zeroed_low, ends_grows}
 use Rattle.flat_build.proofs.Spared.{Spared, spared_step, spared_mix, spared_measured}
-use Rattle.flat_build.proofs.Settling.{Done, Settles, settle, claim_wires, claim_flips, claim_does, claim_ends, claim_off, zeroes_new, first_enters, second_enters, settles_first, second_done}
+use Rattle.flat_build.proofs.Settling.{Done, settle, claim_flips, claim_does, claim_ends, claim_off, zeroes_new, first_enters, second_enters, settles_first, second_done}
 
 -- the wires that end as Zeroed are 0
 abbrev pub Zeros : DraftForm → WireTerm → Type 0
