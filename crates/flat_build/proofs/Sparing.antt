@@ -135,7 +135,7 @@ end_all_zeroed ending (v ∷ ws) b w h z =
     first (inl y) = second (end_one b.draft v ending w h.0 y)
     first (inr y) = inr (any_rest (same_wire w v) (among ws w) y.0, y.1)
 
--- the other way: the wires end so
+-- wires that come to end in another way
 pub passes_end : (T : Targets) (ending : End) (ws : List WireId) (b : Built) → is_zeroed ending ≡ false → Below (length b.draft.wires) ws → Passes T b.draft (end_all ending ws b).draft
 passes_end T ending ws b other h = record {
   keeps = λ w t. ap (λ ss. label_after ss w) (end_all_steps ending ws b);

@@ -60,7 +60,7 @@ both_holding S H [] (t ∷ ts) s h = absurd s
 both_holding S H (u ∷ us) [] s h = absurd s
 both_holding S H (u ∷ us) (t ∷ ts) s h = ((s.0, h.0), both_holding S H us ts s.1 h.1)
 
--- steps that a longer list of steps ends with are the same
+-- steps after the same steps are the same where all are
 same_new : (old a b all : List Step) → all ≡ old ++ a → all ≡ old ++ b → a ≡ b
 same_new old a b all p q = append_cancel_left old a b (sym p ∙ q)
 
