@@ -91,7 +91,6 @@ number_bits k x h = ap bits_of (number_is k x h)
 
 -- ---- parts
 
-
 -- indices lead to a part of each value of a type
 pub record IsThere (s : Shape) (is : List ℤ) : Type 0 where
   pub within : part_start s is + shape_bits (part_shape s is) ≤ shape_bits s
