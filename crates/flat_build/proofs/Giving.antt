@@ -18,7 +18,7 @@ use Rattle.flat_mean.specs.Row.{Row}
 use Rattle.bit_arith.specs.declared.operand.Operand.{Operand}
 use Rattle.bit_arith.specs.declared.operand.Operand.TheVariants.{Const, Literal}
 use Rattle.bit_arith.specs.Built.{Built, Setting, Given, wires_from, made, all_made, negated, under}
-use Rattle.bit_arith.specs.Rows.{copy, sum, difference, product}
+use Rattle.bit_arith.specs.Rows.{copy}
 use Rattle.bit_arith.specs.Calls.{Targets, no_target, among, Safe, AllSafe}
 use Rattle.bit_arith.specs.Values.{bits_at}
 use Rattle.bit_arith.specs.Does.{Fresh, GivesNumber, Tells, Below}

@@ -1,6 +1,5 @@
 -- The steps that change names and values alone.
 use Rattle.std.proofs.Common.{◌≡◌, ◌⊎◌, inl, inr, ℕ, suc, ◌+◌, ◌≤◌, ◌<◌, Bool, true, false, cond, not, ◌&&◌, List, [], ◌∷◌, ◌++◌, length, take, drop, reverse, ℤ, refl, sym, ap, ap₂, ◌∙◌, subst, arith, append-nil}
-use Rattle.std.specs.Prelude.{⊤}
 use Rattle.std.proofs.lemmas.Bool.{cases_lt}
 use Rattle.silq_tree.specs.declared.node.NameId.{NameId}
 use Rattle.silq_types.specs.declared.types.Scalar.{Scalar}
@@ -18,11 +17,11 @@ use Rattle.flat_mean.specs.Terms.{Term as WireTerm}
 use Rattle.flat_build.specs.State.{Shown, Known, static, shown, lent, absent, Caller, Flattening, last, operands_of, part_shape, part_start, wires_so_far, outside, with_part as with_bits_of_part}
 use Rattle.flat_build.specs.Flat.{flat, flat_step, known_in, use_part, after_use, moved, part_used, assigned, bind_all, paired, back_to}
 use Rattle.flat_build.specs.Good.{Good, IsShown, IsKnown}
-use Rattle.flat_build.specs.Fine.{IsOf, IsTaken, IsPart, IndexFits, FitsIndex, WasLent, IsLent, MayAssign, MayUse}
+use Rattle.flat_build.specs.Fine.{IsOf, IsPart, IndexFits, FitsIndex, IsLent, MayAssign, MayUse}
 use Rattle.flat_build.specs.Shows.{Shows, ListBoth, Entry, EnvBoth, CallerShows, Related}
 use Rattle.flat_build.proofs.Both.{both_take, both_drop_more, both_drop, both_reverse, both_append, found_both, bound_both, its_left}
 use Rattle.flat_build.proofs.Bits.{bits_length, IsThere}
-use Rattle.flat_build.proofs.Kept.{known_last, known_name, AllShow}
+use Rattle.flat_build.proofs.Kept.{known_name, AllShow}
 use Rattle.flat_build.proofs.Showing.{shows_typed, shows_part, shows_rest, shows_moved, shows_put}
 use Rattle.flat_build.proofs.Compose.{Leads, leads_named}
 use Rattle.flat_build.proofs.Taking.{last_shows}

@@ -1,6 +1,5 @@
 -- The flat form follows the source, effect by effect.
-use Rattle.std.proofs.Common.{◌≡◌, ◌+◌, ◌<◌, List, ◌++◌, length, Option, Some, None, refl, ap, ◌∙◌, subst, arith}
-use Rattle.std.specs.Prelude.{⊤}
+use Rattle.std.proofs.Common.{◌≡◌, ◌+◌, List, ◌++◌, length, Option, Some, None, refl, ap, ◌∙◌, arith}
 use Rattle.std.proofs.lemmas.Bool.{eq-eqb}
 use Rattle.silq_mean.specs.Effect.{Effect, nothing, ◌>>◌, statement, step, mix, measure as measured, claim, choice, Step, give_static, give_typed, give_part, one_operand, two_operands, copy_last, repeat_last, flip_last, turn_by, turn_all, receive, assign_to, assign_in_turn, update_to, end_name, end_compared, enter_block, leave_block, enter_body, leave_body, Outcome, follow}
 use Rattle.flat_core.specs.declared.step.Step.{Step as FlatStep}
@@ -10,10 +9,10 @@ use Rattle.bit_arith.specs.declared.operand.Operand.TheVariants.{Const, Literal}
 use Rattle.bit_arith.specs.Calls.{no_target, Safe}
 use Rattle.bit_arith.proofs.Steps.{label-append}
 use Rattle.flat_build.specs.State.{Known, static, shown, lent, absent, Flattening, last, only_operand, operands_of}
-use Rattle.flat_build.specs.Flat.{flat, known_in, count_statement, on_line, chosen_by, first_branch, second_branch, zero_variable}
+use Rattle.flat_build.specs.Flat.{flat, count_statement, on_line, chosen_by, first_branch, second_branch}
 use Rattle.flat_build.specs.Good.{Good, IsKnown}
-use Rattle.flat_build.specs.Fine.{Fine, FineStep, FineEnds, Keeps, KeepsAll, MayAssign}
-use Rattle.flat_build.specs.Laws.{EffectsFollow, Follows}
+use Rattle.flat_build.specs.Fine.{Fine, FineStep, Keeps, KeepsAll}
+use Rattle.flat_build.specs.Laws.{EffectsFollow}
 use Rattle.flat_build.proofs.Kept.{known_last}
 use Rattle.flat_build.proofs.Giving.{only_safe}
 use Rattle.flat_build.proofs.Later.{later_then}

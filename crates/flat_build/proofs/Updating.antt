@@ -28,11 +28,11 @@ use Rattle.bit_arith.proofs.Listed.{below_more}
 use Rattle.bit_arith.specs.Values.{flip_bits}
 use Rattle.bit_arith.proofs.Making.{bits_made, flip_each_does}
 use Rattle.flat_build.specs.State.{Shown, Known, static, shown, lent, absent, Flattening, last, drop_last, build, operands_of, typed_as, typed_like, part_shape, part_start, part_of, are_wires, wires_in}
-use Rattle.flat_build.specs.Flat.{flat, flat_step, without_name, known_in, part_used, update_by, update_variable, zero_variable, end_all}
+use Rattle.flat_build.specs.Flat.{flat, without_name, known_in, part_used, update_by, update_variable, zero_variable, end_all}
 use Rattle.flat_build.specs.Names.{AllKnown, Spares}
-use Rattle.flat_build.specs.Good.{Good, IsShown, IsKnown}
-use Rattle.flat_build.specs.Fine.{IndexFits, FitsIndex, Distinct, IsOf, MayChange, IsUpdated, UpdatesPart, MayUpdate, MayClaim, without_part}
-use Rattle.flat_build.specs.Shows.{HasShape, Shows, ListBoth, EnvBoth, Related}
+use Rattle.flat_build.specs.Good.{Good, IsKnown}
+use Rattle.flat_build.specs.Fine.{FitsIndex, Distinct, IsOf, MayChange, IsUpdated, UpdatesPart, MayUpdate, MayClaim, without_part}
+use Rattle.flat_build.specs.Shows.{Shows, Related}
 use Rattle.flat_build.proofs.Both.{both_drop, both_weak, found_both, bound_right, reach_found}
 use Rattle.flat_build.proofs.Kept.{known_last, known_name, known_its, shows_after, AllShow, related_shows, all_show_after, all_show_its}
 use Rattle.flat_build.proofs.Later.{end_all_input, Later, later_blank, later_end_all}

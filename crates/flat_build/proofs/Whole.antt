@@ -8,8 +8,8 @@ use Rattle.silq_types.specs.declared.types.Shape.{Shape}
 use Rattle.silq_types.specs.Types.{shape_bits}
 use Rattle.silq_mean.specs.Value.{Value, bits_of as value_bits, value_of_bits}
 use Rattle.silq_mean.specs.Term.{Term}
-use Rattle.silq_mean.specs.Effect.{Outcome, follow}
-use Rattle.silq_mean.specs.Table.{Job, total_size, meaning, start, inputs as input_values, shown as shown_term}
+use Rattle.silq_mean.specs.Effect.{follow}
+use Rattle.silq_mean.specs.Table.{total_size, start, inputs as input_values, shown as shown_term}
 use Rattle.flat_core.specs.declared.step.WireId.{WireId}
 use Rattle.flat_core.specs.declared.step.End.TheVariants.{Output, Dropped}
 use Rattle.flat_core.specs.Form.{DraftForm, WireForm}
@@ -27,12 +27,12 @@ use Rattle.bit_arith.specs.Does.{Below}
 use Rattle.bit_arith.proofs.Steps.{clash}
 use Rattle.bit_arith.proofs.Making.{bits_made}
 use Rattle.flat_build.specs.State.{Known, static, shown, lent, absent, Flattening, are_wires, wires_in, operands_of}
-use Rattle.flat_build.specs.Flat.{flat, begin, inputs, input_wires, flattened, wire_lists, end_all, joined as all_joined}
+use Rattle.flat_build.specs.Flat.{flat, begin, inputs, input_wires, wire_lists, end_all, joined as all_joined}
 use Rattle.flat_build.specs.Names.{AllOf}
 use Rattle.flat_build.specs.Good.{Good, IsKnown}
 use Rattle.flat_build.specs.Fine.{IsOf}
 use Rattle.flat_build.specs.Shows.{Shows, ListBoth, Related}
-use Rattle.flat_build.specs.Laws.{FineJob, flat_meaning, FlatHasTheMeaning}
+use Rattle.flat_build.specs.Laws.{FlatHasTheMeaning}
 use Rattle.flat_build.proofs.Both.{both_reverse, all_reverse}
 use Rattle.flat_build.proofs.Later.{end_all_length, end_all_steps, end_all_input}
 use Rattle.flat_build.proofs.Giving.{below_in}
