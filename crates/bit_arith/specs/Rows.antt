@@ -1,5 +1,5 @@
 -- The rows of steps that operands give, after the table of flat forms.
-use Rattle.std.specs.Prelude.{ℕ, zero, suc, ◌%◌, ◌-◌, Bool, true, false, cond, ◌==◌, List, [], ◌∷◌, ◌++◌, length, map, Option, Some, None}
+use Rattle.std.specs.Prelude.{ℕ, ◌%◌, Bool, true, false, cond, ◌==◌, List, [], ◌∷◌, length, map, Option, Some, None}
 use Rattle.flat_core.specs.declared.step.WireId.{WireId}
 use Rattle.flat_core.specs.declared.step.Lit.{Lit}
 use Rattle.flat_core.specs.declared.step.Step.TheVariants.{X, H, P, M}
