@@ -1,4 +1,5 @@
 pub mod Samples
+mod NotEmpty
 pub mod Both
 pub mod Numbers
 pub mod Pieces

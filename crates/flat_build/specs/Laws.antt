@@ -37,7 +37,7 @@ EffectsFollow = (o : Outcome) (e : Effect) (s : Flattening) → Good s → Fine 
 
 -- ---- programs
 
--- the rules of typing give it for each accepted program
+-- what the rules of typing are to give of each accepted program
 abbrev pub FineJob : Job → Type 0
 FineJob j = Fine j.effect (begin j.shapes) × AllOf (λ k. IsOf (λ v. are_wires v.operands ≡ true) k) (flat j.effect (begin j.shapes)).values
 
