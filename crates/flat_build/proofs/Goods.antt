@@ -31,7 +31,7 @@ use Rattle.bit_arith.proofs.Tidying.{flip_does}
 use Rattle.bit_arith.proofs.Carrying.{add_into_does, sub_into_does}
 use Rattle.bit_arith.proofs.Phases.{turn_does}
 use Rattle.flat_build.specs.State.{Shown, Known, static, shown, lent, absent, Caller, Flattening, push, last, drop_last, wires_so_far, build, operands_of, typed, typed_as, typed_like, part_shape, part_of, with_part, are_wires, copied, taken, kept, wires_in, only_wire, only_operand}
-use Rattle.flat_build.specs.Flat.{without_name, give, on_one, on_two, on_two_typed, began_at, as_operand, by_one, by_two, shape_by, shape_by_one, give_copy, give_repeated, array_of, repeated, on_wire, on_last_wire, turn_both, end_all, measure_all, measure_value, shape_for, taken_for, class_for, receive_value, bind, known_in, part_used, use_part, moved, after_use, use_variable, assigned, update_by, update_variable, zero_variable, enter, back_to, flat_step, count_statement, on_line, as_condition, entered, enter_branch, chosen_by, first_branch, second_branch, flat, under as with_condition}
+use Rattle.flat_build.specs.Flat.{began_for, without_name, give, on_one, on_two, on_two_typed, began_at, as_operand, by_one, by_two, shape_by, shape_by_one, give_copy, give_repeated, array_of, repeated, on_wire, on_last_wire, turn_both, end_all, measure_all, measure_value, shape_for, taken_for, class_for, receive_value, bind, known_in, part_used, use_part, moved, after_use, use_variable, assigned, update_by, update_variable, zero_variable, enter, back_to, flat_step, count_statement, on_line, as_condition, entered, enter_branch, chosen_by, first_branch, second_branch, flat, under as with_condition}
 use Rattle.flat_build.specs.Names.{AllOf, AllEnv, CallerOf, AllKnown, Spares}
 use Rattle.flat_build.specs.Good.{IsShown, IsKnown, IsOwned, Owned, Good}
 use Rattle.flat_build.specs.Fine.{Distinct, IsOf, IsPart, MayChange, MayTake, MayTurn, MayMeasure, without_part, UpdatesPart, MayUpdate, MayClaim, FitsOne, FitsTwo, MayJoin, IsStatic, IsAny, IsTaken, WasLent, IsLent, MayAssign, MayUse, FineStep, Fine}
@@ -275,7 +275,7 @@ goes_receive r (lent start size v) s g h f = absurd f
 goes_receive r absent s g h f = absurd f
 goes_receive r (shown v) s g h f =
     let w : GivesWires s.built.draft (length v.operands) (taken_for r s.setting v s.built) = wires_for r s.setting v s.built g.fresh g.condition h in
-    goes_give (class_for r v) v.shape true 0 (taken_for r s.setting v s.built) s g
+    goes_give (class_for r v) v.shape true (began_for r s) (taken_for r s.setting v s.built) s g
     (gives_size s.built.draft (length v.operands) (shape_bits v.shape) (taken_for r s.setting v s.built) h.size w.gives) (λ e. w.wires)
 
 -- ---- variables

@@ -1,12 +1,13 @@
 -- Flat forms of small programs, by computing.
 use Rattle.std.specs.Prelude.{◌≡◌, refl, ℕ, true, List, [], ◌∷◌, length, map, Option, Some, None}
-use Rattle.silq_tree.specs.declared.node.BinaryOp.TheVariants.{And, Add as Plus}
+use Rattle.silq_tree.specs.declared.node.BinaryOp.TheVariants.{And, Ne, Add as Plus}
 use Rattle.silq_tree.specs.declared.node.UpdateOp.TheVariants.{Add}
-use Rattle.silq_tree.specs.Syntax.{whole, update, forget_value}
+use Rattle.silq_tree.specs.Syntax.{called as call_of, none, whole, update, forget_value}
+use Rattle.silq_tree.specs.declared.node.Mark.TheVariants as marks
 use Rattle.static_num.specs.Static.{is_static, value, in_range}
 use Rattle.static_num.specs.Angle.{is_turn, fraction, divisor}
-use Rattle.silq_mean.specs.Table.{Job}
-use Rattle.silq_mean.proofs.Spelled.{s, a, b, c, x, y, v, bin, xg, let', when, back, b1, u, param, const, alone}
+use Rattle.silq_mean.specs.Table.{Job, job}
+use Rattle.silq_mean.proofs.Spelled.{s, main, a, b, c, x, y, v, bin, xg, let', when, back, b1, u, param, const, alone, words, f, fun, num}
 use Rattle.silq_mean.proofs.Samples.{teleport, search, twice}
 use Rattle.flat_core.specs.declared.step.WireId.{WireId}
 use Rattle.flat_core.specs.declared.step.Lit.{Lit}
@@ -90,3 +91,16 @@ search_outcomes = refl
 twice_steps : steps twice ≡ H (w 1) (p 0) ∷ H (w 1) (p 0) ∷ []
 unfolding is_static value in_range is_turn fraction divisor had
 twice_steps = refl
+
+-- def f()lifted:B { return 0; }   def main(const y:B):B { x := f() != y; x := X(x); return x; }
+-- the result of f is the constant 0, so the difference is shown by y's own wire, which x copies before it is changed
+abbrev differing : Job
+differing = job (record {
+  words = words;
+  funs = record (fun f [] (b1 ∷ []) (back (num 0) ∷ [])) { mark = marks.Lifted }
+      ∷ fun main (const y b1 ∷ []) (b1 ∷ []) (let' x (bin Ne (call_of f none none s) (v y)) ∷ let' x (xg (v x)) ∷ back (v x) ∷ []) ∷ [];
+}) main []
+
+differing_steps : steps differing ≡ x1 2 0 ∷ x0 2 ∷ []
+unfolding is_static value in_range is_turn fraction divisor flip both equal copy
+differing_steps = refl

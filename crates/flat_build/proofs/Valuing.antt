@@ -18,7 +18,7 @@ use Rattle.bit_arith.specs.Values.{bits_at}
 use Rattle.bit_arith.specs.Does.{Does}
 use Rattle.bit_arith.proofs.Doing.{does_none, does_weak}
 use Rattle.flat_build.specs.State.{Shown, Known, static, shown, lent, absent, Flattening, push, first, last, drop_last, build, are_wires, are_new, as_they_are, copied, taken, kept}
-use Rattle.flat_build.specs.Flat.{flat, by_one, by_two, shape_by, shape_by_one, on_one, on_two_typed, began_at, as_operand, give_copy, give_repeated, array_of, repeated, shape_for, taken_for, class_for, receive_value}
+use Rattle.flat_build.specs.Flat.{flat, by_one, by_two, shape_by, shape_by_one, on_one, on_two_typed, began_at, as_operand, give_copy, give_repeated, array_of, repeated, shape_for, taken_for, class_for, began_for, receive_value}
 use Rattle.flat_build.specs.Good.{Good, IsShown, IsKnown}
 use Rattle.flat_build.specs.Fine.{IsOf, IsAny, IsStatic, FitsOne, FitsTwo, MayJoin}
 use Rattle.flat_build.specs.Shows.{Shows, ListBoth}
@@ -191,6 +191,6 @@ leads_receive o r s g fit =
     go absent f q h = absurd f
     go (shown v) f q h =
         let row : Given (List Operand) = taken_for r s.setting v s.built in
-        let z : Shown = record { classical = class_for r v; shape = v.shape; operands = row.answer; own = true; began = 0 } in
+        let z : Shown = record { classical = class_for r v; shape = v.shape; operands = row.answer; own = true; began = began_for r (drop_last s) } in
         leads_on_last o s (shown z) row.built (received r) (λ x y. bits_at y row.answer ≡ bits_at x v.operands) g (as_received r s v g q)
         (λ x y w i t. shows_bits x y v z (received r w) refl t (h x w i))

@@ -167,8 +167,15 @@ class_for (parameter need t) v = t.classical
 class_for (result t) v = t.classical
 class_for (output t) v = t.classical
 
+-- behind which wire something may be made of a value that was taken over: of a call's result behind the call
+abbrev pub began_for : Receiver → Flattening → ℕ
+began_for variable s = 0
+began_for (parameter need t) s = 0
+began_for (result t) s = wires_so_far s
+began_for (output t) s = 0
+
 abbrev pub receive_value : Receiver → Known → Flattening → Flattening
-receive_value r (shown v) s = give (class_for r v) v.shape true 0 (taken_for r s.setting v s.built) s
+receive_value r (shown v) s = give (class_for r v) v.shape true (began_for r s) (taken_for r s.setting v s.built) s
 receive_value r k s = push k s
 
 -- ---- variables
