@@ -6,7 +6,9 @@ use Rattle.silq_types.specs.Types.{same_name}
 use Rattle.silq_mean.specs.Env.{Block, Env, is_in_block, in_block, found, is_in_reach, block_with, in_its_block, in_first_block, bound}
 use Rattle.silq_mean.specs.Value.{Value, gone}
 use Rattle.silq_mean.specs.Term.{first as first_value, bind_all as bind_all_values, paired as paired_values}
-use Rattle.flat_build.specs.State.{Known, absent, first}
+use Rattle.flat_build.specs.declared.known.Known.{Known}
+use Rattle.flat_build.specs.declared.known.Known.TheVariants.{Absent}
+use Rattle.flat_build.specs.State.{first}
 use Rattle.flat_build.specs.Flat.{bind_all, paired}
 use Rattle.flat_build.specs.Names.{AllOf, AllEnv}
 use Rattle.flat_build.specs.Shows.{ListBoth, Entry, EnvBoth}
@@ -260,7 +262,7 @@ env_weak S R f xs ys h = both_weak (ListBoth (Entry S)) (ListBoth (Entry R)) (λ
 -- ---- values of both sides
 
 -- the first of the values under way
-pub first_both : (S : Known → Value → Type 0) → S absent gone → (xs : List Known) (ys : List Value) → ListBoth S xs ys → S (first xs) (first_value ys)
+pub first_both : (S : Known → Value → Type 0) → S Absent gone → (xs : List Known) (ys : List Value) → ListBoth S xs ys → S (first xs) (first_value ys)
 first_both S d [] [] h = d
 first_both S d [] (y ∷ ys) h = absurd h
 first_both S d (x ∷ xs) [] h = absurd h

@@ -213,15 +213,15 @@ module _ (o : Outcome) (s one two : Flattening) (c : Operand) (src next : Term �
       let v : Row = after r2.does.new z.row in
       let off' : condition_holds v second.setting.condition ≡ false = r2.does.gives z.row r.clean on ∙ (negated_bit z.row c ∙ ap not holds') in
       let cl : Clean second.built.draft v = grows_clean r2.does.grows z.row r.clean in
-      let shown : AllShow v one t = all_show_new middle v z.row one t (grows_agree r2.does.grows z.row) g1.known (related_shows one z t r) in
+      let Shown : AllShow v one t = all_show_new middle v z.row one t (grows_agree r2.does.grows z.row) g1.known (related_shows one z t r) in
       let told2 : count_measures two.built.draft.steps ≡ count_measures one.built.draft.steps =
       measures_grown second.built.draft two.built.draft n.new n.grown (n.told v cl off')
       ∙ measures_grown one.built.draft second.built.draft r2.does.new r2.does.grows.steps (no_measures r2.does.new r2.does.all_x) in
       let end : Related done (with_row z v) t = record {
         clean = clean4 v cl;
-        env = subst (λ x. EnvBoth (Shows v) x t.env) same.env shown.env;
-        values = subst (λ x. ListBoth (Shows v) x t.values) same.values shown.values;
-        callers = subst (λ x. ListBoth (CallerShows v) x t.callers) same.callers shown.callers;
+        env = subst (λ x. EnvBoth (Shows v) x t.env) same.env Shown.env;
+        values = subst (λ x. ListBoth (Shows v) x t.values) same.values Shown.values;
+        callers = subst (λ x. ListBoth (CallerShows v) x t.callers) same.callers Shown.callers;
         eighths = r.eighths;
         halvings = r.halvings;
         measured = told2 ∙ r.measured;
@@ -252,15 +252,15 @@ module _ (o : Outcome) (s one two : Flattening) (c : Operand) (src next : Term �
       its : bit_of v c ≡ bit_of u.row c
       its = bit_same begins no_target v u.row c cs ag
 
-      shown : AllShow u.row (drop_last s) (but_last t)
-      shown = all_show_drop u.row s t (related_shows s u t r)
+      Shown : AllShow u.row (drop_last s) (but_last t)
+      Shown = all_show_drop u.row s t (related_shows s u t r)
 
       measured1 : count_measures first.built.draft.steps ≡ t.measured
       measured1 = measures_grown s.built.draft first.built.draft r1.does.new r1.does.grows.steps (no_measures r1.does.new r1.does.all_x) ∙ r.measured
 
       related1 : Related first z (but_last t)
       related1 =
-          let a : AllShow v (drop_last s) (but_last t) = all_show_new begins v u.row (drop_last s) (but_last t) ag (known_drop (IsKnown begins) s gs.known) shown in
+          let a : AllShow v (drop_last s) (but_last t) = all_show_new begins v u.row (drop_last s) (but_last t) ag (known_drop (IsKnown begins) s gs.known) Shown in
           record { clean = cl; env = a.env; values = a.values; callers = a.callers; eighths = r.eighths; halvings = r.halvings; measured = measured1 }
 
       pick : (b : Bool) → b ≡ bit_of u.row c → ListBoth (Related done) (do_steps o all (u ∷ [])) (if b then src (but_last t) else next (but_last t))

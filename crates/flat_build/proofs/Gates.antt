@@ -25,7 +25,10 @@ use Rattle.bit_arith.proofs.Gathered.{beq_one}
 use Rattle.bit_arith.proofs.Tidying.{flip_does, FlipIf}
 use Rattle.bit_arith.proofs.Listed.{safe_more, safe_under}
 use Rattle.bit_arith.proofs.Phases.{turn_does}
-use Rattle.flat_build.specs.State.{Shown, Known, static, shown, lent, absent, Flattening, push, last, drop_last, build, only_operand, operands_of}
+use Rattle.flat_build.specs.declared.known.TypedBits.{TypedBits}
+use Rattle.flat_build.specs.declared.known.Known.{Known}
+use Rattle.flat_build.specs.declared.known.Known.TheVariants.{Static, Shown, Lent, Absent}
+use Rattle.flat_build.specs.State.{Flattening, push, last, drop_last, build, only_operand, operands_of}
 use Rattle.flat_build.specs.Flat.{turn_both, chosen_by}
 use Rattle.flat_build.specs.Names.{AllKnown, Spares}
 use Rattle.flat_build.specs.Good.{Good, IsKnown}
@@ -71,13 +74,13 @@ bit_number k n b e lt bits = subst (λ j. n < modulus j → b ∷ [] ≡ low_bit
     first_same : b ∷ [] ≡ (n % 2 == 1) ∷ [] → b ≡ (n % 2 == 1)
     first_same h = cc
 
-pub bit_value : (x : Row) (z : Shown) (p : Operand) (v : Value) → z.shape ≡ Bit → z.operands ≡ p ∷ [] → Shows x (shown z) v → v ≡ truth_value (bit_of x p)
+pub bit_value : (x : Row) (z : TypedBits) (p : Operand) (v : Value) → z.shape ≡ Bit → z.operands ≡ p ∷ [] → Shows x (Shown z) v → v ≡ truth_value (bit_of x p)
 bit_value x z p (whole y) e its h = absurd h.0
 bit_value x z p gone e its h = absurd h.0
 bit_value x z p (array k ns) e its h = absurd (single_not_array scalars.Bit k (length ns) (sym e ∙ h.0.0))
 bit_value x z p (single k n) e its h = bit_number k n (bit_of x p) (single_one scalars.Bit k (sym e ∙ h.0.0)) h.0.1 (sym (ap (bits_at x) its) ∙ h.1)
 
-pub shows_bit : (x : Row) (z : Shown) (p : Operand) (b : Bool) → z.shape ≡ Bit → z.operands ≡ p ∷ [] → bit_of x p ≡ b → Shows x (shown z) (truth_value b)
+pub shows_bit : (x : Row) (z : TypedBits) (p : Operand) (b : Bool) → z.shape ≡ Bit → z.operands ≡ p ∷ [] → bit_of x p ≡ b → Shows x (Shown z) (truth_value b)
 shows_bit x z p true e its h = ((e, omega arith), ap (bits_at x) its ∙ ap (λ c. c ∷ []) h)
 shows_bit x z p false e its h = ((e, omega arith), ap (bits_at x) its ∙ ap (λ c. c ∷ []) h)
 
@@ -99,16 +102,16 @@ pub choice_bit : (s : Flattening) → Good s → IsBit (last s) → (u : WireTer
 choice_bit s g b u t r = pick (last s) refl b (known_last (IsKnown (length s.built.draft.wires)) s tt g.known)
   where
     pick : (k : Known) → last s ≡ k → IsBit k → IsKnown (length s.built.draft.wires) k → is_one (last_value t) ≡ bit_of u.row (only_operand (operands_of k))
-    pick (static z) e h q = absurd h
-    pick (lent a c v) e h q = absurd h
-    pick absent e h q = absurd h
-    pick (shown v) e h q =
+    pick (Static z) e h q = absurd h
+    pick (Lent a c v) e h q = absurd h
+    pick Absent e h q = absurd h
+    pick (Shown v) e h q =
         ap is_one (bit_value u.row v (only_operand v.operands) (last_value t) h (one_operand v.operands (q.size ∙ ap shape_bits h)) (shown_last s v u t e r))
         ∙ is_one_truth (bit_of u.row (only_operand v.operands))
 
 -- ---- the last value is one wire that may be changed
 
-pub record Wired (z : Shown) (w : WireId) (s : Flattening) : Type 0 where
+pub record Wired (z : TypedBits) (w : WireId) (s : Flattening) : Type 0 where
   pub fresh : Fresh s.built.draft
   pub bit : z.shape ≡ Bit
   pub its : z.operands ≡ made w ∷ []
@@ -118,7 +121,7 @@ pub record Wired (z : Shown) (w : WireId) (s : Flattening) : Type 0 where
   pub known : AllKnown (IsKnown (length s.built.draft.wires)) s
   pub spared : AllKnown (Spares (same_wire w)) s
 
-pub wired_more : (z : Shown) (w : WireId) (s : Flattening) (b : Built) → Wired z w s → Fresh b.draft → length s.built.draft.wires ≤ length b.draft.wires → Wired z w (build b s)
+pub wired_more : (z : TypedBits) (w : WireId) (s : Flattening) (b : Built) → Wired z w s → Fresh b.draft → length s.built.draft.wires ≤ length b.draft.wires → Wired z w (build b s)
 wired_more z w s b q f le = record {
   fresh = f;
   bit = q.bit;
@@ -130,28 +133,28 @@ wired_more z w s b q f le = record {
   spared = known_same (Spares (same_wire w)) s (build b s) refl refl refl q.spared;
 }
 
-abbrev pub with_wired : Shown → Flattening → Flattening
-with_wired z s = push (shown z) s
+abbrev pub with_wired : TypedBits → Flattening → Flattening
+with_wired z s = push (Shown z) s
 
 -- what the last value and the others show before the gate
-pub wired_bit : (z : Shown) (w : WireId) (s : Flattening) → Wired z w s → (u : WireTerm) (t : Term) → Related (with_wired z s) u t → last_value t ≡ truth_value (u.row w.number)
+pub wired_bit : (z : TypedBits) (w : WireId) (s : Flattening) → Wired z w s → (u : WireTerm) (t : Term) → Related (with_wired z s) u t → last_value t ≡ truth_value (u.row w.number)
 wired_bit z w s q u t r = bit_value u.row z (made w) (last_value t) q.bit q.its (shown_last (with_wired z s) z u t refl r) ∙ ap truth_value (beq_one (u.row w.number))
 
-pub rest_shows : (z : Shown) (w : WireId) (s : Flattening) → Wired z w s → (u : WireTerm) (t : Term) (y : Row) → Related (with_wired z s) u t → Agree (length s.built.draft.wires) (same_wire w) y u.row → AllShow y s (but_last t)
+pub rest_shows : (z : TypedBits) (w : WireId) (s : Flattening) → Wired z w s → (u : WireTerm) (t : Term) (y : Row) → Related (with_wired z s) u t → Agree (length s.built.draft.wires) (same_wire w) y u.row → AllShow y s (but_last t)
 rest_shows z w s q u t y r ag =
     let a : AllShow u.row (drop_last (with_wired z s)) (but_last t) = all_show_drop u.row (with_wired z s) t (related_shows (with_wired z s) u t r) in
     all_show_after (length s.built.draft.wires) (same_wire w) y u.row s (but_last t) ag q.known q.spared (record { env = a.env; values = a.values; callers = a.callers })
 
-pub with_bit : (z : Shown) (w : WireId) (s : Flattening) → Wired z w s → (b : Built) (t f : Term) (y : Row) (c : Bool) → AllShow y s (but_last t) → y w.number ≡ c → f.env ≡ t.env → f.values ≡ truth_value c ∷ drop 1 t.values → f.callers ≡ t.callers → AllShow y (with_wired z (build b s)) f
+pub with_bit : (z : TypedBits) (w : WireId) (s : Flattening) → Wired z w s → (b : Built) (t f : Term) (y : Row) (c : Bool) → AllShow y s (but_last t) → y w.number ≡ c → f.env ≡ t.env → f.values ≡ truth_value c ∷ drop 1 t.values → f.callers ≡ t.callers → AllShow y (with_wired z (build b s)) f
 with_bit z w s q b t f y c a e env values callers = record {
   env = subst (λ x. EnvBoth (Shows y) s.env x) (sym env) a.env;
-  values = subst (λ x. ListBoth (Shows y) (shown z ∷ s.values) x) (sym values) (shows_bit y z (made w) c q.bit q.its (beq_one (y w.number) ∙ e), a.values);
+  values = subst (λ x. ListBoth (Shows y) (Shown z ∷ s.values) x) (sym values) (shows_bit y z (made w) c q.bit q.its (beq_one (y w.number) ∙ e), a.values);
   callers = subst (λ x. ListBoth (CallerShows y) s.callers x) (sym callers) a.callers;
 }
 
 -- ---- X
 
-pub leads_flip : (o : Outcome) (z : Shown) (w : WireId) (s : Flattening) → Wired z w s → Leads o (with_wired z s) (with_wired z (build (flip s.setting w [] s.built) s)) (λ t. on_last flipped t ∷ [])
+pub leads_flip : (o : Outcome) (z : TypedBits) (w : WireId) (s : Flattening) → Wired z w s → Leads o (with_wired z s) (with_wired z (build (flip s.setting w [] s.built) s)) (λ t. on_last flipped t ∷ [])
 leads_flip o z w s q =
     let b : Built = flip s.setting w [] s.built in
     let r : Does s.setting s.built.draft b.draft (same_wire w) (FlipIf w []) = flip_does s.setting w [] s.built q.fresh q.below q.condition in
@@ -162,7 +165,7 @@ leads_flip o z w s q =
 
 -- ---- phases
 
-turn_one : (o : Outcome) (z : Shown) (w : WireId) (s : Flattening) (k : ℕ) (p : Operand) (f : Value → ℕ) → k < 8 → Wired z w s → AllSafe (length s.built.draft.wires) no_target (p ∷ []) → ((x : Row) → cond (bit_of x p) k 0 ≡ f (truth_value (x w.number))) → Leads o (with_wired z s) (with_wired z (build (turn s.setting k (p ∷ []) s.built) s)) (λ t. turn_term (f (last_value t)) t ∷ [])
+turn_one : (o : Outcome) (z : TypedBits) (w : WireId) (s : Flattening) (k : ℕ) (p : Operand) (f : Value → ℕ) → k < 8 → Wired z w s → AllSafe (length s.built.draft.wires) no_target (p ∷ []) → ((x : Row) → cond (bit_of x p) k 0 ≡ f (truth_value (x w.number))) → Leads o (with_wired z s) (with_wired z (build (turn s.setting k (p ∷ []) s.built) s)) (λ t. turn_term (f (last_value t)) t ∷ [])
 turn_one o z w s k p f lt q safe h =
     let b : Built = turn s.setting k (p ∷ []) s.built in
     let r : Turns s.setting k (p ∷ []) s.built.draft b.draft = turn_does s.setting k (p ∷ []) s.built q.fresh (safe_under (length s.built.draft.wires) no_target s.setting (p ∷ []) q.guards safe) in
@@ -185,14 +188,14 @@ turn_one o z w s k p f lt q safe h =
     related_values : (u : WireTerm) (t : Term) → Related (with_wired z s) u t → t.values ≡ last_value t ∷ drop 1 t.values
     related_values u t re = go t.values re.values
       where
-        go : (vs : List Value) → ListBoth (Shows u.row) (shown z ∷ s.values) vs → vs ≡ first_value vs ∷ drop 1 vs
+        go : (vs : List Value) → ListBoth (Shows u.row) (Shown z ∷ s.values) vs → vs ≡ first_value vs ∷ drop 1 vs
         go [] h = absurd h
         go (v ∷ vs) h = refl
 
 made_safe : (n : ℕ) (w : WireId) → w.number < n → AllSafe n no_target (made w ∷ [])
 made_safe n w lt = ((lt, refl), tt)
 
-pub leads_turn_both : (o : Outcome) (k l : ℕ) → k < 8 → l < 8 → (z : Shown) (w : WireId) (s : Flattening) → Wired z w s → Leads o (with_wired z s) (with_wired z (build (turn_both k l s.setting w s.built) s)) (λ t. turn_term (if is_one (last_value t) then k else l) t ∷ [])
+pub leads_turn_both : (o : Outcome) (k l : ℕ) → k < 8 → l < 8 → (z : TypedBits) (w : WireId) (s : Flattening) → Wired z w s → Leads o (with_wired z s) (with_wired z (build (turn_both k l s.setting w s.built) s)) (λ t. turn_term (if is_one (last_value t) then k else l) t ∷ [])
 leads_turn_both o k l lk ll z w s q =
     let b : Built = turn s.setting l (negated (made w) ∷ []) s.built in
     let r : Turns s.setting l (negated (made w) ∷ []) s.built.draft b.draft = turn_does s.setting l (negated (made w) ∷ []) s.built q.fresh (safe_under (length s.built.draft.wires) no_target s.setting (negated (made w) ∷ []) q.guards (made_safe (length s.built.draft.wires) w q.below)) in

@@ -29,7 +29,10 @@ use Rattle.bit_arith.proofs.Making.{length-from, safe_new, copy_does, both_does,
 use Rattle.bit_arith.proofs.Carrying.{sum_does, difference_does}
 use Rattle.bit_arith.proofs.Multiples.{product_does}
 use Rattle.bit_arith.proofs.Tests.{equal_does, less_does, safe_append}
-use Rattle.flat_build.specs.State.{Shown, Known, static, shown, lent, absent, operands_of, is_signed, typed, typed_as, typed_like, part_shape, part_start, part_of, with_part, are_wires, are_new, as_they_are, copied, taken, kept, wires_in, only_wire, only_operand}
+use Rattle.flat_build.specs.declared.known.TypedBits.{TypedBits}
+use Rattle.flat_build.specs.declared.known.Known.{Known}
+use Rattle.flat_build.specs.declared.known.Known.TheVariants.{Static, Shown, Lent, Absent}
+use Rattle.flat_build.specs.State.{operands_of, is_signed, typed, typed_as, typed_like, part_shape, part_start, part_of, with_part, are_wires, are_new, as_they_are, copied, taken, kept, wires_in, only_wire, only_operand}
 use Rattle.flat_build.specs.Flat.{negative, by_one, by_two, alone, opposite, shape_by, shape_by_one, as_operand, array_of, repeated}
 use Rattle.flat_build.specs.Names.{Spares}
 use Rattle.flat_build.specs.Good.{IsShown, IsKnown}
@@ -115,29 +118,29 @@ typed_known n m k z = record {
 }
 
 -- what holds of a value and of each static value with a type holds of a value that takes a type
-pub typed_as_all : (Q : Known → Type 0) (m : ℕ) (t : Shape) (k : Known) → ((j : Scalar) (z : ℤ) → k ≡ static z → Q (typed m j z)) → Q k → Q (typed_as m t k)
-typed_as_all Q m Bit (static z) f q = f scalars.Bit z refl
-typed_as_all Q m Bit (shown v) f q = q
-typed_as_all Q m Bit (lent start size v) f q = q
-typed_as_all Q m Bit absent f q = q
-typed_as_all Q m (UInt w) (static z) f q = f (scalars.UInt w) z refl
-typed_as_all Q m (UInt w) (shown v) f q = q
-typed_as_all Q m (UInt w) (lent start size v) f q = q
-typed_as_all Q m (UInt w) absent f q = q
-typed_as_all Q m (Int w) (static z) f q = f (scalars.Int w) z refl
-typed_as_all Q m (Int w) (shown v) f q = q
-typed_as_all Q m (Int w) (lent start size v) f q = q
-typed_as_all Q m (Int w) absent f q = q
-typed_as_all Q m (Array k c) (static z) f q = q
-typed_as_all Q m (Array k c) (shown v) f q = q
-typed_as_all Q m (Array k c) (lent start size v) f q = q
-typed_as_all Q m (Array k c) absent f q = q
+pub typed_as_all : (Q : Known → Type 0) (m : ℕ) (t : Shape) (k : Known) → ((j : Scalar) (z : ℤ) → k ≡ Static z → Q (typed m j z)) → Q k → Q (typed_as m t k)
+typed_as_all Q m Bit (Static z) f q = f scalars.Bit z refl
+typed_as_all Q m Bit (Shown v) f q = q
+typed_as_all Q m Bit (Lent start size v) f q = q
+typed_as_all Q m Bit Absent f q = q
+typed_as_all Q m (UInt w) (Static z) f q = f (scalars.UInt w) z refl
+typed_as_all Q m (UInt w) (Shown v) f q = q
+typed_as_all Q m (UInt w) (Lent start size v) f q = q
+typed_as_all Q m (UInt w) Absent f q = q
+typed_as_all Q m (Int w) (Static z) f q = f (scalars.Int w) z refl
+typed_as_all Q m (Int w) (Shown v) f q = q
+typed_as_all Q m (Int w) (Lent start size v) f q = q
+typed_as_all Q m (Int w) Absent f q = q
+typed_as_all Q m (Array k c) (Static z) f q = q
+typed_as_all Q m (Array k c) (Shown v) f q = q
+typed_as_all Q m (Array k c) (Lent start size v) f q = q
+typed_as_all Q m (Array k c) Absent f q = q
 
-pub typed_like_all : (Q : Known → Type 0) (m : ℕ) (other k : Known) → ((j : Scalar) (z : ℤ) → k ≡ static z → Q (typed m j z)) → Q k → Q (typed_like m other k)
-typed_like_all Q m (static y) k f q = q
-typed_like_all Q m (shown v) k f q = typed_as_all Q m v.shape k f q
-typed_like_all Q m (lent start size v) k f q = q
-typed_like_all Q m absent k f q = q
+pub typed_like_all : (Q : Known → Type 0) (m : ℕ) (other k : Known) → ((j : Scalar) (z : ℤ) → k ≡ Static z → Q (typed m j z)) → Q k → Q (typed_like m other k)
+typed_like_all Q m (Static y) k f q = q
+typed_like_all Q m (Shown v) k f q = typed_as_all Q m v.shape k f q
+typed_like_all Q m (Lent start size v) k f q = q
+typed_like_all Q m Absent k f q = q
 
 pub typed_as_known : (n m : ℕ) (t : Shape) (k : Known) → IsKnown n k → IsKnown n (typed_as m t k)
 typed_as_known n m t k h = typed_as_all (IsKnown n) m t k (λ j z e. typed_known n m j z) h
@@ -147,10 +150,10 @@ typed_like_known n m other k h = typed_like_all (IsKnown n) m other k (λ j z e.
 
 -- the operands of what is known are safe from what it does not name
 pub known_operands : (n : ℕ) (T : Targets) (k : Known) → IsKnown n k → Spares T k → AllSafe n T (operands_of k)
-known_operands n T (static z) h s = tt
-known_operands n T (shown v) h s = safe_spared n T v.operands h.there s
-known_operands n T (lent start size v) h s = tt
-known_operands n T absent h s = tt
+known_operands n T (Static z) h s = tt
+known_operands n T (Shown v) h s = safe_spared n T v.operands h.there s
+known_operands n T (Lent start size v) h s = tt
+known_operands n T Absent h s = tt
 
 pub typed_as_safe : (n m : ℕ) (T : Targets) (t : Shape) (k : Known) → IsKnown n k → Spares T k → AllSafe n T (operands_of (typed_as m t k))
 typed_as_safe n m T t k h s = typed_as_all (λ j. AllSafe n T (operands_of j)) m t k (λ j z e. safe_consts n T (low_bits (scalar_bits j) (modulo z (modulus j)))) (known_operands n T k h s)
@@ -159,50 +162,50 @@ pub typed_like_safe : (n m : ℕ) (T : Targets) (other k : Known) → IsKnown n 
 typed_like_safe n m T other k h s = typed_like_all (λ j. AllSafe n T (operands_of j)) m other k (λ j z e. safe_consts n T (low_bits (scalar_bits j) (modulo z (modulus j)))) (known_operands n T k h s)
 
 -- what is known of an operand of an operator; a static one takes type and class of the other
-static_operand : (n : ℕ) (c : Bool) (t : Shape) (ps : List Operand) (o : Bool) (b : ℕ) (z : ℤ) → IsKnown n (as_operand (shown (record { classical = c; shape = t; operands = ps; own = o; began = b })) (static z))
+static_operand : (n : ℕ) (c : Bool) (t : Shape) (ps : List Operand) (o : Bool) (b : ℕ) (z : ℤ) → IsKnown n (as_operand (Shown (record { classical = c; shape = t; operands = ps; own = o; began = b })) (Static z))
 static_operand n c Bit ps o b z = let k : IsShown n _ = typed_known n 0 scalars.Bit z in record { size = k.size; there = k.there; wires = k.wires }
 static_operand n c (UInt w) ps o b z = let k : IsShown n _ = typed_known n 0 (scalars.UInt w) z in record { size = k.size; there = k.there; wires = k.wires }
 static_operand n c (Int w) ps o b z = let k : IsShown n _ = typed_known n 0 (scalars.Int w) z in record { size = k.size; there = k.there; wires = k.wires }
 static_operand n c (Array k m) ps o b z = tt
 
 pub as_operand_known : (n : ℕ) (other k : Known) → IsKnown n k → IsKnown n (as_operand other k)
-as_operand_known n (static y) (static z) h = tt
-as_operand_known n (shown v) (static z) h = static_operand n v.classical v.shape v.operands v.own v.began z
-as_operand_known n (lent start size v) (static z) h = tt
-as_operand_known n absent (static z) h = tt
-as_operand_known n other (shown v) h = h
-as_operand_known n other (lent start size v) h = h
-as_operand_known n other absent h = tt
+as_operand_known n (Static y) (Static z) h = tt
+as_operand_known n (Shown v) (Static z) h = static_operand n v.classical v.shape v.operands v.own v.began z
+as_operand_known n (Lent start size v) (Static z) h = tt
+as_operand_known n Absent (Static z) h = tt
+as_operand_known n other (Shown v) h = h
+as_operand_known n other (Lent start size v) h = h
+as_operand_known n other Absent h = tt
 
 -- how many operands a value of a type has
 pub size_of : (n : ℕ) (t : Shape) (k : Known) → IsKnown n k → IsOf (λ w. w.shape ≡ t) k → length (operands_of k) ≡ shape_bits t
-size_of n t (static z) h e = absurd e
-size_of n t (shown v) h e = h.size ∙ ap shape_bits e
-size_of n t (lent start size v) h e = absurd e
-size_of n t absent h e = absurd e
+size_of n t (Static z) h e = absurd e
+size_of n t (Shown v) h e = h.size ∙ ap shape_bits e
+size_of n t (Lent start size v) h e = absurd e
+size_of n t Absent h e = absurd e
 
 -- ---- parts
 
 length_rest : (a b n : ℕ) → a + b ≤ n → b ≤ n - a
 length_rest a b n h = omega arith
 
-pub length-part : (v : Shown) (is : List ℤ) → IsPart v is → length (part_of v.shape is v.operands) ≡ shape_bits (part_shape v.shape is)
+pub length-part : (v : TypedBits) (is : List ℤ) → IsPart v is → length (part_of v.shape is v.operands) ≡ shape_bits (part_shape v.shape is)
 length-part v is h =
     let start : ℕ = part_start v.shape is in
     let size : ℕ = shape_bits (part_shape v.shape is) in
     let d : length (drop start v.operands) ≡ length v.operands - start = length-drop start v.operands in
     length-take-le size (drop start v.operands) (subst (λ m. size ≤ m) (sym d) (length_rest start size (length v.operands) h))
 
-pub safe_part : (n : ℕ) (T : Targets) (v : Shown) (is : List ℤ) → AllSafe n T v.operands → AllSafe n T (part_of v.shape is v.operands)
+pub safe_part : (n : ℕ) (T : Targets) (v : TypedBits) (is : List ℤ) → AllSafe n T v.operands → AllSafe n T (part_of v.shape is v.operands)
 safe_part n T v is s = safe_take n T (shape_bits (part_shape v.shape is)) (drop (part_start v.shape is) v.operands) (safe_drop n T (part_start v.shape is) v.operands s)
 
-pub wires_part : (v : Shown) (is : List ℤ) → are_wires v.operands ≡ true → are_wires (part_of v.shape is v.operands) ≡ true
+pub wires_part : (v : TypedBits) (is : List ℤ) → are_wires v.operands ≡ true → are_wires (part_of v.shape is v.operands) ≡ true
 wires_part v is h = wires_take (shape_bits (part_shape v.shape is)) (drop (part_start v.shape is) v.operands) (wires_drop (part_start v.shape is) v.operands h)
 
 around : (a b n : ℕ) → a + b ≤ n → a + (b + (n - (a + b))) ≡ n
 around a b n h = omega arith
 
-pub length-with : (v : Shown) (is : List ℤ) (ps : List Operand) → IsPart v is → length ps ≡ shape_bits (part_shape v.shape is) → length (with_part v.shape is v.operands ps) ≡ length v.operands
+pub length-with : (v : TypedBits) (is : List ℤ) (ps : List Operand) → IsPart v is → length ps ≡ shape_bits (part_shape v.shape is) → length (with_part v.shape is v.operands ps) ≡ length v.operands
 length-with v is ps h e =
     let start : ℕ = part_start v.shape is in
     let size : ℕ = shape_bits (part_shape v.shape is) in
@@ -212,14 +215,14 @@ length-with v is ps h e =
     length-append (take start v.operands) (ps ++ rest)
     ∙ (ap₂ ◌+◌ a (length-append ps rest ∙ ap₂ ◌+◌ e b) ∙ around start size (length v.operands) h)
 
-pub safe_with : (n : ℕ) (T : Targets) (v : Shown) (is : List ℤ) (ps : List Operand) → AllSafe n T v.operands → AllSafe n T ps → AllSafe n T (with_part v.shape is v.operands ps)
+pub safe_with : (n : ℕ) (T : Targets) (v : TypedBits) (is : List ℤ) (ps : List Operand) → AllSafe n T v.operands → AllSafe n T ps → AllSafe n T (with_part v.shape is v.operands ps)
 safe_with n T v is ps s t =
     let start : ℕ = part_start v.shape is in
     let rest : List Operand = drop (start + shape_bits (part_shape v.shape is)) v.operands in
     safe_append n T (take start v.operands) (ps ++ rest) (safe_take n T start v.operands s)
     (safe_append n T ps rest t (safe_drop n T (start + shape_bits (part_shape v.shape is)) v.operands s))
 
-pub wires_with : (v : Shown) (is : List ℤ) (ps : List Operand) → are_wires v.operands ≡ true → are_wires ps ≡ true → are_wires (with_part v.shape is v.operands ps) ≡ true
+pub wires_with : (v : TypedBits) (is : List ℤ) (ps : List Operand) → are_wires v.operands ≡ true → are_wires ps ≡ true → are_wires (with_part v.shape is v.operands ps) ≡ true
 wires_with v is ps h k =
     let start : ℕ = part_start v.shape is in
     let rest : List Operand = drop (start + shape_bits (part_shape v.shape is)) v.operands in
@@ -285,7 +288,7 @@ gives_negative at ps b f g s =
     let e : length zs ≡ length ps = length-replicate (length ps) (Const false) in
     gives_number (length ps) e (difference_does at zs ps b f e g (safe_zeros (length b.draft.wires) no_target (length ps)) s)
 
-pub gives_one : (op : UnaryOp) (at : Setting) (v : Shown) (b : Built) → Fresh b.draft → Guards at (length b.draft.wires) no_target → IsShown (length b.draft.wires) v → FitsOne op v.shape → Gives b.draft (shape_bits (shape_by_one op v.shape)) (by_one op at v.operands b)
+pub gives_one : (op : UnaryOp) (at : Setting) (v : TypedBits) (b : Built) → Fresh b.draft → Guards at (length b.draft.wires) no_target → IsShown (length b.draft.wires) v → FitsOne op v.shape → Gives b.draft (shape_bits (shape_by_one op v.shape)) (by_one op at v.operands b)
 gives_one Not at v b f g k fits =
     gives_size b.draft (length (map negated v.operands)) 1 (as_they_are (map negated v.operands) b) (length-map v.operands negated ∙ (k.size ∙ ap shape_bits fits))
     (gives_same (map negated v.operands) b (safe_negated (length b.draft.wires) no_target v.operands k.there))
@@ -347,7 +350,7 @@ takes_copied at ps b f g s =
     }
 
 -- a value that keeps its wires is wires
-own_wires : (d : DraftForm) (v : Shown) → IsShown (length d.wires) v → v.own || are_new d v.began v.operands ≡ true → are_wires v.operands ≡ true
+own_wires : (d : DraftForm) (v : TypedBits) → IsShown (length d.wires) v → v.own || are_new d v.began v.operands ≡ true → are_wires v.operands ≡ true
 own_wires d v k h = go v.own refl h
   where
     go : (x : Bool) → v.own ≡ x → x || are_new d v.began v.operands ≡ true → are_wires v.operands ≡ true
@@ -355,7 +358,7 @@ own_wires d v k h = go v.own refl h
     go false e h = wires_new d v.began v.operands h
 
 -- the wires for a new owner: where a value keeps its own, none of them is the condition's
-pub takes_taken : (at : Setting) (v : Shown) (b : Built) → Fresh b.draft → Guards at (length b.draft.wires) no_target → IsShown (length b.draft.wires) v → (v.own || are_new b.draft v.began v.operands ≡ true → AllSafe (length b.draft.wires) (among (wires_in v.operands)) (under at [])) → Takes at b.draft (length v.operands) (taken at v b)
+pub takes_taken : (at : Setting) (v : TypedBits) (b : Built) → Fresh b.draft → Guards at (length b.draft.wires) no_target → IsShown (length b.draft.wires) v → (v.own || are_new b.draft v.began v.operands ≡ true → AllSafe (length b.draft.wires) (among (wires_in v.operands)) (under at [])) → Takes at b.draft (length v.operands) (taken at v b)
 takes_taken at v b f g k may = pick (v.own || are_new b.draft v.began v.operands) refl
   where
     pick : (x : Bool) → (v.own || are_new b.draft v.began v.operands) ≡ x → Takes at b.draft (length v.operands) (cond x (as_they_are v.operands b) (copied at v.operands b))
@@ -370,14 +373,14 @@ pub record GivesWires (d : DraftForm) (n : ℕ) (row : Given (List Operand)) : T
 pub wires_copied : (at : Setting) (ps : List Operand) (b : Built) → Fresh b.draft → Guards at (length b.draft.wires) no_target → AllSafe (length b.draft.wires) no_target ps → GivesWires b.draft (length ps) (copied at ps b)
 wires_copied at ps b f g s = record { gives = gives_copied at ps b f g s; wires = wires_made (copy at ps b).answer }
 
-pub wires_taken : (at : Setting) (v : Shown) (b : Built) → Fresh b.draft → Guards at (length b.draft.wires) no_target → IsShown (length b.draft.wires) v → GivesWires b.draft (length v.operands) (taken at v b)
+pub wires_taken : (at : Setting) (v : TypedBits) (b : Built) → Fresh b.draft → Guards at (length b.draft.wires) no_target → IsShown (length b.draft.wires) v → GivesWires b.draft (length v.operands) (taken at v b)
 wires_taken at v b f g k = pick (v.own || are_new b.draft v.began v.operands) refl
   where
     pick : (x : Bool) → (v.own || are_new b.draft v.began v.operands) ≡ x → GivesWires b.draft (length v.operands) (cond x (as_they_are v.operands b) (copied at v.operands b))
     pick true e = record { gives = gives_same v.operands b k.there; wires = own_wires b.draft v k e }
     pick false e = wires_copied at v.operands b f g k.there
 
-pub wires_kept : (at : Setting) (v : Shown) (b : Built) → Fresh b.draft → Guards at (length b.draft.wires) no_target → IsShown (length b.draft.wires) v → GivesWires b.draft (length v.operands) (kept at v b)
+pub wires_kept : (at : Setting) (v : TypedBits) (b : Built) → Fresh b.draft → Guards at (length b.draft.wires) no_target → IsShown (length b.draft.wires) v → GivesWires b.draft (length v.operands) (kept at v b)
 wires_kept at v b f g k = pick (are_wires v.operands) refl
   where
     pick : (x : Bool) → are_wires v.operands ≡ x → GivesWires b.draft (length v.operands) (cond x (as_they_are v.operands b) (copied at v.operands b))

@@ -11,7 +11,9 @@ use Rattle.silq_types.specs.Types.{shape_bits, is_scalar}
 use Rattle.check_scope.specs.declared.need.Need.{Need}
 use Rattle.check_scope.specs.Uses.{is_consumed}
 use Rattle.silq_mean.specs.Env.{in_its_block}
-use Rattle.silq_mean.specs.Effect.{Effect, nothing, ◌>>◌, statement, step, mix, measure as measured, claim, choice, Step, give_static, give_typed, give_part, one_operand, two_operands, copy_last, repeat_last, flip_last, turn_by, turn_all, receive, assign_to, assign_in_turn, update_to, end_name, end_compared, enter_block, leave_block, enter_body, leave_body, Receiver, variable, parameter, result, output}
+use Rattle.silq_mean.specs.declared.receiver.Receiver.{Receiver}
+use Rattle.silq_mean.specs.declared.receiver.Receiver.TheVariants.{Variable, Parameter, CallResult, EntryOutput}
+use Rattle.silq_mean.specs.Effect.{Effect, nothing, ◌>>◌, statement, step, mix, measure as measured, claim, choice, Step, give_static, give_typed, give_part, one_operand, two_operands, copy_last, repeat_last, flip_last, turn_by, turn_all, receive, assign_to, assign_in_turn, update_to, end_name, end_compared, enter_block, leave_block, enter_body, leave_body}
 use Rattle.flat_core.specs.declared.step.WireId.{WireId}
 use Rattle.flat_core.specs.declared.step.End.TheVariants.{Measured, Zeroed}
 use Rattle.flat_core.specs.Form.{DraftForm}
@@ -30,7 +32,10 @@ use Rattle.bit_arith.proofs.Making.{flip_each_does, conjunction_does, negated_sa
 use Rattle.bit_arith.proofs.Tidying.{flip_does}
 use Rattle.bit_arith.proofs.Carrying.{add_into_does, sub_into_does}
 use Rattle.bit_arith.proofs.Phases.{turn_does}
-use Rattle.flat_build.specs.State.{Shown, Known, static, shown, lent, absent, Caller, Flattening, push, last, drop_last, wires_so_far, build, operands_of, typed, typed_as, typed_like, part_shape, part_of, with_part, are_wires, copied, taken, kept, wires_in, only_wire, only_operand}
+use Rattle.flat_build.specs.declared.known.TypedBits.{TypedBits}
+use Rattle.flat_build.specs.declared.known.Known.{Known}
+use Rattle.flat_build.specs.declared.known.Known.TheVariants.{Static, Shown, Lent, Absent}
+use Rattle.flat_build.specs.State.{Caller, Flattening, push, last, drop_last, wires_so_far, build, operands_of, typed, typed_as, typed_like, part_shape, part_of, with_part, are_wires, copied, taken, kept, wires_in, only_wire, only_operand}
 use Rattle.flat_build.specs.Flat.{began_for, without_name, give, on_one, on_two, on_two_typed, began_at, as_operand, by_one, by_two, shape_by, shape_by_one, give_copy, give_repeated, array_of, repeated, on_wire, on_last_wire, turn_both, end_all, measure_all, measure_value, shape_for, taken_for, class_for, receive_value, bind, known_in, part_used, use_part, moved, after_use, use_variable, assigned, update_by, update_variable, zero_variable, enter, back_to, flat_step, count_statement, on_line, as_condition, entered, enter_branch, chosen_by, first_branch, second_branch, flat, under as with_condition}
 use Rattle.flat_build.specs.Names.{AllOf, AllEnv, CallerOf, AllKnown, Spares}
 use Rattle.flat_build.specs.Good.{IsShown, IsKnown, IsOwned, Owned, Good}
@@ -97,7 +102,7 @@ goes_give : (classical : Bool) (t : Shape) (own : Bool) (began : ℕ) (row : Giv
 goes_give classical t own began row s g r w =
     let q : Goes s (build row.built s) = goes_build row.built s g r.later in
     goes_then s (build row.built s) (give classical t own began row s) q
-    (goes_push (shown (record { classical = classical; shape = t; operands = row.answer; own = own; began = began })) (build row.built s) q.good
+    (goes_push (Shown (record { classical = classical; shape = t; operands = row.answer; own = own; began = began })) (build row.built s) q.good
     (record { size = r.size; there = r.there; wires = w }))
 
 last_known : (s : Flattening) → Good s → IsKnown (length s.built.draft.wires) (last s)
@@ -112,20 +117,20 @@ no_own e = absurd cc
 -- ---- operators
 
 goes_one : (op : UnaryOp) (k : Known) (s : Flattening) → Good s → IsKnown (length s.built.draft.wires) k → IsOf (λ v. FitsOne op v.shape) k → Goes s (on_one op k s)
-goes_one op (static z) s g h f = absurd f
-goes_one op (lent start size v) s g h f = absurd f
-goes_one op absent s g h f = absurd f
-goes_one op (shown v) s g h f =
+goes_one op (Static z) s g h f = absurd f
+goes_one op (Lent start size v) s g h f = absurd f
+goes_one op Absent s g h f = absurd f
+goes_one op (Shown v) s g h f =
     goes_give v.classical (shape_by_one op v.shape) false v.began (by_one op s.setting v.operands s.built) s g (gives_one op s.setting v s.built g.fresh g.condition h f) (λ e. no_own e)
 
 goes_two_typed : (op : BinaryOp) (began : ℕ) (k l : Known) (s : Flattening) → Good s → IsKnown (length s.built.draft.wires) k → IsKnown (length s.built.draft.wires) l → IsOf (λ v. IsOf (λ w. (v.shape ≡ w.shape) × FitsTwo op v.shape) l) k → Goes s (on_two_typed op began k l s)
-goes_two_typed op began (static z) l s g h i f = absurd f
-goes_two_typed op began (lent start size v) l s g h i f = absurd f
-goes_two_typed op began absent l s g h i f = absurd f
-goes_two_typed op began (shown v) (static z) s g h i f = absurd f
-goes_two_typed op began (shown v) (lent start size w) s g h i f = absurd f
-goes_two_typed op began (shown v) absent s g h i f = absurd f
-goes_two_typed op began (shown v) (shown w) s g h i f =
+goes_two_typed op began (Static z) l s g h i f = absurd f
+goes_two_typed op began (Lent start size v) l s g h i f = absurd f
+goes_two_typed op began Absent l s g h i f = absurd f
+goes_two_typed op began (Shown v) (Static z) s g h i f = absurd f
+goes_two_typed op began (Shown v) (Lent start size w) s g h i f = absurd f
+goes_two_typed op began (Shown v) Absent s g h i f = absurd f
+goes_two_typed op began (Shown v) (Shown w) s g h i f =
     goes_give (v.classical && w.classical) (shape_by op v.shape) false began (by_two op v.shape s.setting v.operands w.operands s.built) s g
     (gives_two op v.shape s.setting v.operands w.operands s.built g.fresh g.condition h.there i.there h.size (i.size ∙ sym (ap shape_bits f.0)) f.1) (λ e. no_own e)
 
@@ -134,21 +139,21 @@ goes_two op k l s g h i f =
     goes_two_typed op (began_at k l) (as_operand l k) (as_operand k l) s g (as_operand_known (length s.built.draft.wires) l k h) (as_operand_known (length s.built.draft.wires) k l i) f
 
 goes_copy : (k : Known) (s : Flattening) → Good s → IsKnown (length s.built.draft.wires) k → IsAny k → Goes s (give_copy k s)
-goes_copy (static z) s g h f = absurd f
-goes_copy (lent start size v) s g h f = absurd f
-goes_copy absent s g h f = absurd f
-goes_copy (shown v) s g h f =
+goes_copy (Static z) s g h f = absurd f
+goes_copy (Lent start size v) s g h f = absurd f
+goes_copy Absent s g h f = absurd f
+goes_copy (Shown v) s g h f =
     goes_give false v.shape false v.began (copied s.setting v.operands s.built) s g
     (gives_size s.built.draft (length v.operands) (shape_bits v.shape) (copied s.setting v.operands s.built) h.size (gives_copied s.setting v.operands s.built g.fresh g.condition h.there)) (λ e. no_own e)
 
 goes_repeated : (k l : Known) (s : Flattening) → Good s → IsKnown (length s.built.draft.wires) l → IsStatic k × IsOf (λ v. is_scalar v.shape ≡ true) l → Goes s (give_repeated k l s)
-goes_repeated (shown v) l s g h f = absurd f.0
-goes_repeated (lent start size v) l s g h f = absurd f.0
-goes_repeated absent l s g h f = absurd f.0
-goes_repeated (static z) (static y) s g h f = absurd f.1
-goes_repeated (static z) (lent start size v) s g h f = absurd f.1
-goes_repeated (static z) absent s g h f = absurd f.1
-goes_repeated (static z) (shown v) s g h f =
+goes_repeated (Shown v) l s g h f = absurd f.0
+goes_repeated (Lent start size v) l s g h f = absurd f.0
+goes_repeated Absent l s g h f = absurd f.0
+goes_repeated (Static z) (Static y) s g h f = absurd f.1
+goes_repeated (Static z) (Lent start size v) s g h f = absurd f.1
+goes_repeated (Static z) Absent s g h f = absurd f.1
+goes_repeated (Static z) (Shown v) s g h f =
     let ps : List Operand = repeated (nat_abs z) v.operands in
     let e : length ps ≡ shape_bits (array_of v.shape (nat_abs z)) =
     length-repeated (nat_abs z) v.operands ∙ (ap (λ m. m * nat_abs z) h.size ∙ array_bits v.shape (nat_abs z) f.1) in
@@ -163,7 +168,7 @@ abbrev IsGate : (Setting → WireId → Built → Built) → Type 0
 IsGate gate = (at : Setting) (w : WireId) (b : Built) → Fresh b.draft → w.number < length b.draft.wires → Guards at (length b.draft.wires) no_target → AllSafe (length b.draft.wires) (same_wire w) (under at []) → Later b.draft (gate at w b).draft
 
 -- what may be taken and changed of the last value
-takes_last : (s : Flattening) (v : Shown) → Good s → IsShown (length s.built.draft.wires) v → MayTake v s → Takes s.setting s.built.draft (length v.operands) (taken s.setting v s.built)
+takes_last : (s : Flattening) (v : TypedBits) → Good s → IsShown (length s.built.draft.wires) v → MayTake v s → Takes s.setting s.built.draft (length v.operands) (taken s.setting v s.built)
 takes_last s v g h m = takes_taken s.setting v s.built g.fresh g.condition h (λ k. (m k).condition)
 
 pub only_guard : (n : ℕ) (ps : List Operand) (cs : List Operand) → are_wires ps ≡ true → length ps ≡ 1 → AllSafe n (among (wires_in ps)) cs → AllSafe n (same_wire (only_wire ps)) cs
@@ -173,10 +178,10 @@ only_guard n (Literal l ∷ []) cs h e s = safe_more n n (among (l.wire ∷ []))
 only_guard n (Literal l ∷ p ∷ ps) cs h e s = absurd (omega (arith, e))
 
 goes_wire : (gate : Setting → WireId → Built → Built) → IsGate gate → (k : Known) (s : Flattening) → Good s → IsKnown (length s.built.draft.wires) k → IsOf (λ v. (v.shape ≡ Bit) × MayTake v s) k → Goes s (on_wire gate k (drop_last s))
-goes_wire gate ok (static z) s g h f = absurd f
-goes_wire gate ok (lent start size v) s g h f = absurd f
-goes_wire gate ok absent s g h f = absurd f
-goes_wire gate ok (shown v) s g h f =
+goes_wire gate ok (Static z) s g h f = absurd f
+goes_wire gate ok (Lent start size v) s g h f = absurd f
+goes_wire gate ok Absent s g h f = absurd f
+goes_wire gate ok (Shown v) s g h f =
     let n : ℕ = length s.built.draft.wires in
     let row : Given (List Operand) = taken s.setting v s.built in
     let r : Takes s.setting s.built.draft (length v.operands) row = takes_last s v g h f.1 in
@@ -189,7 +194,7 @@ goes_wire gate ok (shown v) s g h f =
     (safe_more n m no_target no_target (under s.setting []) up (λ w lt e. e) g.condition)
     (only_guard m row.answer (under s.setting []) r.wires one r.guards) in
     let d : Goes s (drop_last s) = goes_drop s g in
-    goes_then s (drop_last s) (on_wire gate (shown v) (drop_last s)) d
+    goes_then s (drop_last s) (on_wire gate (Shown v) (drop_last s)) d
     (goes_give false v.shape true v.began (record { answer = row.answer; built = gate s.setting (only_wire row.answer) row.built }) (drop_last s) d.good
     (record {
       later = later_then s.built.draft row.built.draft (gate s.setting (only_wire row.answer) row.built).draft r.gives.later q;
@@ -224,10 +229,10 @@ goes_turn_all k s g = goes_build (turn s.setting k [] s.built) s g (later_turn s
 -- ---- measures
 
 goes_measure_value : (k : Known) (s : Flattening) → Good s → IsKnown (length s.built.draft.wires) k → IsOf (λ v. MayTake v s) k → Goes s (measure_value k (drop_last s))
-goes_measure_value (static z) s g h f = absurd f
-goes_measure_value (lent start size v) s g h f = absurd f
-goes_measure_value absent s g h f = absurd f
-goes_measure_value (shown v) s g h f =
+goes_measure_value (Static z) s g h f = absurd f
+goes_measure_value (Lent start size v) s g h f = absurd f
+goes_measure_value Absent s g h f = absurd f
+goes_measure_value (Shown v) s g h f =
     let row : Given (List Operand) = taken s.setting v s.built in
     let r : Takes s.setting s.built.draft (length v.operands) row = takes_last s v g h f in
     let ws : List WireId = wires_in row.answer in
@@ -237,7 +242,7 @@ goes_measure_value (shown v) s g h f =
     let q2 : Later b1.draft b2.draft = later_end_all Measured ws b1 (below_more (length row.built.draft.wires) (length b1.draft.wires) ws q1.longer (below_in (length row.built.draft.wires) no_target row.answer r.gives.there)) in
     let q : Later row.built.draft b2.draft = later_then row.built.draft b1.draft b2.draft q1 q2 in
     let d : Goes s (drop_last s) = goes_drop s g in
-    goes_then s (drop_last s) (measure_value (shown v) (drop_last s)) d
+    goes_then s (drop_last s) (measure_value (Shown v) (drop_last s)) d
     (goes_give true v.shape false v.began (record { answer = row.answer; built = b2 }) (drop_last s) d.good
     (record {
       later = later_then s.built.draft row.built.draft b2.draft r.gives.later q;
@@ -252,28 +257,28 @@ goes_measure s g f = goes_measure_value (last s) s g (last_known s g) f.1
 -- ---- what takes values over
 
 shape_for_known : (n : ℕ) (r : Receiver) (k : Known) → IsKnown n k → IsKnown n (shape_for r k)
-shape_for_known n variable k h = h
-shape_for_known n (parameter need t) k h = typed_as_known n 0 t.shape k h
-shape_for_known n (result t) k h = typed_as_known n 0 t.shape k h
-shape_for_known n (output t) k h = typed_as_known n 0 t.shape k h
+shape_for_known n Variable k h = h
+shape_for_known n (Parameter need t) k h = typed_as_known n 0 t.shape k h
+shape_for_known n (CallResult t) k h = typed_as_known n 0 t.shape k h
+shape_for_known n (EntryOutput t) k h = typed_as_known n 0 t.shape k h
 
 either_wires : (d : DraftForm) (n : ℕ) (c : Bool) (r q : Given (List Operand)) → GivesWires d n r → GivesWires d n q → GivesWires d n (cond c r q)
 either_wires d n true r q a b = a
 either_wires d n false r q a b = b
 
-wires_for : (r : Receiver) (at : Setting) (v : Shown) (b : Built) → Fresh b.draft → Guards at (length b.draft.wires) no_target → IsShown (length b.draft.wires) v → GivesWires b.draft (length v.operands) (taken_for r at v b)
-wires_for variable at v b f g k = either_wires b.draft (length v.operands) v.classical (kept at v b) (taken at v b) (wires_kept at v b f g k) (wires_taken at v b f g k)
-wires_for (parameter need t) at v b f g k =
+wires_for : (r : Receiver) (at : Setting) (v : TypedBits) (b : Built) → Fresh b.draft → Guards at (length b.draft.wires) no_target → IsShown (length b.draft.wires) v → GivesWires b.draft (length v.operands) (taken_for r at v b)
+wires_for Variable at v b f g k = either_wires b.draft (length v.operands) v.classical (kept at v b) (taken at v b) (wires_kept at v b f g k) (wires_taken at v b f g k)
+wires_for (Parameter need t) at v b f g k =
     either_wires b.draft (length v.operands) (not (is_consumed need) || t.classical) (kept at v b) (taken at v b) (wires_kept at v b f g k) (wires_taken at v b f g k)
-wires_for (result t) at v b f g k = wires_taken at v b f g k
-wires_for (output t) at v b f g k =
+wires_for (CallResult t) at v b f g k = wires_taken at v b f g k
+wires_for (EntryOutput t) at v b f g k =
     either_wires b.draft (length v.operands) t.classical (copied at v.operands b) (taken at v b) (wires_copied at v.operands b f g k.there) (wires_taken at v b f g k)
 
 goes_receive : (r : Receiver) (k : Known) (s : Flattening) → Good s → IsKnown (length s.built.draft.wires) k → IsAny k → Goes s (receive_value r k s)
-goes_receive r (static z) s g h f = absurd f
-goes_receive r (lent start size v) s g h f = absurd f
-goes_receive r absent s g h f = absurd f
-goes_receive r (shown v) s g h f =
+goes_receive r (Static z) s g h f = absurd f
+goes_receive r (Lent start size v) s g h f = absurd f
+goes_receive r Absent s g h f = absurd f
+goes_receive r (Shown v) s g h f =
     let w : GivesWires s.built.draft (length v.operands) (taken_for r s.setting v s.built) = wires_for r s.setting v s.built g.fresh g.condition h in
     goes_give (class_for r v) v.shape true (began_for r s) (taken_for r s.setting v s.built) s g
     (gives_size s.built.draft (length v.operands) (shape_bits v.shape) (taken_for r s.setting v s.built) h.size w.gives) (λ e. w.wires)
@@ -285,9 +290,9 @@ goes_bind x k s g h w =
     goes_still s (bind x k s) g refl refl (known_bind (IsKnown (length s.built.draft.wires)) x k s h g.known) (record { env = bound_all IsOwned s.env x k w g.owned.env; callers = g.owned.callers })
 
 name_owned : (s : Flattening) (x : NameId) → Owned s → IsOwned (known_in s x)
-name_owned s x o = found_all IsOwned absent s.env x tt o.env
+name_owned s x o = found_all IsOwned Absent s.env x tt o.env
 
-part_known : (n m : ℕ) (need : Need) (is : List ℤ) (v : Shown) → IsShown n v → v.own ≡ true → IsPart v is → IsKnown n (part_used m need is v)
+part_known : (n m : ℕ) (need : Need) (is : List ℤ) (v : TypedBits) → IsShown n v → v.own ≡ true → IsPart v is → IsKnown n (part_used m need is v)
 part_known n m need is v h w p = record {
   size = length-part v is p;
   there = safe_part n no_target v is h.there;
@@ -295,16 +300,16 @@ part_known n m need is v h w p = record {
 }
 
 use_known : (n m : ℕ) (need : Need) (is : List ℤ) (k : Known) → IsKnown n k → IsOwned k → MayUse is k → IsKnown n (use_part m need is k)
-use_known n m need is (static z) h w p = absurd p
-use_known n m need is (shown v) h w p = part_known n m need is v h w p
-use_known n m need is (lent start size v) h w p = part_known n m need is v h w p.0
-use_known n m need is absent h w p = absurd p
+use_known n m need is (Static z) h w p = absurd p
+use_known n m need is (Shown v) h w p = part_known n m need is v h w p
+use_known n m need is (Lent start size v) h w p = part_known n m need is v h w p.0
+use_known n m need is Absent h w p = absurd p
 
-moved_known : (n : ℕ) (is : List ℤ) (v : Shown) → IsShown n v → IsKnown n (moved is v)
+moved_known : (n : ℕ) (is : List ℤ) (v : TypedBits) → IsShown n v → IsKnown n (moved is v)
 moved_known n [] v h = tt
 moved_known n (i ∷ is) v h = h
 
-moved_owned : (is : List ℤ) (v : Shown) → v.own ≡ true → IsOwned (moved is v)
+moved_owned : (is : List ℤ) (v : TypedBits) → v.own ≡ true → IsOwned (moved is v)
 moved_owned [] v h = tt
 moved_owned (i ∷ is) v h = h
 
@@ -314,16 +319,16 @@ pick_all Q true k l a b = a
 pick_all Q false k l a b = b
 
 after_known : (n : ℕ) (need : Need) (is : List ℤ) (k : Known) → IsKnown n k → IsKnown n (after_use need is k)
-after_known n need is (static z) h = h
-after_known n need is (shown v) h = pick_all (IsKnown n) (is_consumed need && not v.classical) (moved is v) (shown v) (moved_known n is v h) h
-after_known n need is (lent start size v) h = h
-after_known n need is absent h = h
+after_known n need is (Static z) h = h
+after_known n need is (Shown v) h = pick_all (IsKnown n) (is_consumed need && not v.classical) (moved is v) (Shown v) (moved_known n is v h) h
+after_known n need is (Lent start size v) h = h
+after_known n need is Absent h = h
 
 after_owned : (need : Need) (is : List ℤ) (k : Known) → IsOwned k → IsOwned (after_use need is k)
-after_owned need is (static z) h = h
-after_owned need is (shown v) h = pick_all IsOwned (is_consumed need && not v.classical) (moved is v) (shown v) (moved_owned is v h) h
-after_owned need is (lent start size v) h = h
-after_owned need is absent h = h
+after_owned need is (Static z) h = h
+after_owned need is (Shown v) h = pick_all IsOwned (is_consumed need && not v.classical) (moved is v) (Shown v) (moved_owned is v h) h
+after_owned need is (Lent start size v) h = h
+after_owned need is Absent h = h
 
 goes_use : (need : Need) (x : NameId) (is : List ℤ) (s : Flattening) → Good s → MayUse is (known_in s x) → Goes s (use_variable need x is s)
 goes_use need x is s g f =
@@ -338,33 +343,33 @@ goes_use need x is s g f =
 -- ---- assignments
 
 taken_owned : (k : Known) → IsTaken k → IsOwned k
-taken_owned (static z) h = tt
-taken_owned (shown v) h = h
-taken_owned (lent start size v) h = absurd h
-taken_owned absent h = tt
+taken_owned (Static z) h = tt
+taken_owned (Shown v) h = h
+taken_owned (Lent start size v) h = absurd h
+taken_owned Absent h = tt
 
 -- a part that was lent comes back
-lent_back : (n : ℕ) (i : ℤ) (is : List ℤ) (start size : ℕ) (v : Shown) (k : Known) → IsShown n v → IsKnown n k → WasLent (i ∷ is) start size v k → IsShown n (record v { operands = with_part v.shape (i ∷ is) v.operands (operands_of k) })
-lent_back n i is start size v (static z) h j w = absurd w.value
-lent_back n i is start size v (lent a b u) h j w = absurd w.value
-lent_back n i is start size v absent h j w = absurd w.value
-lent_back n i is start size v (shown u) h j w = record {
+lent_back : (n : ℕ) (i : ℤ) (is : List ℤ) (start size : ℕ) (v : TypedBits) (k : Known) → IsShown n v → IsKnown n k → WasLent (i ∷ is) start size v k → IsShown n (record v { operands = with_part v.shape (i ∷ is) v.operands (operands_of k) })
+lent_back n i is start size v (Static z) h j w = absurd w.value
+lent_back n i is start size v (Lent a b u) h j w = absurd w.value
+lent_back n i is start size v Absent h j w = absurd w.value
+lent_back n i is start size v (Shown u) h j w = record {
   size = length-with v (i ∷ is) u.operands w.there (j.size ∙ ap shape_bits w.value.1) ∙ h.size;
   there = safe_with n no_target v (i ∷ is) u.operands h.there j.there;
   wires = λ e. wires_with v (i ∷ is) u.operands (h.wires e) (j.wires w.value.0);
 }
 
 assigned_known : (n : ℕ) (i : ℤ) (is : List ℤ) (old new : Known) → IsKnown n old → IsKnown n new → IsLent (i ∷ is) old new → IsKnown n (assigned (i ∷ is) old new)
-assigned_known n i is (static z) new h k f = absurd f
-assigned_known n i is (shown v) new h k f = absurd f
-assigned_known n i is (lent start size v) new h k f = lent_back n i is start size v new h k f
-assigned_known n i is absent new h k f = absurd f
+assigned_known n i is (Static z) new h k f = absurd f
+assigned_known n i is (Shown v) new h k f = absurd f
+assigned_known n i is (Lent start size v) new h k f = lent_back n i is start size v new h k f
+assigned_known n i is Absent new h k f = absurd f
 
 assigned_owned : (i : ℤ) (is : List ℤ) (old new : Known) → IsLent (i ∷ is) old new → IsOwned (assigned (i ∷ is) old new)
-assigned_owned i is (static z) new f = absurd f
-assigned_owned i is (shown v) new f = absurd f
-assigned_owned i is (lent start size v) new f = f.own
-assigned_owned i is absent new f = absurd f
+assigned_owned i is (Static z) new f = absurd f
+assigned_owned i is (Shown v) new f = absurd f
+assigned_owned i is (Lent start size v) new f = f.own
+assigned_owned i is Absent new f = absurd f
 
 goes_assign : (x : NameId) (is : List ℤ) (s : Flattening) → Good s → MayAssign x is s → Goes s (bind x (assigned is (known_in s x) (last s)) (drop_last s))
 goes_assign x [] s g f =
@@ -382,13 +387,13 @@ goes_in_turn xs s g f =
     goes_still s (flat_step (assign_in_turn xs) s) g refl refl (known_in_turn (IsKnown (length s.built.draft.wires)) xs s g.known)
     (record { env = bind_all_all IsOwned s.env xs ks (all_weak IsTaken IsOwned taken_owned ks f) g.owned.env; callers = g.owned.callers })
 
-goes_end : (x : NameId) (s : Flattening) → Good s → Goes s (bind x absent s)
-goes_end x s g = goes_bind x absent s g tt tt
+goes_end : (x : NameId) (s : Flattening) → Good s → Goes s (bind x Absent s)
+goes_end x s g = goes_bind x Absent s g tt tt
 
-goes_end_compared : (x : NameId) (s : Flattening) → Good s → Goes s (drop_last (bind x absent s))
+goes_end_compared : (x : NameId) (s : Flattening) → Good s → Goes s (drop_last (bind x Absent s))
 goes_end_compared x s g =
-    let q : Goes s (bind x absent s) = goes_end x s g in
-    goes_then s (bind x absent s) (drop_last (bind x absent s)) q (goes_drop (bind x absent s) q.good)
+    let q : Goes s (bind x Absent s) = goes_end x s g in
+    goes_then s (bind x Absent s) (drop_last (bind x Absent s)) q (goes_drop (bind x Absent s) q.good)
 
 -- ---- blocks and calls
 
@@ -431,10 +436,10 @@ later_update updates.Sub at ws ps b f e be di g s = later_does (sub_into_does at
 later_update updates.Xor at ws ps b f e be di g s = later_does (flip_each_does at ws ps b f e be di g s)
 
 goes_update_known : (k : Known) (x : NameId) (is : List ℤ) (op : UpdateOp) (s : Flattening) → Good s → IsKnown (length s.built.draft.wires) k → IsOf (UpdatesPart x is op s) k → Goes s (update_variable k is op (last s) s)
-goes_update_known (static z) x is op s g h f = absurd f
-goes_update_known (lent start size v) x is op s g h f = absurd f
-goes_update_known absent x is op s g h f = absurd f
-goes_update_known (shown v) x is op s g h f =
+goes_update_known (Static z) x is op s g h f = absurd f
+goes_update_known (Lent start size v) x is op s g h f = absurd f
+goes_update_known Absent x is op s g h f = absurd f
+goes_update_known (Shown v) x is op s g h f =
     let n : ℕ = length s.built.draft.wires in
     let t : Shape = part_shape v.shape is in
     let part : List Operand = part_of v.shape is v.operands in
@@ -453,29 +458,29 @@ goes_update x is op s g f =
     (goes_drop (update_variable (known_in s x) is op (last s) s) q.good)
 
 goes_claim_known : (k : Known) (x : NameId) (s : Flattening) → Good s → IsKnown (length s.built.draft.wires) k
-    → IsOf (λ v. IsOf (λ w. w.shape ≡ v.shape) (typed_like 0 (shown v) (last s)) × (are_wires v.operands ≡ true) × MayChange (wires_in v.operands) s (without_name x s)) k → Goes s (zero_variable k (last s) s)
-goes_claim_known (static z) x s g h f = absurd f
-goes_claim_known (lent start size v) x s g h f = absurd f
-goes_claim_known absent x s g h f = absurd f
-goes_claim_known (shown v) x s g h f =
+    → IsOf (λ v. IsOf (λ w. w.shape ≡ v.shape) (typed_like 0 (Shown v) (last s)) × (are_wires v.operands ≡ true) × MayChange (wires_in v.operands) s (without_name x s)) k → Goes s (zero_variable k (last s) s)
+goes_claim_known (Static z) x s g h f = absurd f
+goes_claim_known (Lent start size v) x s g h f = absurd f
+goes_claim_known Absent x s g h f = absurd f
+goes_claim_known (Shown v) x s g h f =
     let n : ℕ = length s.built.draft.wires in
     let ws : List WireId = wires_in v.operands in
-    let operand : Known = typed_like 0 (shown v) (last s) in
+    let operand : Known = typed_like 0 (Shown v) (last s) in
     let ps : List Operand = operands_of operand in
     let e : length ws ≡ length ps =
-    length-in v.operands f.1 ∙ (h.size ∙ sym (size_of n v.shape operand (typed_like_known n 0 (shown v) (last s) (last_known s g)) f.0)) in
+    length-in v.operands f.1 ∙ (h.size ∙ sym (size_of n v.shape operand (typed_like_known n 0 (Shown v) (last s) (last_known s g)) f.0)) in
     let be : Below n ws = below_targets s.built.draft ws f.2.targets in
     let b1 : Built = flip_each s.setting ws ps s.built in
     let q : Later s.built.draft b1.draft =
     later_does (flip_each_does s.setting ws ps s.built g.fresh e be (different_wires ws f.2.distinct) f.2.condition
-    (typed_like_safe n 0 (among ws) (shown v) (last s) (last_known s g) (last_spared (among ws) (without_name x s) f.2.spared))) in
+    (typed_like_safe n 0 (among ws) (Shown v) (last s) (last_known s g) (last_spared (among ws) (without_name x s) f.2.spared))) in
     goes_build (end_all Zeroed ws b1) s g
     (later_then s.built.draft b1.draft (end_all Zeroed ws b1).draft q (later_end_all Zeroed ws b1 (below_more n (length b1.draft.wires) ws q.longer be)))
 
 goes_without : (x : NameId) (s : Flattening) → Good s → Goes s (without_name x s)
 goes_without x s g =
-    goes_still s (without_name x s) g refl refl (known_its (IsKnown (length s.built.draft.wires)) x absent s tt g.known)
-    (record { env = its_all IsOwned s.env x absent tt g.owned.env; callers = g.owned.callers })
+    goes_still s (without_name x s) g refl refl (known_its (IsKnown (length s.built.draft.wires)) x Absent s tt g.known)
+    (record { env = its_all IsOwned s.env x Absent tt g.owned.env; callers = g.owned.callers })
 
 pub goes_claim : (x : NameId) (s : Flattening) → Good s → MayClaim x s → Goes s (without_name x (zero_variable (known_in s x) (last s) s))
 goes_claim x s g f =
@@ -485,7 +490,7 @@ goes_claim x s g f =
 -- ---- steps
 
 pub goes_step : (st : Step) (s : Flattening) → Good s → FineStep st s → Goes s (flat_step st s)
-goes_step (give_static z) s g f = goes_push (static z) s g tt
+goes_step (give_static z) s g f = goes_push (Static z) s g tt
 goes_step (give_typed k z) s g f = goes_push (typed (wires_so_far s) k z) s g (typed_known (length s.built.draft.wires) (wires_so_far s) k z)
 goes_step (give_part need x is) s g f = goes_use need x is s g f.0
 goes_step (one_operand op) s g f =
@@ -602,10 +607,10 @@ pub chosen_safe : (s : Flattening) → Good s → Safe (length s.built.draft.wir
 chosen_safe s g = go (last s) (last_known s g)
   where
     go : (k : Known) → IsKnown (length s.built.draft.wires) k → Safe (length s.built.draft.wires) no_target (only_operand (operands_of k))
-    go (static z) h = tt
-    go (shown v) h = only_safe (length s.built.draft.wires) no_target v.operands h.there
-    go (lent start size v) h = tt
-    go absent h = tt
+    go (Static z) h = tt
+    go (Shown v) h = only_safe (length s.built.draft.wires) no_target v.operands h.there
+    go (Lent start size v) h = tt
+    go Absent h = tt
 
 -- where the first branch begins
 pub goes_first : (s : Flattening) → Good s → Branches (drop_last s) (first_branch s)

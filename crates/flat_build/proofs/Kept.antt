@@ -19,7 +19,10 @@ use Rattle.bit_arith.specs.Calls.{Targets, no_target, AllSafe}
 use Rattle.bit_arith.specs.Values.{bit_of, bits_at}
 use Rattle.bit_arith.proofs.Steps.{or_false, clash, Agree}
 use Rattle.bit_arith.proofs.Listed.{safe_more}
-use Rattle.flat_build.specs.State.{Shown, Known, static, shown, lent, absent, Caller, Flattening, first, last, push, drop_last, outside}
+use Rattle.flat_build.specs.declared.known.TypedBits.{TypedBits}
+use Rattle.flat_build.specs.declared.known.Known.{Known}
+use Rattle.flat_build.specs.declared.known.Known.TheVariants.{Static, Shown, Lent, Absent}
+use Rattle.flat_build.specs.State.{Caller, Flattening, first, last, push, drop_last, outside}
 use Rattle.flat_build.specs.Flat.{bind, known_in, bind_all, paired, enter, back_to, flat_step}
 use Rattle.flat_build.specs.Names.{AllOf, AllEnv, CallerOf, AllKnown, operands_in, named_by, names, Spares}
 use Rattle.flat_build.specs.Good.{IsShown, IsKnown}
@@ -82,21 +85,21 @@ safe_spared n T (Literal l ∷ ps) s o = (
 
 -- ---- what is known, with more wires
 
-pub shown_more : (n m : ℕ) (v : Shown) → n ≤ m → IsShown n v → IsShown m v
+pub shown_more : (n m : ℕ) (v : TypedBits) → n ≤ m → IsShown n v → IsShown m v
 shown_more n m v le s = record { size = s.size; there = safe_more n m no_target no_target v.operands le (λ w lt t. t) s.there; wires = s.wires }
 
 pub known_more : (n m : ℕ) (k : Known) → n ≤ m → IsKnown n k → IsKnown m k
-known_more n m (static z) le s = tt
-known_more n m (shown v) le s = shown_more n m v le s
-known_more n m (lent start size v) le s = shown_more n m v le s
-known_more n m absent le s = tt
+known_more n m (Static z) le s = tt
+known_more n m (Shown v) le s = shown_more n m v le s
+known_more n m (Lent start size v) le s = shown_more n m v le s
+known_more n m Absent le s = tt
 
 -- the operands that are there
 pub operands_safe : (n : ℕ) (k : Known) → IsKnown n k → AllSafe n no_target (operands_in k)
-operands_safe n (static z) s = tt
-operands_safe n (shown v) s = s.there
-operands_safe n (lent start size v) s = safe_outside n no_target start size v.operands s.there
-operands_safe n absent s = tt
+operands_safe n (Static z) s = tt
+operands_safe n (Shown v) s = s.there
+operands_safe n (Lent start size v) s = safe_outside n no_target start size v.operands s.there
+operands_safe n Absent s = tt
 
 -- nothing that is known names a wire that is not made
 pub new_unnamed : (n : ℕ) (k : Known) (w : WireId) → IsKnown n k → n ≤ w.number → names k w ≡ false
@@ -121,7 +124,7 @@ all_zip Q R S f (a ∷ rest) h k = (f a h.0 k.0, all_zip Q R S f rest h.1 k.1)
 pub all_and : {A : Type 0} (Q R : A → Type 0) (xs : List A) → AllOf Q xs → AllOf R xs → AllOf (λ a. Q a × R a) xs
 all_and Q R xs h k = all_zip Q R (λ a. Q a × R a) (λ a x y. (x, y)) xs h k
 
-pub all_first : (Q : Known → Type 0) → Q absent → (ks : List Known) → AllOf Q ks → Q (first ks)
+pub all_first : (Q : Known → Type 0) → Q Absent → (ks : List Known) → AllOf Q ks → Q (first ks)
 all_first Q q [] h = q
 all_first Q q (k ∷ ks) h = h.0
 
@@ -203,11 +206,11 @@ known_same Q s u e f g h = record {
   callers = subst (λ x. AllOf (CallerOf Q) x) (sym g) h.callers;
 }
 
-pub known_last : (Q : Known → Type 0) (s : Flattening) → Q absent → AllKnown Q s → Q (last s)
+pub known_last : (Q : Known → Type 0) (s : Flattening) → Q Absent → AllKnown Q s → Q (last s)
 known_last Q s q h = all_first Q q s.values h.values
 
-pub known_name : (Q : Known → Type 0) (s : Flattening) (x : NameId) → Q absent → AllKnown Q s → Q (known_in s x)
-known_name Q s x q h = found_all Q absent s.env x q h.env
+pub known_name : (Q : Known → Type 0) (s : Flattening) (x : NameId) → Q Absent → AllKnown Q s → Q (known_in s x)
+known_name Q s x q h = found_all Q Absent s.env x q h.env
 
 pub known_push : (Q : Known → Type 0) (k : Known) (s : Flattening) → Q k → AllKnown Q s → AllKnown Q (push k s)
 known_push Q k s q h = record { env = h.env; values = (q, h.values); callers = h.callers }
@@ -257,13 +260,13 @@ bits_named v u (Literal l ∷ ps) f =
 
 -- where the named wires keep their values
 pub shows_kept : (v u : Row) (k : Known) (w : Value) → ((x : WireId) → names k x ≡ true → v x.number ≡ u x.number) → Shows v k w → Shows u k w
-shows_kept v u (static z) (whole y) f h = h
-shows_kept v u (static z) (single j y) f h = absurd h
-shows_kept v u (static z) (array j y) f h = absurd h
-shows_kept v u (static z) gone f h = absurd h
-shows_kept v u (shown k) w f h = (h.0, sym (bits_named v u k.operands f) ∙ h.1)
-shows_kept v u (lent start size k) w f h = (h.0, sym (bits_named v u (outside start size k.operands) f) ∙ h.1)
-shows_kept v u absent w f h = tt
+shows_kept v u (Static z) (whole y) f h = h
+shows_kept v u (Static z) (single j y) f h = absurd h
+shows_kept v u (Static z) (array j y) f h = absurd h
+shows_kept v u (Static z) gone f h = absurd h
+shows_kept v u (Shown k) w f h = (h.0, sym (bits_named v u k.operands f) ∙ h.1)
+shows_kept v u (Lent start size k) w f h = (h.0, sym (bits_named v u (outside start size k.operands) f) ∙ h.1)
+shows_kept v u Absent w f h = tt
 
 -- after a row that spares what is known, as `grows_agree` gives it: u is the row before
 pub shows_after : (n : ℕ) (T : Targets) (v u : Row) → Agree n T v u → (k : Known) (w : Value) → IsKnown n k × Spares T k → Shows u k w → Shows v k w
@@ -324,7 +327,7 @@ all_known_more n m s le h = known_map (IsKnown n) (IsKnown m) (λ k. known_more 
 -- ---- changes of names and values
 
 -- a variable whose part is under way shows what is outside it
-pub shows_lent : (v : Row) (start size : ℕ) (k : Shown) (w : Value) → Shows v (shown k) w → Shows v (lent start size k) w
+pub shows_lent : (v : Row) (start size : ℕ) (k : TypedBits) (w : Value) → Shows v (Shown k) w → Shows v (Lent start size k) w
 shows_lent v start size k w h = (h.0, outside_map (bit_of v) start size k.operands ∙ ap (outside start size) h.1)
 
 pub all_show_push : (v : Row) (k : Known) (w : Value) (s : Flattening) (t : Term) → Shows v k w → AllShow v s t → AllShow v (push k s) (record t { values = w ∷ t.values })

@@ -25,7 +25,10 @@ use Rattle.bit_arith.proofs.Steps.{clash}
 use Rattle.bit_arith.proofs.Doing.{does_fresh}
 use Rattle.bit_arith.proofs.Listed.{below_more}
 use Rattle.bit_arith.proofs.Making.{bits_made, length-values}
-use Rattle.flat_build.specs.State.{Shown, Known, static, shown, lent, absent, Flattening, push, last, drop_last, build, taken, wires_in}
+use Rattle.flat_build.specs.declared.known.TypedBits.{TypedBits}
+use Rattle.flat_build.specs.declared.known.Known.{Known}
+use Rattle.flat_build.specs.declared.known.Known.TheVariants.{Static, Shown, Lent, Absent}
+use Rattle.flat_build.specs.State.{Flattening, push, last, drop_last, build, taken, wires_in}
 use Rattle.flat_build.specs.Flat.{flat, end_all, measure_all, measure_value}
 use Rattle.flat_build.specs.Good.{Good, IsKnown}
 use Rattle.flat_build.specs.Fine.{IsOf, MayTake, MayMeasure}
@@ -113,12 +116,12 @@ no_condition s e v = ap (λ c. condition_holds v c) e
 abbrev pub when_told : Outcome → Term → List Term
 when_told o t = if outcomes_agree o t.measured (bits_of (last_value t)) then (told (bits_of (last_value t)) t ∷ []) else []
 
-pub leads_measured : (o : Outcome) (z z' : Shown) (ws : List WireId) (s : Flattening) → s.setting.condition ≡ None → Fresh s.built.draft → Below (length s.built.draft.wires) ws → z.operands ≡ all_made ws → z'.operands ≡ z.operands → z'.shape ≡ z.shape → Leads o (push (shown z) s) (push (shown z') (build (end_all Measured ws (measure_all s.setting ws s.built)) s)) (when_told o)
+pub leads_measured : (o : Outcome) (z z' : TypedBits) (ws : List WireId) (s : Flattening) → s.setting.condition ≡ None → Fresh s.built.draft → Below (length s.built.draft.wires) ws → z.operands ≡ all_made ws → z'.operands ≡ z.operands → z'.shape ≡ z.shape → Leads o (push (Shown z) s) (push (Shown z') (build (end_all Measured ws (measure_all s.setting ws s.built)) s)) (when_told o)
 leads_measured o z z' ws s none f below its same shape =
     let d : DraftForm = s.built.draft in
     let b1 : Built = measure_all s.setting ws s.built in
     let b : Built = end_all Measured ws b1 in
-    let e : Flattening = push (shown z') (build b s) in
+    let e : Flattening = push (Shown z') (build b s) in
     let n : ℕ = count_measures d.steps in
     let m : Later d b1.draft = later_measure_all s.setting ws s.built in
     let l : Later d b.draft = later_then d b1.draft b.draft m (later_end_all Measured ws b1 (below_more (length d.wires) (length b1.draft.wires) ws m.longer below)) in
@@ -134,13 +137,13 @@ leads_measured o z z' ws s none f below its same shape =
       told = λ v c off. absurd (clash (sym off ∙ no_condition s none v));
       still = λ u c off. absurd (clash (sym off ∙ no_condition s none u.row));
       gives = λ u t r on.
-          let shows : Shows u.row (shown z) (last_value t) = shown_last (push (shown z) s) z u t refl r in
+          let shows : Shows u.row (Shown z) (last_value t) = shown_last (push (Shown z) s) z u t refl r in
           let bits : values_at u.row ws ≡ bits_of (last_value t) = sym (bits_made u.row ws) ∙ (ap (bits_at u.row) (sym its) ∙ shows.1) in
           let count : length ws ≡ length (bits_of (last_value t)) = sym (length-values u.row ws) ∙ ap length bits in
           let total : count_measures b.draft.steps ≡ t.measured + length (bits_of (last_value t)) =
           ap count_measures grown ∙ (measures-append d.steps (marks n ws) ∙ (ap₂ (λ (i j : ℕ). i + j) r.measured (count_marks n ws ∙ count))) in
-          let values : ListBoth (Shows u.row) (shown z' ∷ s.values) t.values =
-          subst (λ l. ListBoth (Shows u.row) (shown z' ∷ s.values) l) (sym (values_whole u.row (shown z ∷ s.values) t.values z refl r.values))
+          let values : ListBoth (Shows u.row) (Shown z' ∷ s.values) t.values =
+          subst (λ l. ListBoth (Shows u.row) (Shown z' ∷ s.values) l) (sym (values_whole u.row (Shown z ∷ s.values) t.values z refl r.values))
           ((subst (λ h. HasShape h (last_value t)) (sym shape) shows.0, ap (bits_at u.row) same ∙ shows.1), rest_of u.row t.values r.values) in
           let end : Related e u (told (bits_of (last_value t)) t) = record {
             clean = λ k h. r.clean k (later_blank d b.draft l f k h).0;
@@ -157,7 +160,7 @@ leads_measured o z z' ws s none f below its same shape =
           (pick e u t (outcomes_agree o t.measured (bits_of (last_value t))) end)));
     }
   where
-    rest_of : (x : Row) (vs : List Value) → ListBoth (Shows x) (shown z ∷ s.values) vs → ListBoth (Shows x) s.values (drop 1 vs)
+    rest_of : (x : Row) (vs : List Value) → ListBoth (Shows x) (Shown z ∷ s.values) vs → ListBoth (Shows x) s.values (drop 1 vs)
     rest_of x [] h = absurd h
     rest_of x (v ∷ vs) h = h.1
 
@@ -169,15 +172,15 @@ pub leads_measure : (o : Outcome) (s : Flattening) → Good s → MayMeasure s �
 leads_measure o s gs may = go (last s) refl may.1 (known_last (IsKnown (length s.built.draft.wires)) s tt gs.known)
   where
     go : (k : Known) → last s ≡ k → IsOf (λ v. MayTake v s) k → IsKnown (length s.built.draft.wires) k → Leads o s (measure_value k (drop_last s)) (follow o measured)
-    go (static y) e m q = absurd m
-    go (lent a c v) e m q = absurd m
-    go absent e m q = absurd m
-    go (shown v) e m q =
+    go (Static y) e m q = absurd m
+    go (Lent a c v) e m q = absurd m
+    go Absent e m q = absurd m
+    go (Shown v) e m q =
         let g : Given (List Operand) = taken s.setting v s.built in
         let k : Taken s v g = takes s v gs q m in
         let ws : List WireId = wires_in g.answer in
-        let z : Shown = record { classical = false; shape = v.shape; operands = g.answer; own = true; began = v.began } in
-        let z' : Shown = record { classical = true; shape = v.shape; operands = g.answer; own = false; began = v.began } in
+        let z : TypedBits = record { classical = false; shape = v.shape; operands = g.answer; own = true; began = v.began } in
+        let z' : TypedBits = record { classical = true; shape = v.shape; operands = g.answer; own = false; began = v.began } in
         let s0 : Flattening = build g.built (drop_last s) in
-        leads_after_taken o s (push (shown z') (build (end_all Measured ws (measure_all s.setting ws g.built)) (drop_last s))) v g z (when_told o) gs e k refl refl
+        leads_after_taken o s (push (Shown z') (build (end_all Measured ws (measure_all s.setting ws g.built)) (drop_last s))) v g z (when_told o) gs e k refl refl
         (leads_measured o z z' ws s0 may.0 (does_fresh k.does gs.fresh) k.below (wires_are g.answer k.wires) refl refl)

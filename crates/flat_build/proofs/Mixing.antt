@@ -24,7 +24,8 @@ use Rattle.bit_arith.specs.Values.{forced}
 use Rattle.bit_arith.specs.Does.{Grows}
 use Rattle.bit_arith.proofs.Steps.{Agree, clash, and_one, label-first, label-not, apart_above}
 use Rattle.bit_arith.proofs.Doing.{blank_before}
-use Rattle.flat_build.specs.State.{Shown, Flattening, build}
+use Rattle.flat_build.specs.declared.known.TypedBits.{TypedBits}
+use Rattle.flat_build.specs.State.{Flattening, build}
 use Rattle.flat_build.specs.Shows.{ListBoth, Related}
 use Rattle.flat_build.proofs.Kept.{AllShow}
 use Rattle.flat_build.proofs.Compose.{leaves_none, Leads}
@@ -75,7 +76,7 @@ grows_mixed d w c line lt = record {
 abbrev pub both_halves : Term → List Term
 both_halves t = hadamard false t ∷ hadamard true t ∷ []
 
-leads_mixed : (o : Outcome) (z : Shown) (w : WireId) (s : Flattening) (c : Option Lit) → Wired z w s → ((v : Row) → forced s.setting v ≡ holds v c) → Leads o (with_wired z s) (with_wired z (build (push_step s.setting (steps.H w c) s.built) s)) both_halves
+leads_mixed : (o : Outcome) (z : TypedBits) (w : WireId) (s : Flattening) (c : Option Lit) → Wired z w s → ((v : Row) → forced s.setting v ≡ holds v c) → Leads o (with_wired z s) (with_wired z (build (push_step s.setting (steps.H w c) s.built) s)) both_halves
 leads_mixed o z w s c q same =
     let d : DraftForm = s.built.draft in
     let b : Built = push_step s.setting (steps.H w c) s.built in
@@ -121,7 +122,7 @@ leads_mixed o z w s c q same =
         if_cond false = refl
 
 -- under a condition that never holds there is no step
-leads_never : (o : Outcome) (z : Shown) (s : Flattening) (src : Term → List Term) → ((v : Row) → forced s.setting v ≡ false) → Leads o (with_wired z s) (with_wired z s) src
+leads_never : (o : Outcome) (z : TypedBits) (s : Flattening) (src : Term → List Term) → ((v : Row) → forced s.setting v ≡ false) → Leads o (with_wired z s) (with_wired z s) src
 leads_never o z s src never = record {
   new = [];
   grown = sym (append-nil s.built.draft.steps);
@@ -139,7 +140,7 @@ had_is : (at : Setting) (w : WireId) (b : Built) → had_under at at.condition w
 unfolding had
 had_is at w b = refl
 
-pub leads_hadamard : (o : Outcome) (z : Shown) (w : WireId) (s : Flattening) → Wired z w s → Leads o (with_wired z s) (with_wired z (build (had s.setting w s.built) s)) both_halves
+pub leads_hadamard : (o : Outcome) (z : TypedBits) (w : WireId) (s : Flattening) → Wired z w s → Leads o (with_wired z s) (with_wired z (build (had s.setting w s.built) s)) both_halves
 leads_hadamard o z w s q =
     subst (λ b. Leads o (with_wired z s) (with_wired z (build b s)) both_halves) (had_is s.setting w s.built) (go s.setting.condition refl)
   where

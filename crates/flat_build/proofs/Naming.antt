@@ -14,7 +14,10 @@ use Rattle.flat_core.specs.Sound.{count_measures}
 use Rattle.bit_arith.specs.Values.{Clean, bits_at}
 use Rattle.flat_mean.specs.Row.{Row}
 use Rattle.flat_mean.specs.Terms.{Term as WireTerm}
-use Rattle.flat_build.specs.State.{Shown, Known, static, shown, lent, absent, Caller, Flattening, last, operands_of, part_shape, part_start, wires_so_far, outside, with_part as with_bits_of_part}
+use Rattle.flat_build.specs.declared.known.TypedBits.{TypedBits}
+use Rattle.flat_build.specs.declared.known.Known.{Known}
+use Rattle.flat_build.specs.declared.known.Known.TheVariants.{Static, Shown, Lent, Absent}
+use Rattle.flat_build.specs.State.{Caller, Flattening, last, operands_of, part_shape, part_start, wires_so_far, outside, with_part as with_bits_of_part}
 use Rattle.flat_build.specs.Flat.{flat, flat_step, known_in, use_part, after_use, moved, part_used, assigned, bind_all, paired, back_to}
 use Rattle.flat_build.specs.Good.{Good, IsShown, IsKnown}
 use Rattle.flat_build.specs.Fine.{IsOf, IsPart, IndexFits, FitsIndex, IsLent, MayAssign, MayUse}
@@ -50,7 +53,7 @@ leads_give_typed o k z s =
 
 -- ---- uses of variables
 
-pub is_there : (n : ℕ) (v : Shown) (is : List ℤ) → IsShown n v → IsPart v is → IndexFits v.shape is → IsThere v.shape is
+pub is_there : (n : ℕ) (v : TypedBits) (is : List ℤ) → IsShown n v → IsPart v is → IndexFits v.shape is → IsThere v.shape is
 is_there n v is q p f = record { within = subst (λ m. part_start v.shape is + shape_bits (part_shape v.shape is) ≤ m) q.size p; fits = f }
 
 take_past : {A : Type 0} (n : ℕ) (xs : List A) → length xs ≤ n → take n xs ≡ xs
@@ -77,14 +80,14 @@ record UseShows (x : Row) (n : ℕ) (need : Need) (is : List ℤ) (k : Known) (w
   left : Shows x (after_use need is k) w
 
 use_shows : (x : Row) (m n : ℕ) (need : Need) (is : List ℤ) (k : Known) (w : Value) → MayUse is k → FitsIndex is k → IsKnown m k → Shows x k w → UseShows x n need is k w
-use_shows x m n need is (static z) w u f q h = absurd u
-use_shows x m n need is absent w u f q h = absurd u
-use_shows x m n need is (shown v) w u f q h = record { given = shows_part x n need is v w (is_there m v is q u f) h; left = pick (is_consumed need && not v.classical) }
+use_shows x m n need is (Static z) w u f q h = absurd u
+use_shows x m n need is Absent w u f q h = absurd u
+use_shows x m n need is (Shown v) w u f q h = record { given = shows_part x n need is v w (is_there m v is q u f) h; left = pick (is_consumed need && not v.classical) }
   where
-    pick : (b : Bool) → Shows x (cond b (moved is v) (shown v)) w
+    pick : (b : Bool) → Shows x (cond b (moved is v) (Shown v)) w
     pick true = shows_moved x is v w h
     pick false = h
-use_shows x m n need is (lent start size v) w u f q h = record { given = pick (cases_lt start (length v.operands)); left = h }
+use_shows x m n need is (Lent start size v) w u f q h = record { given = pick (cases_lt start (length v.operands)); left = h }
   where
     pick : (start < length v.operands) ⊎ (length v.operands ≤ start) → Shows x (part_used n need is v) (part w is)
     pick (inl lt) = shows_rest x n need is start size v w q.size (omega (arith, lt)) (is_there m v is q u.0 f) u.1 h
@@ -98,7 +101,7 @@ leads_give_part o need x is s g may fit =
     let n : ℕ = length s.built.draft.wires in
     leads_named o s (flat_step (give_part need x is) s) (λ t. record t { values = part (value_of t.env x) is ∷ t.values }) refl refl
     (λ u t r.
-    let h : UseShows u.row (wires_so_far s) need is (known_in s x) (value_of t.env x) = use_shows u.row n (wires_so_far s) need is (known_in s x) (value_of t.env x) may fit (known_name (IsKnown n) s x tt g.known) (found_both (Shows u.row) absent gone tt s.env t.env x r.env) in
+    let h : UseShows u.row (wires_so_far s) need is (known_in s x) (value_of t.env x) = use_shows u.row n (wires_so_far s) need is (known_in s x) (value_of t.env x) may fit (known_name (IsKnown n) s x tt g.known) (found_both (Shows u.row) Absent gone tt s.env t.env x r.env) in
     related_by s (flat_step (give_part need x is) s) u t (record t { values = part (value_of t.env x) is ∷ t.values }) refl r
     (record { env = its_left (Shows u.row) (after_use need is (known_in s x)) gone s.env t.env x h.left r.env; values = (h.given, r.values); callers = r.callers }) refl refl refl)
 
@@ -113,23 +116,23 @@ assigned_shows x m (j ∷ is) k l w y (inl e) f q h i = absurd (no_cons e)
   where
     no_cons : j ∷ is ≡ [] → ⊥
     no_cons e = grind (arith, e)
-assigned_shows x m (j ∷ is) (static z) l w y (inr e) f q h i = absurd e
-assigned_shows x m (j ∷ is) (shown v) l w y (inr e) f q h i = absurd e
-assigned_shows x m (j ∷ is) absent l w y (inr e) f q h i = absurd e
-assigned_shows x m (j ∷ is) (lent start size v) l w y (inr e) f q h i = go l e.value i
+assigned_shows x m (j ∷ is) (Static z) l w y (inr e) f q h i = absurd e
+assigned_shows x m (j ∷ is) (Shown v) l w y (inr e) f q h i = absurd e
+assigned_shows x m (j ∷ is) Absent l w y (inr e) f q h i = absurd e
+assigned_shows x m (j ∷ is) (Lent start size v) l w y (inr e) f q h i = go l e.value i
   where
-    go : (l : Known) → IsOf (λ b. (b.own ≡ true) × (b.shape ≡ part_shape v.shape (j ∷ is))) l → Shows x l y → Shows x (shown (record v { operands = with_bits_of_part v.shape (j ∷ is) v.operands (operands_of l) })) (with_part w (j ∷ is) y)
-    go (static z) b i = absurd b
-    go (lent a c z) b i = absurd b
-    go absent b i = absurd b
-    go (shown b) c i = shows_put x (j ∷ is) start size v b w y q.size (is_there m v (j ∷ is) q e.there f) e.starts e.sizes c.1 h i
+    go : (l : Known) → IsOf (λ b. (b.own ≡ true) × (b.shape ≡ part_shape v.shape (j ∷ is))) l → Shows x l y → Shows x (Shown (record v { operands = with_bits_of_part v.shape (j ∷ is) v.operands (operands_of l) })) (with_part w (j ∷ is) y)
+    go (Static z) b i = absurd b
+    go (Lent a c z) b i = absurd b
+    go Absent b i = absurd b
+    go (Shown b) c i = shows_put x (j ∷ is) start size v b w y q.size (is_there m v (j ∷ is) q e.there f) e.starts e.sizes c.1 h i
 
 pub leads_assign_to : (o : Outcome) (x : NameId) (is : List ℤ) (s : Flattening) → Good s → MayAssign x is s → FitsIndex is (known_in s x) → Leads o s (flat (step (assign_to x is)) s) (follow o (step (assign_to x is)))
 leads_assign_to o x is s g may fit =
     let n : ℕ = length s.built.draft.wires in
     leads_named o s (flat_step (assign_to x is) s) (assign_part x is) refl refl
     (λ u t r.
-    let old : Shows u.row (known_in s x) (value_of t.env x) = found_both (Shows u.row) absent gone tt s.env t.env x r.env in
+    let old : Shows u.row (known_in s x) (value_of t.env x) = found_both (Shows u.row) Absent gone tt s.env t.env x r.env in
     let new : Shows u.row (assigned is (known_in s x) (last s)) (with_part (value_of t.env x) is (last_value t)) =
     assigned_shows u.row n is (known_in s x) (last s) (value_of t.env x) (last_value t) (way is may) fit (known_name (IsKnown n) s x tt g.known) old (last_shows u.row s.values t.values r.values) in
     related_by s (flat_step (assign_to x is) s) u t (assign_part x is t) refl r
@@ -169,13 +172,13 @@ pub leads_end_name : (o : Outcome) (x : NameId) (s : Flattening) → Leads o s (
 leads_end_name o x s =
     leads_named o s (flat_step (end_name x) s) (take_out x) refl refl
     (λ u t r. related_by s (flat_step (end_name x) s) u t (take_out x t) refl r
-    (record { env = bound_both (Shows u.row) absent gone tt s.env t.env x r.env; values = r.values; callers = r.callers }) refl refl refl)
+    (record { env = bound_both (Shows u.row) Absent gone tt s.env t.env x r.env; values = r.values; callers = r.callers }) refl refl refl)
 
 pub leads_end_compared : (o : Outcome) (x : NameId) (s : Flattening) → Leads o s (flat (step (end_compared x)) s) (follow o (step (end_compared x)))
 leads_end_compared o x s =
     leads_named o s (flat_step (end_compared x) s) (λ t. but_last (take_out x t)) refl refl
     (λ u t r. related_by s (flat_step (end_compared x) s) u t (but_last (take_out x t)) refl r
-    (record { env = bound_both (Shows u.row) absent gone tt s.env t.env x r.env; values = both_drop (Shows u.row) s.values t.values r.values; callers = r.callers }) refl refl refl)
+    (record { env = bound_both (Shows u.row) Absent gone tt s.env t.env x r.env; values = both_drop (Shows u.row) s.values t.values r.values; callers = r.callers }) refl refl refl)
 
 pub leads_enter_block : (o : Outcome) (s : Flattening) → Leads o s (flat (step enter_block) s) (follow o (step enter_block))
 leads_enter_block o s =

@@ -15,7 +15,10 @@ use Rattle.bit_arith.specs.Does.{Does, Below}
 use Rattle.bit_arith.proofs.Doing.{does_grown}
 use Rattle.bit_arith.proofs.Listed.{below_more, safe_one}
 use Rattle.bit_arith.proofs.Making.{flip_each_does, negated_safe}
-use Rattle.flat_build.specs.State.{Shown, Known, static, shown, lent, absent, Flattening, last, drop_last, operands_of, typed_like, are_wires, wires_in}
+use Rattle.flat_build.specs.declared.known.TypedBits.{TypedBits}
+use Rattle.flat_build.specs.declared.known.Known.{Known}
+use Rattle.flat_build.specs.declared.known.Known.TheVariants.{Static, Shown, Lent, Absent}
+use Rattle.flat_build.specs.State.{Flattening, last, drop_last, operands_of, typed_like, are_wires, wires_in}
 use Rattle.flat_build.specs.Flat.{flat, flat_step, known_in, count_statement, on_line, chosen_by, first_branch, second_branch, zero_variable, without_name, end_all}
 use Rattle.flat_build.specs.Names.{AllKnown, Spares, names}
 use Rattle.flat_build.specs.Good.{Good, IsKnown}
@@ -69,7 +72,7 @@ spares_either T U V s f a b = known_map (λ k. Spares T k × Spares U k) (Spares
     pick k w p (inr u) = p.1 w u
 
 -- the flips of a claim on a variable that shows v
-module _ (x : NameId) (s : Flattening) (g : Good s) (v : Shown) (e : known_in s x ≡ shown v) (like : IsOf (λ w. w.shape ≡ v.shape) (typed_like 0 (shown v) (last s))) (are : are_wires v.operands ≡ true) (may : MayChange (wires_in v.operands) s (without_name x s)) where
+module _ (x : NameId) (s : Flattening) (g : Good s) (v : TypedBits) (e : known_in s x ≡ Shown v) (like : IsOf (λ w. w.shape ≡ v.shape) (typed_like 0 (Shown v) (last s))) (are : are_wires v.operands ≡ true) (may : MayChange (wires_in v.operands) s (without_name x s)) where
   abbrev n : ℕ
   n = length s.built.draft.wires
 
@@ -77,12 +80,12 @@ module _ (x : NameId) (s : Flattening) (g : Good s) (v : Shown) (e : known_in s 
   claim_wires = wires_in v.operands
 
   abbrev pub claim_operands : List Operand
-  claim_operands = operands_of (typed_like 0 (shown v) (last s))
+  claim_operands = operands_of (typed_like 0 (Shown v) (last s))
 
   abbrev pub claim_flips : Built
   claim_flips = flip_each s.setting claim_wires claim_operands s.built
 
-  v_known : IsKnown n (shown v)
+  v_known : IsKnown n (Shown v)
   v_known = subst (IsKnown n) e (known_name (IsKnown n) s x tt g.known)
 
   last_known : IsKnown n (last s)
@@ -94,9 +97,9 @@ module _ (x : NameId) (s : Flattening) (g : Good s) (v : Shown) (e : known_in s 
   pub claim_does : Does s.setting s.built.draft claim_flips.draft (among claim_wires) (λ y z. values_at z claim_wires ≡ flip_bits (values_at y claim_wires) (bits_at y claim_operands))
   claim_does =
       flip_each_does s.setting claim_wires claim_operands s.built g.fresh
-      (length-in v.operands are ∙ (v_known.size ∙ sym (size_of n v.shape (typed_like 0 (shown v) (last s)) (typed_like_known n 0 (shown v) (last s) last_known) like)))
+      (length-in v.operands are ∙ (v_known.size ∙ sym (size_of n v.shape (typed_like 0 (Shown v) (last s)) (typed_like_known n 0 (Shown v) (last s) last_known) like)))
       claim_below (different_wires claim_wires may.distinct) may.condition
-      (typed_like_safe n 0 (among claim_wires) (shown v) (last s) last_known (last_spared (among claim_wires) (without_name x s) may.spared))
+      (typed_like_safe n 0 (among claim_wires) (Shown v) (last s) last_known (last_spared (among claim_wires) (without_name x s) may.spared))
 
   -- a wire that ends as Zeroed did so before or is one of the variable's
   pub claim_ends : (w : WireId) → zeroed (end_all Zeroed claim_wires claim_flips).draft w ≡ true → (zeroed s.built.draft w ≡ true) ⊎ (among claim_wires w ≡ true)
@@ -110,29 +113,29 @@ module _ (x : NameId) (s : Flattening) (g : Good s) (v : Shown) (e : known_in s 
   pub claim_off : (T : Targets) → AllKnown (Spares T) s → (w : WireId) → T w ≡ true → among claim_wires w ≡ false
   claim_off T all w t = none_among T v.operands (subst (Spares T) e (known_name (Spares T) s x (λ i j. refl) all)) w t
 
-  pub settles_shown : Done s → Settles s (without_name x (zero_variable (shown v) (last s) s))
+  pub settles_shown : Done s → Settles s (without_name x (zero_variable (Shown v) (last s) s))
   settles_shown d = record {
     done =
         let k : AllKnown (Spares (zeroed (end_all Zeroed claim_wires claim_flips).draft)) (without_name x s) =
         spares_either (zeroed s.built.draft) (among claim_wires) (zeroed (end_all Zeroed claim_wires claim_flips).draft) (without_name x s) claim_ends
-        (known_its (Spares (zeroed s.built.draft)) x absent s (λ w t. refl) d) may.spared in
+        (known_its (Spares (zeroed s.built.draft)) x Absent s (λ w t. refl) d) may.spared in
         record { env = k.env; values = k.values; callers = k.callers };
     keeps = λ T low all w t.
         ap (λ ss. label_after ss w) (end_all_steps Zeroed claim_wires claim_flips)
         ∙ (passes_grows T claim_does.grows low (claim_off T all)).keeps w t;
     spares = λ T low all.
-        let k : AllKnown (Spares T) (without_name x s) = known_its (Spares T) x absent s (λ w t. refl) all in
+        let k : AllKnown (Spares T) (without_name x s) = known_its (Spares T) x Absent s (λ w t. refl) all in
         record { env = k.env; values = k.values; callers = k.callers };
   }
 
 settles_claim : (x : NameId) (s : Flattening) → Good s → MayClaim x s → Done s → Settles s (without_name x (zero_variable (known_in s x) (last s) s))
 settles_claim x s g may d = go (known_in s x) refl may
   where
-    go : (k : Known) → known_in s x ≡ k → IsOf (λ v. IsOf (λ w. w.shape ≡ v.shape) (typed_like 0 (shown v) (last s)) × (are_wires v.operands ≡ true) × MayChange (wires_in v.operands) s (without_name x s)) k → Settles s (without_name x (zero_variable k (last s) s))
-    go (static z) e f = absurd f
-    go (lent a c v) e f = absurd f
-    go absent e f = absurd f
-    go (shown v) e f = settles_shown x s g v e f.0 f.1 f.2 d
+    go : (k : Known) → known_in s x ≡ k → IsOf (λ v. IsOf (λ w. w.shape ≡ v.shape) (typed_like 0 (Shown v) (last s)) × (are_wires v.operands ≡ true) × MayChange (wires_in v.operands) s (without_name x s)) k → Settles s (without_name x (zero_variable k (last s) s))
+    go (Static z) e f = absurd f
+    go (Lent a c v) e f = absurd f
+    go Absent e f = absurd f
+    go (Shown v) e f = settles_shown x s g v e f.0 f.1 f.2 d
 
 -- ---- choices
 

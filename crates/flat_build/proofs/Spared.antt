@@ -18,7 +18,9 @@ use Rattle.check_scope.specs.declared.need.Need.{Need}
 use Rattle.check_scope.specs.Uses.{is_consumed}
 use Rattle.silq_mean.specs.Value.{low_bits, modulo, modulus}
 use Rattle.silq_mean.specs.Env.{in_its_block}
-use Rattle.silq_mean.specs.Effect.{Step, give_static, give_typed, give_part, one_operand, two_operands, copy_last, repeat_last, flip_last, turn_by, turn_all, receive, assign_to, assign_in_turn, update_to, end_name, end_compared, enter_block, leave_block, enter_body, leave_body, Receiver, variable, parameter, result, output}
+use Rattle.silq_mean.specs.declared.receiver.Receiver.{Receiver}
+use Rattle.silq_mean.specs.declared.receiver.Receiver.TheVariants.{Variable, Parameter, CallResult, EntryOutput}
+use Rattle.silq_mean.specs.Effect.{Step, give_static, give_typed, give_part, one_operand, two_operands, copy_last, repeat_last, flip_last, turn_by, turn_all, receive, assign_to, assign_in_turn, update_to, end_name, end_compared, enter_block, leave_block, enter_body, leave_body}
 use Rattle.flat_core.specs.declared.step.WireId.{WireId}
 use Rattle.flat_core.specs.declared.step.End.TheVariants.{Measured}
 use Rattle.flat_core.specs.Form.{DraftForm}
@@ -42,7 +44,10 @@ use Rattle.bit_arith.proofs.Tests.{equal_does, less_does, safe_append}
 use Rattle.bit_arith.proofs.Tidying.{flip_does}
 use Rattle.bit_arith.proofs.Phases.{turn_does}
 use Rattle.bit_arith.proofs.Halves.{had_does, measure_does}
-use Rattle.flat_build.specs.State.{Shown, Known, static, shown, lent, absent, Caller, Flattening, push, last, drop_last, wires_so_far, operands_of, is_signed, typed, typed_as, part_shape, part_start, part_of, with_part, outside, are_wires, are_new, as_they_are, copied, taken, kept, wires_in, only_wire, only_operand}
+use Rattle.flat_build.specs.declared.known.TypedBits.{TypedBits}
+use Rattle.flat_build.specs.declared.known.Known.{Known}
+use Rattle.flat_build.specs.declared.known.Known.TheVariants.{Static, Shown, Lent, Absent}
+use Rattle.flat_build.specs.State.{Caller, Flattening, push, last, drop_last, wires_so_far, operands_of, is_signed, typed, typed_as, part_shape, part_start, part_of, with_part, outside, are_wires, are_new, as_they_are, copied, taken, kept, wires_in, only_wire, only_operand}
 use Rattle.flat_build.specs.Flat.{by_one, by_two, alone, opposite, give, on_one, on_two_typed, began_at, as_operand, give_copy, give_repeated, repeated, on_wire, turn_both, end_all, measure_all, measure_value, shape_for, taken_for, receive_value, known_in, part_used, use_part, moved, after_use, use_variable, assigned, bind, update_variable, back_to, flat_step}
 use Rattle.flat_build.specs.Names.{AllOf, AllKnown, CallerOf, named_by, Spares}
 use Rattle.flat_build.specs.Good.{Good, IsShown, IsKnown}
@@ -120,7 +125,7 @@ safely_either : (T : Targets) (d : DraftForm) (c : Bool) (r q : Given (List Oper
 safely_either T d true r q a b = a
 safely_either T d false r q a b = b
 
-module _ (T : Targets) (at : Setting) (v : Shown) (b : Built) (low : Low T b.draft) (f : Fresh b.draft) (g : Guards at (length b.draft.wires) no_target) (k : IsShown (length b.draft.wires) v) (t : AllSafe (length b.draft.wires) T v.operands) where
+module _ (T : Targets) (at : Setting) (v : TypedBits) (b : Built) (low : Low T b.draft) (f : Fresh b.draft) (g : Guards at (length b.draft.wires) no_target) (k : IsShown (length b.draft.wires) v) (t : AllSafe (length b.draft.wires) T v.operands) where
   pub safely_taken : Safely T b.draft (taken at v b)
   safely_taken =
       safely_either T b.draft (v.own || are_new b.draft v.began v.operands) (as_they_are v.operands b) (copied at v.operands b)
@@ -132,10 +137,10 @@ module _ (T : Targets) (at : Setting) (v : Shown) (b : Built) (low : Low T b.dra
       (safely_same (length b.draft.wires) T v.operands b t) (safely_copied T at v.operands b low f g k.there)
 
   pub safely_for : (r : Receiver) → Safely T b.draft (taken_for r at v b)
-  safely_for variable = safely_either T b.draft v.classical (kept at v b) (taken at v b) safely_kept safely_taken
-  safely_for (parameter need i) = safely_either T b.draft (not (is_consumed need) || i.classical) (kept at v b) (taken at v b) safely_kept safely_taken
-  safely_for (result i) = safely_taken
-  safely_for (output i) = safely_either T b.draft i.classical (copied at v.operands b) (taken at v b) (safely_copied T at v.operands b low f g k.there) safely_taken
+  safely_for Variable = safely_either T b.draft v.classical (kept at v b) (taken at v b) safely_kept safely_taken
+  safely_for (Parameter need i) = safely_either T b.draft (not (is_consumed need) || i.classical) (kept at v b) (taken at v b) safely_kept safely_taken
+  safely_for (CallResult i) = safely_taken
+  safely_for (EntryOutput i) = safely_either T b.draft i.classical (copied at v.operands b) (taken at v b) (safely_copied T at v.operands b low f g k.there) safely_taken
 
 typed_spares : (T : Targets) (m : ℕ) (j : Scalar) (z : ℤ) → Spares T (typed m j z)
 typed_spares T m j z = none_named 0 T (map (λ b. Const b) (low_bits (scalar_bits j) (modulo z (modulus j)))) (safe_consts 0 T (low_bits (scalar_bits j) (modulo z (modulus j))))
@@ -227,29 +232,29 @@ module _ (T : Targets) (s : Flattening) (low : Low T s.built.draft) (g : Good s)
   spared_one : (op : UnaryOp) → Spared T s (flat_step (one_operand op) s)
   spared_one op = go (last s) last_known last_spares
     where
-      absent_last : Spared T s (push absent (drop_last s))
-      absent_last = spared_still T s (push absent (drop_last s)) refl (known_push (Spares T) absent (drop_last s) (λ w t. refl) but_last)
+      absent_last : Spared T s (push Absent (drop_last s))
+      absent_last = spared_still T s (push Absent (drop_last s)) refl (known_push (Spares T) Absent (drop_last s) (λ w t. refl) but_last)
 
       go : (k : Known) → IsKnown n k → Spares T k → Spared T s (on_one op k (drop_last s))
-      go (static z) h p = absent_last
-      go (lent start size v) h p = absent_last
-      go absent h p = absent_last
-      go (shown v) h p = spared_give T s (drop_last s) _ _ _ _ (by_one op s.setting v.operands s.built) (safely_one op T s.setting v.operands s.built low g.fresh g.condition h.there (safe_spared n T v.operands h.there p)) but_last
+      go (Static z) h p = absent_last
+      go (Lent start size v) h p = absent_last
+      go Absent h p = absent_last
+      go (Shown v) h p = spared_give T s (drop_last s) _ _ _ _ (by_one op s.setting v.operands s.built) (safely_one op T s.setting v.operands s.built low g.fresh g.condition h.there (safe_spared n T v.operands h.there p)) but_last
 
   operand_safe : (other k : Known) → IsKnown n k → Spares T k → AllSafe n T (operands_of (as_operand other k))
-  operand_safe (static y) (static z) h p = tt
-  operand_safe (shown v) (static z) h p = typed_operand v.classical v.shape v.operands v.own v.began z
+  operand_safe (Static y) (Static z) h p = tt
+  operand_safe (Shown v) (Static z) h p = typed_operand v.classical v.shape v.operands v.own v.began z
     where
-      typed_operand : (c : Bool) (t : Shape) (ps : List Operand) (o : Bool) (b : ℕ) (y : ℤ) → AllSafe n T (operands_of (as_operand (shown (record { classical = c; shape = t; operands = ps; own = o; began = b })) (static y)))
+      typed_operand : (c : Bool) (t : Shape) (ps : List Operand) (o : Bool) (b : ℕ) (y : ℤ) → AllSafe n T (operands_of (as_operand (Shown (record { classical = c; shape = t; operands = ps; own = o; began = b })) (Static y)))
       typed_operand c Bit ps o b y = safe_consts n T (low_bits (scalar_bits scalars.Bit) (modulo y (modulus scalars.Bit)))
       typed_operand c (UInt w) ps o b y = safe_consts n T (low_bits (scalar_bits (scalars.UInt w)) (modulo y (modulus (scalars.UInt w))))
       typed_operand c (Int w) ps o b y = safe_consts n T (low_bits (scalar_bits (scalars.Int w)) (modulo y (modulus (scalars.Int w))))
       typed_operand c (Array k m) ps o b y = tt
-  operand_safe (lent start size v) (static z) h p = tt
-  operand_safe absent (static z) h p = tt
-  operand_safe other (shown v) h p = safe_spared n T v.operands h.there p
-  operand_safe other (lent start size v) h p = tt
-  operand_safe other absent h p = tt
+  operand_safe (Lent start size v) (Static z) h p = tt
+  operand_safe Absent (Static z) h p = tt
+  operand_safe other (Shown v) h p = safe_spared n T v.operands h.there p
+  operand_safe other (Lent start size v) h p = tt
+  operand_safe other Absent h p = tt
 
   spared_two : (op : BinaryOp) → MayJoin op (last (drop_last s)) (last s) → Spared T s (flat_step (two_operands op) s)
   spared_two op fit =
@@ -268,42 +273,42 @@ module _ (T : Targets) (s : Flattening) (low : Low T s.built.draft) (g : Good s)
       ks = known_last (Spares T) (drop_last s) (λ w t. refl) but_last
 
       go : (a c : Known) → IsOf (λ v. IsOf (λ w. (v.shape ≡ w.shape) × FitsTwo op v.shape) c) a → IsKnown n a → IsKnown n c → AllSafe n T (operands_of a) → AllSafe n T (operands_of c) → Spared T s (on_two_typed op (began_at k l) a c (drop_last (drop_last s)))
-      go (static z) c f qa qc ta tc = absurd f
-      go (lent i j v) c f qa qc ta tc = absurd f
-      go absent c f qa qc ta tc = absurd f
-      go (shown v) (static z) f qa qc ta tc = absurd f
-      go (shown v) (lent i j w) f qa qc ta tc = absurd f
-      go (shown v) absent f qa qc ta tc = absurd f
-      go (shown v) (shown w) f qa qc ta tc =
+      go (Static z) c f qa qc ta tc = absurd f
+      go (Lent i j v) c f qa qc ta tc = absurd f
+      go Absent c f qa qc ta tc = absurd f
+      go (Shown v) (Static z) f qa qc ta tc = absurd f
+      go (Shown v) (Lent i j w) f qa qc ta tc = absurd f
+      go (Shown v) Absent f qa qc ta tc = absurd f
+      go (Shown v) (Shown w) f qa qc ta tc =
           spared_give T s (drop_last (drop_last s)) _ _ _ _ (by_two op v.shape s.setting v.operands w.operands s.built)
           (safely_two op v.shape T s.setting v.operands w.operands s.built low g.fresh g.condition qa.there qc.there ta tc (qa.size ∙ (ap shape_bits f.0 ∙ sym qc.size)) f.1) but_two
 
   spared_copy : Spared T s (flat_step copy_last s)
   spared_copy = go (last s) last_known
     where
-      absent_last : Spared T s (push absent (drop_last s))
-      absent_last = spared_still T s (push absent (drop_last s)) refl (known_push (Spares T) absent (drop_last s) (λ w t. refl) but_last)
+      absent_last : Spared T s (push Absent (drop_last s))
+      absent_last = spared_still T s (push Absent (drop_last s)) refl (known_push (Spares T) Absent (drop_last s) (λ w t. refl) but_last)
 
       go : (k : Known) → IsKnown n k → Spared T s (give_copy k (drop_last s))
-      go (static z) h = absent_last
-      go (lent start size v) h = absent_last
-      go absent h = absent_last
-      go (shown v) h = spared_give T s (drop_last s) _ _ _ _ (copied s.setting v.operands s.built) (safely_copied T s.setting v.operands s.built low g.fresh g.condition h.there) but_last
+      go (Static z) h = absent_last
+      go (Lent start size v) h = absent_last
+      go Absent h = absent_last
+      go (Shown v) h = spared_give T s (drop_last s) _ _ _ _ (copied s.setting v.operands s.built) (safely_copied T s.setting v.operands s.built low g.fresh g.condition h.there) but_last
 
   spared_repeat : Spared T s (flat_step repeat_last s)
   spared_repeat = go (last (drop_last s)) (last s) last_known
     where
-      absent_last : Spared T s (push absent (drop_last (drop_last s)))
-      absent_last = spared_still T s (push absent (drop_last (drop_last s))) refl (known_push (Spares T) absent (drop_last (drop_last s)) (λ w t. refl) but_two)
+      absent_last : Spared T s (push Absent (drop_last (drop_last s)))
+      absent_last = spared_still T s (push Absent (drop_last (drop_last s))) refl (known_push (Spares T) Absent (drop_last (drop_last s)) (λ w t. refl) but_two)
 
       go : (k l : Known) → IsKnown n l → Spared T s (give_repeated k l (drop_last (drop_last s)))
-      go (shown v) l h = absent_last
-      go (lent a c v) l h = absent_last
-      go absent l h = absent_last
-      go (static m) (static z) h = absent_last
-      go (static m) (lent a c v) h = absent_last
-      go (static m) absent h = absent_last
-      go (static m) (shown v) h =
+      go (Shown v) l h = absent_last
+      go (Lent a c v) l h = absent_last
+      go Absent l h = absent_last
+      go (Static m) (Static z) h = absent_last
+      go (Static m) (Lent a c v) h = absent_last
+      go (Static m) Absent h = absent_last
+      go (Static m) (Shown v) h =
           let ps : List Operand = repeated (nat_abs m) v.operands in
           spared_give T s (drop_last (drop_last s)) _ _ _ _ (copied s.setting ps s.built) (safely_copied T s.setting ps s.built low g.fresh g.condition (safe_repeated n no_target (nat_abs m) v.operands h.there)) but_two
 
@@ -311,39 +316,39 @@ module _ (T : Targets) (s : Flattening) (low : Low T s.built.draft) (g : Good s)
   spared_receive r = go (shape_for r (last s)) (for_known r (last s) last_known) (for_spares r (last s) last_spares)
     where
       for_known : (r : Receiver) (k : Known) → IsKnown n k → IsKnown n (shape_for r k)
-      for_known variable k q = q
-      for_known (parameter need t) k q = typed_as_known n 0 t.shape k q
-      for_known (result t) k q = typed_as_known n 0 t.shape k q
-      for_known (output t) k q = typed_as_known n 0 t.shape k q
+      for_known Variable k q = q
+      for_known (Parameter need t) k q = typed_as_known n 0 t.shape k q
+      for_known (CallResult t) k q = typed_as_known n 0 t.shape k q
+      for_known (EntryOutput t) k q = typed_as_known n 0 t.shape k q
 
       for_spares : (r : Receiver) (k : Known) → Spares T k → Spares T (shape_for r k)
-      for_spares variable k q = q
-      for_spares (parameter need t) k q = as_spares T 0 t.shape k q
-      for_spares (result t) k q = as_spares T 0 t.shape k q
-      for_spares (output t) k q = as_spares T 0 t.shape k q
+      for_spares Variable k q = q
+      for_spares (Parameter need t) k q = as_spares T 0 t.shape k q
+      for_spares (CallResult t) k q = as_spares T 0 t.shape k q
+      for_spares (EntryOutput t) k q = as_spares T 0 t.shape k q
 
       go : (k : Known) → IsKnown n k → Spares T k → Spared T s (receive_value r k (drop_last s))
-      go (static z) h p = spared_still T s (push (static z) (drop_last s)) refl (known_push (Spares T) (static z) (drop_last s) p but_last)
-      go (lent a c v) h p = spared_still T s (push (lent a c v) (drop_last s)) refl (known_push (Spares T) (lent a c v) (drop_last s) p but_last)
-      go absent h p = spared_still T s (push absent (drop_last s)) refl (known_push (Spares T) absent (drop_last s) p but_last)
-      go (shown v) h p = spared_give T s (drop_last s) _ _ _ _ (taken_for r s.setting v s.built) (safely_for T s.setting v s.built low g.fresh g.condition h (safe_spared n T v.operands h.there p) r) but_last
+      go (Static z) h p = spared_still T s (push (Static z) (drop_last s)) refl (known_push (Spares T) (Static z) (drop_last s) p but_last)
+      go (Lent a c v) h p = spared_still T s (push (Lent a c v) (drop_last s)) refl (known_push (Spares T) (Lent a c v) (drop_last s) p but_last)
+      go Absent h p = spared_still T s (push Absent (drop_last s)) refl (known_push (Spares T) Absent (drop_last s) p but_last)
+      go (Shown v) h p = spared_give T s (drop_last s) _ _ _ _ (taken_for r s.setting v s.built) (safely_for T s.setting v s.built low g.fresh g.condition h (safe_spared n T v.operands h.there p) r) but_last
 
   -- ---- gates and measures
 
-  taken_row : (v : Shown) → IsShown n v → Spares T (shown v) → Safely T s.built.draft (taken s.setting v s.built)
+  taken_row : (v : TypedBits) → IsShown n v → Spares T (Shown v) → Safely T s.built.draft (taken s.setting v s.built)
   taken_row v h p = safely_taken T s.setting v s.built low g.fresh g.condition h (safe_spared n T v.operands h.there p)
 
-  takes_row : (v : Shown) → IsShown n v → MayTake v s → Takes s.setting s.built.draft (length v.operands) (taken s.setting v s.built)
+  takes_row : (v : TypedBits) → IsShown n v → MayTake v s → Takes s.setting s.built.draft (length v.operands) (taken s.setting v s.built)
   takes_row v h may = takes_taken s.setting v s.built g.fresh g.condition h (λ k. (may k).condition)
 
   spared_gate : (gate : Setting → WireId → Built → Built) → GatePasses gate → MayTurn s → Spared T s (on_wire gate (last s) (drop_last s))
   spared_gate gate ok may = go (last s) last_known last_spares may
     where
       go : (k : Known) → IsKnown n k → Spares T k → IsOf (λ v. (v.shape ≡ Bit) × MayTake v s) k → Spared T s (on_wire gate k (drop_last s))
-      go (static z) h p f = absurd f
-      go (lent start size v) h p f = absurd f
-      go absent h p f = absurd f
-      go (shown v) h p f =
+      go (Static z) h p f = absurd f
+      go (Lent start size v) h p f = absurd f
+      go Absent h p f = absurd f
+      go (Shown v) h p f =
           let row : Given (List Operand) = taken s.setting v s.built in
           let a : Safely T s.built.draft row = taken_row v h p in
           let r : Takes s.setting s.built.draft (length v.operands) row = takes_row v h f.1 in
@@ -361,10 +366,10 @@ module _ (T : Targets) (s : Flattening) (low : Low T s.built.draft) (g : Good s)
   spared_measure may = go (last s) last_known last_spares may.1
     where
       go : (k : Known) → IsKnown n k → Spares T k → IsOf (λ v. MayTake v s) k → Spared T s (measure_value k (drop_last s))
-      go (static z) h p f = absurd f
-      go (lent start size v) h p f = absurd f
-      go absent h p f = absurd f
-      go (shown v) h p f =
+      go (Static z) h p f = absurd f
+      go (Lent start size v) h p f = absurd f
+      go Absent h p f = absurd f
+      go (Shown v) h p f =
           let row : Given (List Operand) = taken s.setting v s.built in
           let a : Safely T s.built.draft row = taken_row v h p in
           let r : Takes s.setting s.built.draft (length v.operands) row = takes_row v h f in
@@ -383,10 +388,10 @@ module _ (T : Targets) (s : Flattening) (low : Low T s.built.draft) (g : Good s)
   spared_update x is op may = go (known_in s x) (name_known x) (name_spares x) may
     where
       go : (k : Known) → IsKnown n k → Spares T k → IsOf (UpdatesPart x is op s) k → Spared T s (drop_last (update_variable k is op (last s) s))
-      go (static z) h p f = absurd f
-      go (lent start size v) h p f = absurd f
-      go absent h p f = absurd f
-      go (shown v) h p f =
+      go (Static z) h p f = absurd f
+      go (Lent start size v) h p f = absurd f
+      go Absent h p f = absurd f
+      go (Shown v) h p f =
           let t : Shape = part_shape v.shape is in
           let part : List Operand = part_of v.shape is v.operands in
           let ws : List WireId = wires_in part in
@@ -404,18 +409,18 @@ module _ (T : Targets) (s : Flattening) (low : Low T s.built.draft) (g : Good s)
 
   -- ---- variables
 
-  part_spares : (is : List ℤ) (m : ℕ) (need : Need) (v : Shown) → AllSafe n T (part_of v.shape is v.operands) → Spares T (part_used m need is v)
+  part_spares : (is : List ℤ) (m : ℕ) (need : Need) (v : TypedBits) → AllSafe n T (part_of v.shape is v.operands) → Spares T (part_used m need is v)
   part_spares is m need v h = none_named n T (part_of v.shape is v.operands) h
 
   use_spares : (m : ℕ) (need : Need) (is : List ℤ) (k : Known) → IsKnown n k → Spares T k → MayUse is k → Spares T (use_part m need is k)
-  use_spares m need is (static z) h p f = absurd f
-  use_spares m need is absent h p f = absurd f
-  use_spares m need is (shown v) h p f = part_spares is m need v (safe_part n T v is (safe_spared n T v.operands h.there p))
-  use_spares m need is (lent start size v) h p f =
+  use_spares m need is (Static z) h p f = absurd f
+  use_spares m need is Absent h p f = absurd f
+  use_spares m need is (Shown v) h p f = part_spares is m need v (safe_part n T v is (safe_spared n T v.operands h.there p))
+  use_spares m need is (Lent start size v) h p f =
       let (a, b) = safe_lent n T start size v.operands h.there p in
       part_spares is m need v (safe_apart n T start size (part_start v.shape is) (shape_bits (part_shape v.shape is)) v.operands f.1 a b)
 
-  moved_spares : (is : List ℤ) (v : Shown) → IsShown n v → Spares T (shown v) → Spares T (moved is v)
+  moved_spares : (is : List ℤ) (v : TypedBits) → IsShown n v → Spares T (Shown v) → Spares T (moved is v)
   moved_spares [] v h p = λ w t. refl
   moved_spares (i ∷ is) v h p =
       let start : ℕ = part_start v.shape (i ∷ is) in
@@ -427,10 +432,10 @@ module _ (T : Targets) (s : Flattening) (low : Low T s.built.draft) (g : Good s)
   either_spares false k l a b = b
 
   after_spares : (need : Need) (is : List ℤ) (k : Known) → IsKnown n k → Spares T k → Spares T (after_use need is k)
-  after_spares need is (static z) h p = p
-  after_spares need is (shown v) h p = either_spares (is_consumed need && not v.classical) (moved is v) (shown v) (moved_spares is v h p) p
-  after_spares need is (lent start size v) h p = p
-  after_spares need is absent h p = p
+  after_spares need is (Static z) h p = p
+  after_spares need is (Shown v) h p = either_spares (is_consumed need && not v.classical) (moved is v) (Shown v) (moved_spares is v h p) p
+  after_spares need is (Lent start size v) h p = p
+  after_spares need is Absent h p = p
 
   spared_use : (need : Need) (x : NameId) (is : List ℤ) → MayUse is (known_in s x) → Spared T s (use_variable need x is s)
   spared_use need x is f =
@@ -440,7 +445,7 @@ module _ (T : Targets) (s : Flattening) (low : Low T s.built.draft) (g : Good s)
       (known_its (Spares T) x (after_use need is k) s (after_spares need is k (name_known x) (name_spares x)) all))
 
   -- a part that comes back
-  back_spares : (i : ℤ) (is : List ℤ) (start size : ℕ) (v : Shown) (k : Known) → IsShown n v → IsKnown n k → Spares T (lent start size v) → Spares T k → WasLent (i ∷ is) start size v k → NoneNamed T (with_part v.shape (i ∷ is) v.operands (operands_of k))
+  back_spares : (i : ℤ) (is : List ℤ) (start size : ℕ) (v : TypedBits) (k : Known) → IsShown n v → IsKnown n k → Spares T (Lent start size v) → Spares T k → WasLent (i ∷ is) start size v k → NoneNamed T (with_part v.shape (i ∷ is) v.operands (operands_of k))
   back_spares i is start size v k h j p q w =
       let (a, b) = safe_lent n T start size v.operands h.there p in
       let a' : AllSafe n T (take (part_start v.shape (i ∷ is)) v.operands) = subst (λ m. AllSafe n T (take m v.operands)) w.starts a in
@@ -450,10 +455,10 @@ module _ (T : Targets) (s : Flattening) (low : Low T s.built.draft) (g : Good s)
       (safe_append n T (operands_of k) (drop (part_start v.shape (i ∷ is) + shape_bits (part_shape v.shape (i ∷ is))) v.operands) (known_operands n T k j q) b'))
 
   assigned_spares : (i : ℤ) (is : List ℤ) (old new : Known) → IsKnown n old → IsKnown n new → Spares T old → Spares T new → IsLent (i ∷ is) old new → Spares T (assigned (i ∷ is) old new)
-  assigned_spares i is (static z) new h j p q f = absurd f
-  assigned_spares i is (shown v) new h j p q f = absurd f
-  assigned_spares i is (lent start size v) new h j p q f = back_spares i is start size v new h j p q f
-  assigned_spares i is absent new h j p q f = absurd f
+  assigned_spares i is (Static z) new h j p q f = absurd f
+  assigned_spares i is (Shown v) new h j p q f = absurd f
+  assigned_spares i is (Lent start size v) new h j p q f = back_spares i is start size v new h j p q f
+  assigned_spares i is Absent new h j p q f = absurd f
 
   spared_assign : (x : NameId) (is : List ℤ) → MayAssign x is s → Spared T s (flat_step (assign_to x is) s)
   spared_assign x [] f = spared_still T s (flat_step (assign_to x []) s) refl (known_bind (Spares T) x (last s) (drop_last s) last_spares but_last)
@@ -468,7 +473,7 @@ module _ (T : Targets) (s : Flattening) (low : Low T s.built.draft) (g : Good s)
   -- ---- steps
 
   pub spared_step : (st : Step) → FineStep st s → Spared T s (flat_step st s)
-  spared_step (give_static z) f = spared_still T s (push (static z) s) refl (known_push (Spares T) (static z) s (λ w t. refl) all)
+  spared_step (give_static z) f = spared_still T s (push (Static z) s) refl (known_push (Spares T) (Static z) s (λ w t. refl) all)
   spared_step (give_typed k z) f = spared_still T s (push (typed (wires_so_far s) k z) s) refl (known_push (Spares T) (typed (wires_so_far s) k z) s (typed_spares T (wires_so_far s) k z) all)
   spared_step (give_part need x is) f = spared_use need x is f.0
   spared_step (one_operand op) f = spared_one op
@@ -485,8 +490,8 @@ module _ (T : Targets) (s : Flattening) (low : Low T s.built.draft) (g : Good s)
   spared_step (assign_to x is) f = spared_assign x is f.0
   spared_step (assign_in_turn xs) f = spared_still T s (flat_step (assign_in_turn xs) s) refl (known_in_turn (Spares T) xs s all)
   spared_step (update_to x is op) f = spared_update x is op f.0
-  spared_step (end_name x) f = spared_still T s (bind x absent s) refl (known_bind (Spares T) x absent s (λ w t. refl) all)
-  spared_step (end_compared x) f = spared_still T s (drop_last (bind x absent s)) refl (known_drop (Spares T) (bind x absent s) (known_bind (Spares T) x absent s (λ w t. refl) all))
+  spared_step (end_name x) f = spared_still T s (bind x Absent s) refl (known_bind (Spares T) x Absent s (λ w t. refl) all)
+  spared_step (end_compared x) f = spared_still T s (drop_last (bind x Absent s)) refl (known_drop (Spares T) (bind x Absent s) (known_bind (Spares T) x Absent s (λ w t. refl) all))
   spared_step enter_block f = spared_still T s (flat_step enter_block s) refl (known_enter_block (Spares T) s all)
   spared_step leave_block f = spared_still T s (flat_step leave_block s) refl (known_leave_block (Spares T) s all)
   spared_step (enter_body xs) f = spared_still T s (flat_step (enter_body xs) s) refl (known_enter (Spares T) xs s all)

@@ -10,7 +10,7 @@ use Rattle.bit_arith.proofs.Steps.{label-append}
 use Rattle.flat_build.specs.State.{Flattening}
 use Rattle.flat_build.specs.Flat.{flat, count_statement, on_line, chosen_by, first_branch, second_branch}
 use Rattle.flat_build.specs.Good.{Good}
-use Rattle.flat_build.specs.Fine.{Fine, FineStep, Keeps, KeepsAll}
+use Rattle.flat_build.specs.Fine.{Fine, FineStep, SameEnd, Keeps, KeepsAll}
 use Rattle.flat_build.specs.Laws.{EffectsFollow}
 use Rattle.flat_build.proofs.Later.{later_then}
 use Rattle.flat_build.proofs.Goods.{Goes, chosen_safe, good_statement, goes_first, goes_second, goes_flat}
@@ -63,6 +63,10 @@ pub keeps_all : (c : Option Operand) (s u : Flattening) (new : List FlatStep) �
 keeps_all None s u new g k = tt
 keeps_all (Some p) s u new g k = keeps_leaves p s u new g k
 
+-- both branches begin with the same names and values, so they leave the same
+both_end : (s one two : Flattening) → SameEnd (first_branch s) one → SameEnd (second_branch one s) two → SameEnd one two
+both_end s one two a b = record { env = sym a.env ∙ b.env; values = sym a.values ∙ b.values; callers = sym a.callers ∙ b.callers }
+
 -- ---- effects
 
 pub leads_flat : (o : Outcome) (e : Effect) (s : Flattening) → Good s → Fine e s → Leads o s (flat e s) (follow o e)
@@ -89,7 +93,7 @@ leads_flat o (choice d e) s g f =
     leads_choice o s one two (chosen_by s) (follow o d) (follow o e) g q.good (chosen_safe s g) (choice_bit s g f.0) m n
     (keeps_leaves (chosen_by s) first one m.new m.grown f.3.kept)
     (keeps_all s.setting.condition first one m.new m.grown f.3.outer_first)
-    (keeps_all s.setting.condition second two n.new n.grown f.3.outer_second) f.3.same
+    (keeps_all s.setting.condition second two n.new n.grown f.3.outer_second) (both_end s one two f.3.stays_first f.3.stays_second)
 
 pub effects_follow : EffectsFollow
 effects_follow o e s g f = follows_by o e s (goes_flat e s g f).good (leads_flat o e s g f)

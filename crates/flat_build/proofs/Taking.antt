@@ -24,7 +24,10 @@ use Rattle.bit_arith.proofs.Doing.{Guards, does_grown, does_none, does_weak}
 use Rattle.bit_arith.proofs.Listed.{safe_more}
 use Rattle.bit_arith.specs.Does.{Copies}
 use Rattle.bit_arith.proofs.Making.{copy_does, bits_made, length-from}
-use Rattle.flat_build.specs.State.{Shown, Known, static, shown, lent, absent, Flattening, push, first, last, drop_last, build, are_wires, are_new, as_they_are, copied, taken, wires_in, only_wire}
+use Rattle.flat_build.specs.declared.known.TypedBits.{TypedBits}
+use Rattle.flat_build.specs.declared.known.Known.{Known}
+use Rattle.flat_build.specs.declared.known.Known.TheVariants.{Static, Shown, Lent, Absent}
+use Rattle.flat_build.specs.State.{Flattening, push, first, last, drop_last, build, are_wires, are_new, as_they_are, copied, taken, wires_in, only_wire}
 use Rattle.flat_build.specs.Names.{AllKnown, Spares}
 use Rattle.flat_build.specs.Good.{Good, IsShown, IsKnown}
 use Rattle.flat_build.specs.Fine.{MayChange, MayTake}
@@ -100,7 +103,7 @@ new_below d e (w ∷ ws) s = (s.1, new_below d e ws s.2)
 
 -- ---- a value that is taken
 
-pub record Taken (s : Flattening) (v : Shown) (g : Given (List Operand)) : Type 0 where
+pub record Taken (s : Flattening) (v : TypedBits) (g : Given (List Operand)) : Type 0 where
   pub does : Does s.setting s.built.draft g.built.draft no_target (λ x y. bits_at y g.answer ≡ bits_at x v.operands)
   pub wires : are_wires g.answer ≡ true
   pub size : length g.answer ≡ length v.operands
@@ -116,7 +119,7 @@ copy_size : (at : Setting) (ps : List Operand) (b : Built) → length (copy at p
 unfolding copy
 copy_size at ps b = length-from (length b.draft.wires) (length ps)
 
-pub copied_taken : (s : Flattening) (v : Shown) → Good s → AllSafe (length s.built.draft.wires) no_target v.operands → Taken s v (copied s.setting v.operands s.built)
+pub copied_taken : (s : Flattening) (v : TypedBits) → Good s → AllSafe (length s.built.draft.wires) no_target v.operands → Taken s v (copied s.setting v.operands s.built)
 copied_taken s v g safe =
     let new : Given (List WireId) = copy s.setting v.operands s.built in
     let r : Copies s.setting s.built.draft new (λ x. bits_at x v.operands) = copy_does s.setting v.operands s.built g.fresh g.condition safe in
@@ -133,7 +136,7 @@ copied_taken s v g safe =
           (known_drop (IsKnown (length s.built.draft.wires)) s g.known));
     }
 
-pub takes : (s : Flattening) (v : Shown) → Good s → IsShown (length s.built.draft.wires) v → MayTake v s → Taken s v (taken s.setting v s.built)
+pub takes : (s : Flattening) (v : TypedBits) → Good s → IsShown (length s.built.draft.wires) v → MayTake v s → Taken s v (taken s.setting v s.built)
 takes s v g k may = pick (v.own || are_new s.built.draft v.began v.operands) refl
   where
     pick : (b : Bool) → v.own || are_new s.built.draft v.began v.operands ≡ b → Taken s v (cond b (as_they_are v.operands s.built) (copied s.setting v.operands s.built))
@@ -156,24 +159,24 @@ takes s v g k may = pick (v.own || are_new s.built.draft v.began v.operands) ref
 -- ---- the last value is taken
 
 -- the state with the taken value as its last
-abbrev pub took : Shown → Given (List Operand) → Flattening → Shown
+abbrev pub took : TypedBits → Given (List Operand) → Flattening → TypedBits
 took v g s = record { classical = false; shape = v.shape; operands = g.answer; own = true; began = v.began }
 
 -- a known value with other operands of the same bits shows the same
-pub shows_again : (x y : Row) (v z : Shown) (w : Value) → z.shape ≡ v.shape → bits_at y z.operands ≡ bits_at x v.operands → Shows x (shown v) w → Shows y (shown z) w
+pub shows_again : (x y : Row) (v z : TypedBits) (w : Value) → z.shape ≡ v.shape → bits_at y z.operands ≡ bits_at x v.operands → Shows x (Shown v) w → Shows y (Shown z) w
 shows_again x y v z w e b h = (subst (λ s. HasShape s w) (sym e) h.0, b ∙ h.1)
 
 -- a state whose last value is a variable, and what it is without it
-pub last_shown : (ks : List Known) (v : Shown) → first ks ≡ shown v → ks ≡ shown v ∷ drop 1 ks
+pub last_shown : (ks : List Known) (v : TypedBits) → first ks ≡ Shown v → ks ≡ Shown v ∷ drop 1 ks
 last_shown [] v e = absurd (no_shown v e)
   where
     is_absent : Known → Bool
-    is_absent absent = true
-    is_absent (static z) = false
-    is_absent (shown v) = false
-    is_absent (lent a b v) = false
+    is_absent Absent = true
+    is_absent (Static z) = false
+    is_absent (Shown v) = false
+    is_absent (Lent a b v) = false
 
-    no_shown : (v : Shown) → absent ≡ shown v → ⊥
+    no_shown : (v : TypedBits) → Absent ≡ Shown v → ⊥
     no_shown v e = clash (sym (ap is_absent e))
 last_shown (k ∷ ks) v e = ap (λ z. z ∷ ks) e
 
@@ -184,14 +187,14 @@ last_shows x (k ∷ ks) [] h = absurd h
 last_shows x (k ∷ ks) (w ∷ ws) h = h.0
 
 -- what the last value shows
-pub shown_last : (s : Flattening) (v : Shown) (u : WireTerm) (t : Term) → last s ≡ shown v → Related s u t → Shows u.row (shown v) (last_value t)
+pub shown_last : (s : Flattening) (v : TypedBits) (u : WireTerm) (t : Term) → last s ≡ Shown v → Related s u t → Shows u.row (Shown v) (last_value t)
 shown_last s v u t e r = subst (λ k. Shows u.row k (last_value t)) e (last_shows u.row s.values t.values r.values)
 
 -- the last value gives way to a taken one
-pub leads_taken : (o : Outcome) (s : Flattening) (v : Shown) (g : Given (List Operand)) (z : Shown) → Good s → last s ≡ shown v → Taken s v g → z.shape ≡ v.shape → z.operands ≡ g.answer → Leads o s (push (shown z) (build g.built (drop_last s))) (λ t. on_last (λ x. x) t ∷ [])
+pub leads_taken : (o : Outcome) (s : Flattening) (v : TypedBits) (g : Given (List Operand)) (z : TypedBits) → Good s → last s ≡ Shown v → Taken s v g → z.shape ≡ v.shape → z.operands ≡ g.answer → Leads o s (push (Shown z) (build g.built (drop_last s))) (λ t. on_last (λ x. x) t ∷ [])
 leads_taken o s v g z gs e k same its =
     let n : ℕ = length s.built.draft.wires in
-    let f : Flattening = push (shown z) (build g.built (drop_last s)) in
+    let f : Flattening = push (Shown z) (build g.built (drop_last s)) in
     leads_row o s f no_target (λ x y. bits_at y g.answer ≡ bits_at x v.operands) (on_last (λ x. x)) k.does gs.condition refl (λ t. (refl, refl, refl))
     (λ u t y r ag q.
     let a : AllShow y (drop_last s) (but_last t) = all_show_new n y u.row (drop_last s) (but_last t) ag (known_drop (IsKnown n) s gs.known) (all_show_drop u.row s t (related_shows s u t r)) in

@@ -19,7 +19,10 @@ use Rattle.bit_arith.specs.Does.{Below}
 use Rattle.bit_arith.proofs.Doing.{Guards, does_fresh, does_grown}
 use Rattle.bit_arith.proofs.Listed.{safe_more, off_first}
 use Rattle.bit_arith.proofs.Phases.{turn_does}
-use Rattle.flat_build.specs.State.{Shown, Known, static, shown, lent, absent, Flattening, push, first, last, drop_last, build, taken, wires_in, only_wire}
+use Rattle.flat_build.specs.declared.known.TypedBits.{TypedBits}
+use Rattle.flat_build.specs.declared.known.Known.{Known}
+use Rattle.flat_build.specs.declared.known.Known.TheVariants.{Static, Shown, Lent, Absent}
+use Rattle.flat_build.specs.State.{Flattening, push, first, last, drop_last, build, taken, wires_in, only_wire}
 use Rattle.flat_build.specs.Flat.{flat, on_wire, on_last_wire, turn_both}
 use Rattle.flat_build.specs.Names.{AllKnown, Spares}
 use Rattle.flat_build.specs.Good.{Good, IsShown, IsKnown}
@@ -34,27 +37,27 @@ use Rattle.flat_build.proofs.Gates.{leads_same, Wired, with_wired, leads_flip, l
 use Rattle.flat_build.proofs.Mixing.{leads_hadamard}
 
 -- where the last value is known, the term has one
-pub values_whole : (x : Row) (ks : List Known) (ws : List Value) (v : Shown) → first ks ≡ shown v → ListBoth (Shows x) ks ws → ws ≡ first_value ws ∷ drop 1 ws
+pub values_whole : (x : Row) (ks : List Known) (ws : List Value) (v : TypedBits) → first ks ≡ Shown v → ListBoth (Shows x) ks ws → ws ≡ first_value ws ∷ drop 1 ws
 values_whole x ks ws v e h = go ws (subst (λ l. ListBoth (Shows x) l ws) (last_shown ks v e) h)
   where
-    go : (ws : List Value) → ListBoth (Shows x) (shown v ∷ drop 1 ks) ws → ws ≡ first_value ws ∷ drop 1 ws
+    go : (ws : List Value) → ListBoth (Shows x) (Shown v ∷ drop 1 ks) ws → ws ≡ first_value ws ∷ drop 1 ws
     go [] h = absurd h
     go (w ∷ ws) h = refl
 
-pub same_last : (s : Flattening) (v : Shown) (u : WireTerm) (t : Term) → last s ≡ shown v → Related s u t → on_last (λ x. x) t ≡ t
+pub same_last : (s : Flattening) (v : TypedBits) (u : WireTerm) (t : Term) → last s ≡ Shown v → Related s u t → on_last (λ x. x) t ≡ t
 same_last s v u t e r = ap (λ vs. record t { values = vs }) (sym (values_whole u.row s.values t.values v e r.values))
 
 -- a taken value gives way to what follows from it
-pub leads_after_taken : (o : Outcome) (s e : Flattening) (v : Shown) (g : Given (List Operand)) (z : Shown) (src : Term → List Term) → Good s → last s ≡ shown v → Taken s v g → z.shape ≡ v.shape → z.operands ≡ g.answer → Leads o (push (shown z) (build g.built (drop_last s))) e src → Leads o s e src
+pub leads_after_taken : (o : Outcome) (s e : Flattening) (v : TypedBits) (g : Given (List Operand)) (z : TypedBits) (src : Term → List Term) → Good s → last s ≡ Shown v → Taken s v g → z.shape ≡ v.shape → z.operands ≡ g.answer → Leads o (push (Shown z) (build g.built (drop_last s))) e src → Leads o s e src
 leads_after_taken o s e v g z src gs is k same its m =
     leads_same o s e (λ t. flat_map src (on_last (λ x. x) t ∷ [])) src
     (λ u t r. append-nil (src (on_last (λ x. x) t)) ∙ ap src (same_last s v u t is r))
-    (leads_then o s (push (shown z) (build g.built (drop_last s))) e (λ t. on_last (λ x. x) t ∷ []) src (leads_taken o s v g z gs is k same its) m)
+    (leads_then o s (push (Shown z) (build g.built (drop_last s))) e (λ t. on_last (λ x. x) t ∷ []) src (leads_taken o s v g z gs is k same its) m)
 
 in_one : (w x : WireId) → same_wire w x ≡ true → among (w ∷ []) x ≡ true
 in_one w x h = ap (λ b. b || false) (eq-eqb x.number w.number (sym (eqb-true w.number x.number h)))
 
-pub wired_taken : (s : Flattening) (v : Shown) (g : Given (List Operand)) (z : Shown) → Good s → IsShown (length s.built.draft.wires) v → Taken s v g → z.shape ≡ v.shape → z.operands ≡ g.answer → v.shape ≡ Bit → Wired z (only_wire g.answer) (build g.built (drop_last s))
+pub wired_taken : (s : Flattening) (v : TypedBits) (g : Given (List Operand)) (z : TypedBits) → Good s → IsShown (length s.built.draft.wires) v → Taken s v g → z.shape ≡ v.shape → z.operands ≡ g.answer → v.shape ≡ Bit → Wired z (only_wire g.answer) (build g.built (drop_last s))
 wired_taken s v g z gs q k same its bit =
     let n : ℕ = length s.built.draft.wires in
     let m : ℕ = length g.built.draft.wires in
@@ -77,17 +80,17 @@ wired_taken s v g z gs q k same its bit =
       spared = known_same (Spares (same_wire w)) (drop_last s) s0 refl refl refl (known_map (Spares (among (w ∷ []))) (Spares (same_wire w)) (λ y h x t. h x (in_one w x t)) (drop_last s) a);
     }
 
-pub leads_gate : (o : Outcome) (s : Flattening) (gate : Setting → WireId → Built → Built) (src : Term → List Term) → Good s → MayTurn s → ((z : Shown) (w : WireId) (s0 : Flattening) → Wired z w s0 → Leads o (with_wired z s0) (with_wired z (build (gate s0.setting w s0.built) s0)) src) → Leads o s (on_last_wire gate s) src
+pub leads_gate : (o : Outcome) (s : Flattening) (gate : Setting → WireId → Built → Built) (src : Term → List Term) → Good s → MayTurn s → ((z : TypedBits) (w : WireId) (s0 : Flattening) → Wired z w s0 → Leads o (with_wired z s0) (with_wired z (build (gate s0.setting w s0.built) s0)) src) → Leads o s (on_last_wire gate s) src
 leads_gate o s gate src gs may h = go (last s) refl may (known_last (IsKnown (length s.built.draft.wires)) s tt gs.known)
   where
     go : (k : Known) → last s ≡ k → IsOf (λ v. (v.shape ≡ Bit) × MayTake v s) k → IsKnown (length s.built.draft.wires) k → Leads o s (on_wire gate k (drop_last s)) src
-    go (static y) e m q = absurd m
-    go (lent a c v) e m q = absurd m
-    go absent e m q = absurd m
-    go (shown v) e m q =
+    go (Static y) e m q = absurd m
+    go (Lent a c v) e m q = absurd m
+    go Absent e m q = absurd m
+    go (Shown v) e m q =
         let g : Given (List Operand) = taken s.setting v s.built in
         let k : Taken s v g = takes s v gs q m.1 in
-        let z : Shown = record { classical = false; shape = v.shape; operands = g.answer; own = true; began = v.began } in
+        let z : TypedBits = record { classical = false; shape = v.shape; operands = g.answer; own = true; began = v.began } in
         leads_after_taken o s (with_wired z (build (gate s.setting (only_wire g.answer) g.built) (drop_last s))) v g z src gs e k refl refl
         (h z (only_wire g.answer) (build g.built (drop_last s)) (wired_taken s v g z gs q k refl refl m.0))
 

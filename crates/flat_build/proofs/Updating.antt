@@ -27,7 +27,10 @@ use Rattle.bit_arith.proofs.Doing.{does_fresh, does_grown}
 use Rattle.bit_arith.proofs.Listed.{below_more}
 use Rattle.bit_arith.specs.Values.{flip_bits}
 use Rattle.bit_arith.proofs.Making.{bits_made, flip_each_does}
-use Rattle.flat_build.specs.State.{Shown, Known, static, shown, lent, absent, Flattening, last, drop_last, build, operands_of, typed_as, typed_like, part_shape, part_start, part_of, are_wires, wires_in}
+use Rattle.flat_build.specs.declared.known.TypedBits.{TypedBits}
+use Rattle.flat_build.specs.declared.known.Known.{Known}
+use Rattle.flat_build.specs.declared.known.Known.TheVariants.{Static, Shown, Lent, Absent}
+use Rattle.flat_build.specs.State.{Flattening, last, drop_last, build, operands_of, typed_as, typed_like, part_shape, part_start, part_of, are_wires, wires_in}
 use Rattle.flat_build.specs.Flat.{flat, without_name, known_in, part_used, update_by, update_variable, zero_variable, end_all}
 use Rattle.flat_build.specs.Names.{AllKnown, Spares}
 use Rattle.flat_build.specs.Good.{Good, IsKnown}
@@ -57,7 +60,7 @@ distinct_different : (ws : List WireId) → Distinct ws → Different ws
 distinct_different [] h = tt
 distinct_different (w ∷ ws) h = (h.0, distinct_different ws h.1)
 
-absent_spared : (T : Targets) → Spares T absent
+absent_spared : (T : Targets) → Spares T Absent
 absent_spared T w t = refl
 
 -- ---- a variable in its block
@@ -86,35 +89,35 @@ found_its (b ∷ bs) x a d h = pick (is_in_block b x) refl h (found_its bs x a d
     pick true e k ih = ap (λ c. cond c (in_block d (block_with b x a) x) (found d bs x)) (block_in b x a e) ∙ block_found b x a d e
     pick false e k ih = ap (λ c. cond c (in_block d b x) (found d (in_its_block bs x a) x)) e ∙ ih k
 
-not_absent : (v : Shown) → shown v ≡ absent → ⊥
+not_absent : (v : TypedBits) → Shown v ≡ Absent → ⊥
 not_absent v e = clash (sym (ap is_shown e))
   where
     is_shown : Known → Bool
-    is_shown (shown v) = true
-    is_shown (static z) = true
-    is_shown (lent a b v) = true
-    is_shown absent = false
+    is_shown (Shown v) = true
+    is_shown (Static z) = true
+    is_shown (Lent a b v) = true
+    is_shown Absent = false
 
-reach_shown : (s : Flattening) (x : NameId) (v : Shown) → known_in s x ≡ shown v → is_in_reach s.env x ≡ true
-reach_shown s x v e = reach_found s.env x absent (λ f. not_absent v (sym e ∙ f))
+reach_shown : (s : Flattening) (x : NameId) (v : TypedBits) → known_in s x ≡ Shown v → is_in_reach s.env x ≡ true
+reach_shown s x v e = reach_found s.env x Absent (λ f. not_absent v (sym e ∙ f))
 
 -- ---- updates
 
 -- the bits of the part after the update
 update_bits : (x : Row) (op : UpdateOp) (sh : Shape) (k : Known) (xs zs : List Bool) (p y : Value) → IsOf (λ w. w.shape ≡ sh) k → IsUpdated op sh → HasBits sh p xs → Shows x k y → UpdateBits op xs (bits_at x (operands_of k)) zs → HasBits sh (update_typed op p y) zs
-update_bits x op sh (static z) xs zs p y f i h g q = absurd f
-update_bits x op sh (lent a c v) xs zs p y f i h g q = absurd f
-update_bits x op sh absent xs zs p y f i h g q = absurd f
-update_bits x op sh (shown b) xs zs p y f i h g q = updates_give x op sh b xs zs p y f i h g q
+update_bits x op sh (Static z) xs zs p y f i h g q = absurd f
+update_bits x op sh (Lent a c v) xs zs p y f i h g q = absurd f
+update_bits x op sh Absent xs zs p y f i h g q = absurd f
+update_bits x op sh (Shown b) xs zs p y f i h g q = updates_give x op sh b xs zs p y f i h g q
 
 pub leads_update_to : (o : Outcome) (x : NameId) (is : List ℤ) (op : UpdateOp) (s : Flattening) → Good s → MayUpdate x is op s → FitsIndex is (known_in s x) → Leads o s (flat (step (update_to x is op)) s) (follow o (step (update_to x is op)))
 leads_update_to o x is op s g may fit = go (known_in s x) refl may fit (known_name (IsKnown (length s.built.draft.wires)) s x tt g.known)
   where
     go : (k : Known) → known_in s x ≡ k → IsOf (UpdatesPart x is op s) k → FitsIndex is k → IsKnown (length s.built.draft.wires) k → Leads o s (drop_last (update_variable k is op (last s) s)) (λ t. update_part x is op t ∷ [])
-    go (static z) e p f q = absurd p
-    go (lent a c v) e p f q = absurd p
-    go absent e p f q = absurd p
-    go (shown v) e p f q =
+    go (Static z) e p f q = absurd p
+    go (Lent a c v) e p f q = absurd p
+    go Absent e p f q = absurd p
+    go (Shown v) e p f q =
         let n : ℕ = length s.built.draft.wires in
         let sh : Shape = part_shape v.shape is in
         let ps : List Operand = part_of v.shape is v.operands in
@@ -130,15 +133,15 @@ leads_update_to o x is op s g may fit = go (known_in s x) refl may fit (known_na
         let size : length ws ≡ length ops = length-in ps are ∙ (length-part v is p.there ∙ sym (size_of n sh (typed_as 0 sh (last s)) (typed_as_known n 0 sh (last s) last_known) p.operand)) in
         let r : Does s.setting s.built.draft b.draft T (λ y z. UpdateBits op (values_at y ws) (bits_at y ops) (values_at z ws)) =
         update_does op s.setting ws ops s.built g.fresh size (targets_below s.built.draft ws m.targets) (distinct_different ws m.distinct) m.condition (typed_as_safe n 0 T sh (last s) last_known last_spared) in
-        let out : Known = lent (part_start v.shape is) (shape_bits sh) v in
+        let out : Known = Lent (part_start v.shape is) (shape_bits sh) v in
         let reach : is_in_reach s.env x ≡ true = reach_shown s x v e in
         let there : IsThere v.shape is = is_there n v is q p.there f in
         let known : AllKnown (IsKnown n) (without_part x is v s) = known_its (IsKnown n) x out s q g.known in
-        let out_spared : Spares T out = subst (Spares T) (found_its s.env x out absent reach) (known_name (Spares T) (without_part x is v s) x (absent_spared T) m.spared) in
+        let out_spared : Spares T out = subst (Spares T) (found_its s.env x out Absent reach) (known_name (Spares T) (without_part x is v s) x (absent_spared T) m.spared) in
         leads_row o s (drop_last (build b s)) T (λ y z. UpdateBits op (values_at y ws) (bits_at y ops) (values_at z ws)) (update_part x is op) r m.condition refl (λ t. (refl, refl, refl))
         (λ u t y re ag t'.
         let old : Value = value_of t.env x in
-        let was : Shows u.row (shown v) old = subst (λ k. Shows u.row k old) e (found_both (Shows u.row) absent gone tt s.env t.env x re.env) in
+        let was : Shows u.row (Shown v) old = subst (λ k. Shows u.row k old) e (found_both (Shows u.row) Absent gone tt s.env t.env x re.env) in
         let lends : Shows u.row out old = shows_lent u.row (part_start v.shape is) (shape_bits sh) v old was in
         let a : AllShow y (without_part x is v s) t = all_show_after n T y u.row (without_part x is v s) t ag known m.spared (all_show_its u.row x out s t lends (related_shows s u t re)) in
         let lends' : Shows y out old = shows_after n T y u.row ag out old (q, out_spared) lends in
@@ -147,9 +150,9 @@ leads_update_to o x is op s g may fit = go (known_in s x) refl may fit (known_na
         let right : Shows u.row (typed_as 0 sh (last s)) (value_like (part old is) (last_value t)) = shows_as_like u.row 0 sh (part old is) (last s) (last_value t) its.0 (last_shows u.row s.values t.values re.values) in
         let new : HasBits sh (updated op (part old is) (last_value t)) (values_at y ws) =
         update_bits u.row op sh (typed_as 0 sh (last s)) (values_at u.row ws) (values_at y ws) (part old is) (value_like (part old is) (last_value t)) p.operand p.allowed (its.0, sym (bits u.row) ∙ its.1) right t' in
-        let back : Shows y (shown v) (with_part old is (updated op (part old is) (last_value t))) = shows_back y is v old (updated op (part old is) (last_value t)) q.size there (new.0, bits y ∙ new.1) lends' in
+        let back : Shows y (Shown v) (with_part old is (updated op (part old is) (last_value t))) = shows_back y is v old (updated op (part old is) (last_value t)) q.size there (new.0, bits y ∙ new.1) lends' in
         record {
-          env = bound_right (Shows y) out absent (with_part old is (updated op (part old is) (last_value t))) s.env t.env x a.env reach (subst (λ k. Shows y k (with_part old is (updated op (part old is) (last_value t)))) (sym e) back);
+          env = bound_right (Shows y) out Absent (with_part old is (updated op (part old is) (last_value t))) s.env t.env x a.env reach (subst (λ k. Shows y k (with_part old is (updated op (part old is) (last_value t)))) (sym e) back);
           values = both_drop (Shows y) s.values t.values a.values;
           callers = a.callers;
         })
@@ -189,28 +192,28 @@ leads_ends o s e ending ws src f below m =
 pub leads_claim : (o : Outcome) (x : NameId) (s : Flattening) → Good s → MayClaim x s → Leads o s (without_name x (zero_variable (known_in s x) (last s) s)) (λ t. t ∷ [])
 leads_claim o x s g may = go (known_in s x) refl may (known_name (IsKnown (length s.built.draft.wires)) s x tt g.known)
   where
-    go : (k : Known) → known_in s x ≡ k → IsOf (λ v. IsOf (λ w. w.shape ≡ v.shape) (typed_like 0 (shown v) (last s)) × (are_wires v.operands ≡ true) × MayChange (wires_in v.operands) s (record s { env = in_its_block s.env x absent })) k → IsKnown (length s.built.draft.wires) k → Leads o s (without_name x (zero_variable k (last s) s)) (λ t. t ∷ [])
-    go (static z) e p q = absurd p
-    go (lent a c v) e p q = absurd p
-    go absent e p q = absurd p
-    go (shown v) e p q =
+    go : (k : Known) → known_in s x ≡ k → IsOf (λ v. IsOf (λ w. w.shape ≡ v.shape) (typed_like 0 (Shown v) (last s)) × (are_wires v.operands ≡ true) × MayChange (wires_in v.operands) s (record s { env = in_its_block s.env x Absent })) k → IsKnown (length s.built.draft.wires) k → Leads o s (without_name x (zero_variable k (last s) s)) (λ t. t ∷ [])
+    go (Static z) e p q = absurd p
+    go (Lent a c v) e p q = absurd p
+    go Absent e p q = absurd p
+    go (Shown v) e p q =
         let n : ℕ = length s.built.draft.wires in
         let ws : List WireId = wires_in v.operands in
-        let like : Known = typed_like 0 (shown v) (last s) in
+        let like : Known = typed_like 0 (Shown v) (last s) in
         let ops : List Operand = operands_of like in
         let b : Built = flip_each s.setting ws ops s.built in
         let T : Targets = among ws in
         let m : MayChange ws s (without_name x s) = p.2 in
         let last_known : IsKnown n (last s) = known_last (IsKnown n) s tt g.known in
         let last_spared : Spares T (last s) = known_last (Spares T) (without_name x s) (absent_spared T) m.spared in
-        let size : length ws ≡ length ops = length-in v.operands p.1 ∙ (q.size ∙ sym (size_of n v.shape like (typed_like_known n 0 (shown v) (last s) last_known) p.0)) in
+        let size : length ws ≡ length ops = length-in v.operands p.1 ∙ (q.size ∙ sym (size_of n v.shape like (typed_like_known n 0 (Shown v) (last s) last_known) p.0)) in
         let below : Below n ws = targets_below s.built.draft ws m.targets in
         let r : Does s.setting s.built.draft b.draft T (λ y z. values_at z ws ≡ flip_bits (values_at y ws) (bits_at y ops)) =
-        flip_each_does s.setting ws ops s.built g.fresh size below (distinct_different ws m.distinct) m.condition (typed_like_safe n 0 T (shown v) (last s) last_known last_spared) in
-        let known : AllKnown (IsKnown n) (without_name x s) = known_its (IsKnown n) x absent s tt g.known in
+        flip_each_does s.setting ws ops s.built g.fresh size below (distinct_different ws m.distinct) m.condition (typed_like_safe n 0 T (Shown v) (last s) last_known last_spared) in
+        let known : AllKnown (IsKnown n) (without_name x s) = known_its (IsKnown n) x Absent s tt g.known in
         let e1 : Flattening = without_name x (build b s) in
         leads_ends o s e1 Zeroed ws (λ t. t ∷ []) (does_fresh r g.fresh) (below_more n (length b.draft.wires) ws (does_grown r) below)
         (leads_row o s e1 T (λ y z. values_at z ws ≡ flip_bits (values_at y ws) (bits_at y ops)) (λ t. t) r m.condition refl (λ t. (refl, refl, refl))
         (λ u t y re ag t'.
-        let a : AllShow y (without_name x s) t = all_show_after n T y u.row (without_name x s) t ag known m.spared (all_show_its u.row x absent s t tt (related_shows s u t re)) in
+        let a : AllShow y (without_name x s) t = all_show_after n T y u.row (without_name x s) t ag known m.spared (all_show_its u.row x Absent s t tt (related_shows s u t re)) in
         record { env = a.env; values = a.values; callers = a.callers }))

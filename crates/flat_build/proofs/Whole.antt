@@ -28,7 +28,9 @@ use Rattle.bit_arith.specs.Values.{bits_at, values_at}
 use Rattle.bit_arith.specs.Does.{Below}
 use Rattle.bit_arith.proofs.Steps.{clash}
 use Rattle.bit_arith.proofs.Making.{bits_made}
-use Rattle.flat_build.specs.State.{Known, static, shown, lent, absent, Flattening, are_wires, wires_in, operands_of}
+use Rattle.flat_build.specs.declared.known.Known.{Known}
+use Rattle.flat_build.specs.declared.known.Known.TheVariants.{Static, Shown, Lent, Absent}
+use Rattle.flat_build.specs.State.{Flattening, are_wires, wires_in, operands_of}
 use Rattle.flat_build.specs.Flat.{flat, begin, inputs, input_wires, flattened, wire_lists, end_all, joined as all_joined}
 use Rattle.flat_build.specs.Names.{AllOf, Spares}
 use Rattle.flat_build.specs.Good.{Good, IsKnown}
@@ -144,10 +146,10 @@ inputs_show input row r (s ∷ ss) b le =
 -- ---- the values at the end
 
 known_bits : (row : Row) (k : Known) (w : Value) → IsOf (λ v. are_wires v.operands ≡ true) k → Shows row k w → values_of (wires_in (operands_of k)) row ≡ value_bits w
-known_bits row (static z) w a h = absurd a
-known_bits row (lent i j v) w a h = absurd a
-known_bits row absent w a h = absurd a
-known_bits row (shown v) w a h = sym (bits_made row (wires_in v.operands)) ∙ (ap (bits_at row) (sym (wires_are v.operands a)) ∙ h.1)
+known_bits row (Static z) w a h = absurd a
+known_bits row (Lent i j v) w a h = absurd a
+known_bits row Absent w a h = absurd a
+known_bits row (Shown v) w a h = sym (bits_made row (wires_in v.operands)) ∙ (ap (bits_at row) (sym (wires_are v.operands a)) ∙ h.1)
 
 all_bits : (row : Row) (ks : List Known) (ws : List Value) → AllOf (λ k. IsOf (λ v. are_wires v.operands ≡ true) k) ks → ListBoth (Shows row) ks ws → values_of (joined (wire_lists ks)) row ≡ flat_map value_bits ws
 all_bits row [] [] a h = refl
@@ -171,10 +173,10 @@ seen s (u ∷ us) (t ∷ ts) a h =
 
 -- all wires that are there
 known_below : (n : ℕ) (k : Known) → IsKnown n k → Below n (wires_in (operands_of k))
-known_below n (static z) h = tt
-known_below n (shown v) h = below_in n no_target v.operands h.there
-known_below n (lent i j v) h = tt
-known_below n absent h = tt
+known_below n (Static z) h = tt
+known_below n (Shown v) h = below_in n no_target v.operands h.there
+known_below n (Lent i j v) h = tt
+known_below n Absent h = tt
 
 below_both : (n : ℕ) (xs ys : List WireId) → Below n xs → Below n ys → Below n (xs ++ ys)
 below_both n [] ys p q = q

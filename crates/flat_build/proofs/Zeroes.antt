@@ -23,7 +23,10 @@ use Rattle.bit_arith.proofs.Steps.{Agree, label-append, bit_same, clash}
 use Rattle.bit_arith.proofs.Doing.{does_grown, clean_above, does_forced, grows_agree, grows_clean}
 use Rattle.bit_arith.proofs.Making.{negated_bit}
 use Rattle.bit_arith.proofs.Phases.{do_steps-append, flips_one}
-use Rattle.flat_build.specs.State.{Shown, Known, static, shown, lent, absent, Flattening, last, drop_last, are_wires, typed_like, wires_in}
+use Rattle.flat_build.specs.declared.known.TypedBits.{TypedBits}
+use Rattle.flat_build.specs.declared.known.Known.{Known}
+use Rattle.flat_build.specs.declared.known.Known.TheVariants.{Static, Shown, Lent, Absent}
+use Rattle.flat_build.specs.State.{Flattening, last, drop_last, are_wires, typed_like, wires_in}
 use Rattle.flat_build.specs.Flat.{flat, flat_step, known_in, count_statement, on_line, chosen_by, first_branch, second_branch, zero_variable, without_name}
 use Rattle.flat_build.specs.Names.{AllOf}
 use Rattle.flat_build.specs.Good.{Good, IsKnown}
@@ -87,16 +90,16 @@ wire_zero y (x ∷ ws) w e h = pick (same_wire w x) refl h (wire_zero y ws w (ap
     pick true p k rest = ap y (eqb-true w.number x.number p) ∙ ap (λ bs. get_or bs 0 false) e
     pick false p k rest = rest k
 
-zero_shown : (o : Outcome) (x : NameId) (s : Flattening) (g : Good s) (v : Shown) (e : known_in s x ≡ shown v) (like : IsOf (λ w. w.shape ≡ v.shape) (typed_like 0 (shown v) (last s))) (are : are_wires v.operands ≡ true) (may : MayChange (wires_in v.operands) s (without_name x s)) → Done s
-    → (new : List Step) → (without_name x (zero_variable (shown v) (last s) s)).built.draft.steps ≡ s.built.draft.steps ++ new → (u : WireTerm) (t : Term) → Related s u t → forced s.setting u.row ≡ true → equals_last x t ≡ true → Zeros s.built.draft u → AllOf (Zeros (without_name x (zero_variable (shown v) (last s) s)).built.draft) (do_steps o new (u ∷ []))
+zero_shown : (o : Outcome) (x : NameId) (s : Flattening) (g : Good s) (v : TypedBits) (e : known_in s x ≡ Shown v) (like : IsOf (λ w. w.shape ≡ v.shape) (typed_like 0 (Shown v) (last s))) (are : are_wires v.operands ≡ true) (may : MayChange (wires_in v.operands) s (without_name x s)) → Done s
+    → (new : List Step) → (without_name x (zero_variable (Shown v) (last s) s)).built.draft.steps ≡ s.built.draft.steps ++ new → (u : WireTerm) (t : Term) → Related s u t → forced s.setting u.row ≡ true → equals_last x t ≡ true → Zeros s.built.draft u → AllOf (Zeros (without_name x (zero_variable (Shown v) (last s) s)).built.draft) (do_steps o new (u ∷ []))
 zero_shown o x s g v e like are may d new grown u t r on truth z =
     let ws : List WireId = wires_in v.operands in
     let does = claim_does x s g v e like are may in
     let y : Row = after does.new u.row in
-    let its : new ≡ does.new = same_new s.built.draft.steps new does.new (without_name x (zero_variable (shown v) (last s) s)).built.draft.steps grown (end_all_steps Zeroed ws (claim_flips x s g v e like are may) ∙ does.grows.steps) in
+    let its : new ≡ does.new = same_new s.built.draft.steps new does.new (without_name x (zero_variable (Shown v) (last s) s)).built.draft.steps grown (end_all_steps Zeroed ws (claim_flips x s g v e like are may) ∙ does.grows.steps) in
     let zeros : values_at y ws ≡ replicate (length ws) false = claim_zeros x s v u.row y t e are like (related_shows s u t r) truth (does.gives u.row r.clean on) in
     let ag : Agree (length s.built.draft.wires) (among ws) y u.row = grows_agree does.grows u.row in
-    subst (AllOf (Zeros (without_name x (zero_variable (shown v) (last s) s)).built.draft)) (sym (ap (λ ss. do_steps o ss (u ∷ [])) its ∙ flips_one o does.new u does.all_x))
+    subst (AllOf (Zeros (without_name x (zero_variable (Shown v) (last s) s)).built.draft)) (sym (ap (λ ss. do_steps o ss (u ∷ [])) its ∙ flips_one o does.new u does.all_x))
     ((λ w h. pick y zeros ag w (claim_ends x s g v e like are may w h)), tt)
   where
     pick : (y : Row) → values_at y (wires_in v.operands) ≡ replicate (length (wires_in v.operands)) false → Agree (length s.built.draft.wires) (among (wires_in v.operands)) y u.row → (w : WireId) → (zeroed s.built.draft w ≡ true) ⊎ (among (wires_in v.operands) w ≡ true) → y w.number ≡ false
@@ -288,11 +291,11 @@ zero_flat o mix s g f d new grown u t r on h z = zero_spared o s (flat mix s) ne
 zero_flat o measured s g f d new grown u t r on h z = zero_spared o s (flat measured s) new u (spared_measured (zeroed s.built.draft) s (zeroed_low s.built.draft) g d f) grown z
 zero_flat o (claim line x) s g f d new grown u t r on h z = go (known_in s x) refl f grown
   where
-    go : (k : Known) → known_in s x ≡ k → IsOf (λ v. IsOf (λ w. w.shape ≡ v.shape) (typed_like 0 (shown v) (last s)) × (are_wires v.operands ≡ true) × MayChange (wires_in v.operands) s (without_name x s)) k → (without_name x (zero_variable k (last s) s)).built.draft.steps ≡ s.built.draft.steps ++ new → AllOf (Zeros (without_name x (zero_variable k (last s) s)).built.draft) (do_steps o new (u ∷ []))
-    go (static y) e p i = absurd p
-    go (lent a c v) e p i = absurd p
-    go absent e p i = absurd p
-    go (shown v) e p i = zero_shown o x s g v e p.0 p.1 p.2 d new i u t r on h z
+    go : (k : Known) → known_in s x ≡ k → IsOf (λ v. IsOf (λ w. w.shape ≡ v.shape) (typed_like 0 (Shown v) (last s)) × (are_wires v.operands ≡ true) × MayChange (wires_in v.operands) s (without_name x s)) k → (without_name x (zero_variable k (last s) s)).built.draft.steps ≡ s.built.draft.steps ++ new → AllOf (Zeros (without_name x (zero_variable k (last s) s)).built.draft) (do_steps o new (u ∷ []))
+    go (Static y) e p i = absurd p
+    go (Lent a c v) e p i = absurd p
+    go Absent e p i = absurd p
+    go (Shown v) e p i = zero_shown o x s g v e p.0 p.1 p.2 d new i u t r on h z
 zero_flat o (choice a b) s g f d new grown u t r on h z =
     let first : Flattening = first_branch s in
     let one : Flattening = flat a first in

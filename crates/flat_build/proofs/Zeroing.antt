@@ -9,7 +9,9 @@ use Rattle.flat_mean.specs.Row.{Row}
 use Rattle.bit_arith.specs.Values.{bits_at, values_at}
 use Rattle.bit_arith.specs.Values.{flip_bits}
 use Rattle.bit_arith.proofs.Making.{bits_made, length-values}
-use Rattle.flat_build.specs.State.{Shown, shown, absent, Flattening, last, operands_of, typed_like, wires_in, are_wires}
+use Rattle.flat_build.specs.declared.known.TypedBits.{TypedBits}
+use Rattle.flat_build.specs.declared.known.Known.TheVariants.{Shown, Absent}
+use Rattle.flat_build.specs.State.{Flattening, last, operands_of, typed_like, wires_in, are_wires}
 use Rattle.flat_build.specs.Flat.{known_in}
 use Rattle.flat_build.specs.Fine.{IsOf}
 use Rattle.flat_build.specs.Shows.{Shows}
@@ -20,12 +22,12 @@ use Rattle.flat_build.proofs.Operators.{flip_self}
 use Rattle.flat_build.proofs.Showing.{claimed_bits}
 
 -- where the claim is true the variable's wires are 0 after its flips
-pub claim_zeros : (x : NameId) (s : Flattening) (a : Shown) (v y : Row) (t : Term) → known_in s x ≡ shown a → are_wires a.operands ≡ true → IsOf (λ w. w.shape ≡ a.shape) (typed_like 0 (shown a) (last s)) → AllShow v s t → equals_last x t ≡ true
-    → values_at y (wires_in a.operands) ≡ flip_bits (values_at v (wires_in a.operands)) (bits_at v (operands_of (typed_like 0 (shown a) (last s)))) → values_at y (wires_in a.operands) ≡ replicate (length (wires_in a.operands)) false
+pub claim_zeros : (x : NameId) (s : Flattening) (a : TypedBits) (v y : Row) (t : Term) → known_in s x ≡ Shown a → are_wires a.operands ≡ true → IsOf (λ w. w.shape ≡ a.shape) (typed_like 0 (Shown a) (last s)) → AllShow v s t → equals_last x t ≡ true
+    → values_at y (wires_in a.operands) ≡ flip_bits (values_at v (wires_in a.operands)) (bits_at v (operands_of (typed_like 0 (Shown a) (last s)))) → values_at y (wires_in a.operands) ≡ replicate (length (wires_in a.operands)) false
 claim_zeros x s a v y t k w i h e q =
     let ws : List WireId = wires_in a.operands in
-    let so : Shows v (shown a) (found gone t.env x) = subst (λ z. Shows v z (found gone t.env x)) k (found_both (Shows v) absent gone tt s.env t.env x h.env) in
-    let c : bits_at v (operands_of (typed_like 0 (shown a) (last s))) ≡ values_at v ws =
+    let so : Shows v (Shown a) (found gone t.env x) = subst (λ z. Shows v z (found gone t.env x)) k (found_both (Shows v) Absent gone tt s.env t.env x h.env) in
+    let c : bits_at v (operands_of (typed_like 0 (Shown a) (last s))) ≡ values_at v ws =
     claimed_bits v a (last s) (found gone t.env x) (last_value t) i so (first_both (Shows v) tt s.values t.values h.values) e
     ∙ (ap (bits_at v) (wires_are a.operands w) ∙ bits_made v ws) in
     q ∙ (ap (flip_bits (values_at v ws)) c ∙ (flip_self (values_at v ws) ∙ ap (λ m. replicate m false) (length-values v ws)))

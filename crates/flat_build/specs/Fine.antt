@@ -18,7 +18,10 @@ use Rattle.flat_core.specs.Label.{wire_in, label_after}
 use Rattle.bit_arith.specs.declared.operand.Operand.{Operand}
 use Rattle.bit_arith.specs.Built.{under}
 use Rattle.bit_arith.specs.Calls.{among, AllSafe, AreTargets}
-use Rattle.flat_build.specs.State.{Shown, Known, static, shown, lent, absent, Flattening, last, drop_last, typed_as, typed_like, part_shape, part_start, part_of, are_wires, are_new, wires_in}
+use Rattle.flat_build.specs.declared.known.TypedBits.{TypedBits}
+use Rattle.flat_build.specs.declared.known.Known.{Known}
+use Rattle.flat_build.specs.declared.known.Known.TheVariants.{Static, Shown, Lent, Absent}
+use Rattle.flat_build.specs.State.{Flattening, last, drop_last, typed_as, typed_like, part_shape, part_start, part_of, are_wires, are_new, wires_in}
 use Rattle.flat_build.specs.Flat.{as_operand, shape_for, without_name, known_in, count_statement, on_line, chosen_by, first_branch, second_branch, flat}
 use Rattle.flat_build.specs.Names.{AllOf, AllKnown, named_by, Spares}
 
@@ -26,12 +29,12 @@ abbrev pub Distinct : List WireId → Type 0
 Distinct [] = ⊤
 Distinct (w ∷ ws) = (among ws w ≡ false) × Distinct ws
 
-abbrev pub IsOf : (Shown → Type 0) → Known → Type 0
-IsOf Q (shown v) = Q v
+abbrev pub IsOf : (TypedBits → Type 0) → Known → Type 0
+IsOf Q (Shown v) = Q v
 IsOf Q k = ⊥
 
 -- the indices lead to a part of the value
-abbrev pub IsPart : Shown → List ℤ → Type 0
+abbrev pub IsPart : TypedBits → List ℤ → Type 0
 IsPart v is = part_start v.shape is + shape_bits (part_shape v.shape is) ≤ length v.operands
 
 -- a second index leads to a bit of the item
@@ -40,10 +43,10 @@ IndexFits (Array k n) (i ∷ j ∷ is) = nat_abs j < scalar_bits k
 IndexFits t is = ⊤
 
 abbrev pub FitsIndex : List ℤ → Known → Type 0
-FitsIndex is (static z) = ⊤
-FitsIndex is (shown v) = IndexFits v.shape is
-FitsIndex is (lent start size v) = IndexFits v.shape is
-FitsIndex is absent = ⊤
+FitsIndex is (Static z) = ⊤
+FitsIndex is (Shown v) = IndexFits v.shape is
+FitsIndex is (Lent start size v) = IndexFits v.shape is
+FitsIndex is Absent = ⊤
 
 -- ---- what may be changed
 
@@ -55,11 +58,11 @@ pub record MayChange (ws : List WireId) (s rest : Flattening) : Type 0 where
   pub spared : AllKnown (Spares (among ws)) rest
 
 -- a value that keeps its wires when it is taken
-abbrev pub KeepsWires : Flattening → Shown → Type 0
+abbrev pub KeepsWires : Flattening → TypedBits → Type 0
 KeepsWires s v = v.own || are_new s.built.draft v.began v.operands ≡ true
 
 -- the last value may be taken and changed: if it keeps its wires, these may be changed
-abbrev pub MayTake : Shown → Flattening → Type 0
+abbrev pub MayTake : TypedBits → Flattening → Type 0
 MayTake v s = KeepsWires s v → MayChange (wires_in v.operands) s (drop_last s)
 
 abbrev pub IsBit : Known → Type 0
@@ -77,11 +80,11 @@ IsUpdated updates.Xor t = ⊤
 IsUpdated op t = is_number t ≡ true
 
 -- the state while a part of a variable is changed
-abbrev pub without_part : NameId → List ℤ → Shown → Flattening → Flattening
-without_part x is v s = record s { env = in_its_block s.env x (lent (part_start v.shape is) (shape_bits (part_shape v.shape is)) v) }
+abbrev pub without_part : NameId → List ℤ → TypedBits → Flattening → Flattening
+without_part x is v s = record s { env = in_its_block s.env x (Lent (part_start v.shape is) (shape_bits (part_shape v.shape is)) v) }
 
 -- the last value is of the part's type, and the part's wires may be changed
-pub record UpdatesPart (x : NameId) (is : List ℤ) (op : UpdateOp) (s : Flattening) (v : Shown) : Type 0 where
+pub record UpdatesPart (x : NameId) (is : List ℤ) (op : UpdateOp) (s : Flattening) (v : TypedBits) : Type 0 where
   pub operand : IsOf (λ w. w.shape ≡ part_shape v.shape is) (typed_as 0 (part_shape v.shape is) (last s))
   pub allowed : IsUpdated op (part_shape v.shape is)
   pub wires : are_wires v.operands ≡ true
@@ -95,7 +98,7 @@ MayUpdate x is op s = IsOf (UpdatesPart x is op s) (known_in s x)
 abbrev pub MayClaim : NameId → Flattening → Type 0
 MayClaim x s =
     IsOf (λ v.
-    IsOf (λ w. w.shape ≡ v.shape) (typed_like 0 (shown v) (last s))
+    IsOf (λ w. w.shape ≡ v.shape) (typed_like 0 (Shown v) (last s))
     × (are_wires v.operands ≡ true)
     × MayChange (wires_in v.operands) s (without_name x s))
     (known_in s x)
@@ -116,7 +119,7 @@ abbrev pub MayJoin : BinaryOp → Known → Known → Type 0
 MayJoin op k l = IsOf (λ v. IsOf (λ w. (v.shape ≡ w.shape) × FitsTwo op v.shape) (as_operand k l)) (as_operand l k)
 
 abbrev pub IsStatic : Known → Type 0
-IsStatic (static z) = ⊤
+IsStatic (Static z) = ⊤
 IsStatic k = ⊥
 
 abbrev pub IsAny : Known → Type 0
@@ -127,7 +130,7 @@ abbrev pub IsTaken : Known → Type 0
 IsTaken k = IsOf (λ v. v.own ≡ true) k
 
 -- a variable whose part is under way, and the last value is to take its place
-pub record WasLent (is : List ℤ) (start size : ℕ) (v : Shown) (k : Known) : Type 0 where
+pub record WasLent (is : List ℤ) (start size : ℕ) (v : TypedBits) (k : Known) : Type 0 where
   pub starts : start ≡ part_start v.shape is
   pub sizes : size ≡ shape_bits (part_shape v.shape is)
   pub there : IsPart v is
@@ -135,7 +138,7 @@ pub record WasLent (is : List ℤ) (start size : ℕ) (v : Shown) (k : Known) : 
   pub value : IsOf (λ w. (w.own ≡ true) × (w.shape ≡ part_shape v.shape is)) k
 
 abbrev pub IsLent : List ℤ → Known → Known → Type 0
-IsLent is (lent start size v) k = WasLent is start size v k
+IsLent is (Lent start size v) k = WasLent is start size v k
 IsLent is l k = ⊥
 
 abbrev pub MayAssign : NameId → List ℤ → Flattening → Type 0
@@ -144,8 +147,8 @@ MayAssign x (i ∷ is) s = IsLent (i ∷ is) (known_in s x) (last s)
 
 -- the part is there, and no bit of it is lent
 abbrev pub MayUse : List ℤ → Known → Type 0
-MayUse is (shown v) = IsPart v is
-MayUse is (lent start size v) = IsPart v is × ((start + size ≤ part_start v.shape is) ⊎ (part_start v.shape is + shape_bits (part_shape v.shape is) ≤ start))
+MayUse is (Shown v) = IsPart v is
+MayUse is (Lent start size v) = IsPart v is × ((start + size ≤ part_start v.shape is) ⊎ (part_start v.shape is + shape_bits (part_shape v.shape is) ≤ start))
 MayUse is k = ⊥
 
 -- ---- steps
@@ -172,7 +175,7 @@ FineStep leave_block s = ⊤
 FineStep (enter_body xs) s = AllOf IsTaken (reverse (take (length xs) s.values))
 FineStep leave_body s = ⊤
 
--- both branches leave the same names and values
+-- the same names and values
 pub record SameEnd (s u : Flattening) : Type 0 where
   pub env : s.env ≡ u.env
   pub values : s.values ≡ u.values
@@ -192,14 +195,15 @@ ZeroesNew s u =
     (w : WireId) → w.number < length s.built.draft.wires → (wire_in u.built.draft.wires w).ending ≡ Zeroed → (wire_in s.built.draft.wires w).ending ≡ Zeroed
 
 -- the first branch goes from `first` to `one`, the second from `second` to `two`: neither changes the condition in force outside, the second
--- finds its own condition as the first one found it, and both leave the same
+-- finds its own condition as the first one found it, and each leaves the names and values that it found
 pub record FineEnds (s first one second two : Flattening) : Type 0 where
   pub kept : Keeps (chosen_by s) first one
   pub outer_first : KeepsAll s.setting.condition first one
   pub outer_second : KeepsAll s.setting.condition second two
   pub zeroed_first : ZeroesNew first one
   pub zeroed_second : ZeroesNew second two
-  pub same : SameEnd one two
+  pub stays_first : SameEnd first one
+  pub stays_second : SameEnd second two
 
 abbrev pub Fine : Effect → Flattening → Type 0
 Fine nothing s = ⊤

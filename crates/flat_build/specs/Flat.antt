@@ -16,7 +16,9 @@ use Rattle.check_scope.specs.Uses.{is_consumed}
 use Rattle.silq_io.specs.declared.limit.OverLimit.{OverLimit}
 use Rattle.silq_io.specs.declared.limit.LimitKind.TheVariants.{Inlined}
 use Rattle.silq_mean.specs.Env.{Env, Block, found, in_its_block, bound}
-use Rattle.silq_mean.specs.Effect.{Effect, nothing, ◌>>◌, statement, step, mix, measure as measured, claim, choice, Step, give_static, give_typed, give_part, one_operand, two_operands, copy_last, repeat_last, flip_last, turn_by, turn_all, receive, assign_to, assign_in_turn, update_to, end_name, end_compared, enter_block, leave_block, enter_body, leave_body, Receiver, variable, parameter, result, output, most_inlined}
+use Rattle.silq_mean.specs.declared.receiver.Receiver.{Receiver}
+use Rattle.silq_mean.specs.declared.receiver.Receiver.TheVariants.{Variable, Parameter, CallResult, EntryOutput}
+use Rattle.silq_mean.specs.Effect.{Effect, nothing, ◌>>◌, statement, step, mix, measure as measured, claim, choice, Step, give_static, give_typed, give_part, one_operand, two_operands, copy_last, repeat_last, flip_last, turn_by, turn_all, receive, assign_to, assign_in_turn, update_to, end_name, end_compared, enter_block, leave_block, enter_body, leave_body, most_inlined}
 use Rattle.silq_mean.specs.Table.{Job}
 use Rattle.flat_core.specs.declared.step.WireId.{WireId}
 use Rattle.flat_core.specs.declared.step.End.{End}
@@ -27,7 +29,10 @@ use Rattle.bit_arith.specs.declared.operand.Operand.{Operand}
 use Rattle.bit_arith.specs.declared.operand.Operand.TheVariants.{Const, Literal}
 use Rattle.bit_arith.specs.Built.{Built, Setting, Given, begun, or_later, new_wire, next_wire, wires_from, made, all_made, negated, read}
 use Rattle.bit_arith.specs.Rows.{flip, turn, had, measure, flip_each, sum, difference, product, add_into, sub_into, both, either, equal, less}
-use Rattle.flat_build.specs.State.{Shown, Known, static, shown, lent, absent, Caller, Flattening, push, last, drop_last, wires_so_far, build, operands_of, is_signed, typed, typed_as, typed_like, part_shape, part_start, part_of, with_part, as_they_are, copied, taken, kept, wires_in, only_wire, only_operand}
+use Rattle.flat_build.specs.declared.known.TypedBits.{TypedBits}
+use Rattle.flat_build.specs.declared.known.Known.{Known}
+use Rattle.flat_build.specs.declared.known.Known.TheVariants.{Static, Shown, Lent, Absent}
+use Rattle.flat_build.specs.State.{Caller, Flattening, push, last, drop_last, wires_so_far, build, operands_of, is_signed, typed, typed_as, typed_like, part_shape, part_start, part_of, with_part, as_they_are, copied, taken, kept, wires_in, only_wire, only_operand}
 
 -- ---- operators
 
@@ -71,28 +76,28 @@ shape_by_one Neg s = s
 
 -- the last value, or the last two, give way to a new one
 abbrev pub give : Bool → Shape → Bool → ℕ → Given (List Operand) → Flattening → Flattening
-give classical s own began g t = push (shown (record { classical = classical; shape = s; operands = g.answer; own = own; began = began })) (build g.built t)
+give classical s own began g t = push (Shown (record { classical = classical; shape = s; operands = g.answer; own = own; began = began })) (build g.built t)
 
 abbrev pub on_one : UnaryOp → Known → Flattening → Flattening
-on_one op (shown v) s = give v.classical (shape_by_one op v.shape) false v.began (by_one op s.setting v.operands s.built) s
-on_one op k s = push absent s
+on_one op (Shown v) s = give v.classical (shape_by_one op v.shape) false v.began (by_one op s.setting v.operands s.built) s
+on_one op k s = push Absent s
 
 abbrev pub on_two_typed : BinaryOp → ℕ → Known → Known → Flattening → Flattening
-on_two_typed op began (shown v) (shown w) s = give (v.classical && w.classical) (shape_by op v.shape) false began (by_two op v.shape s.setting v.operands w.operands s.built) s
-on_two_typed op began k l s = push absent s
+on_two_typed op began (Shown v) (Shown w) s = give (v.classical && w.classical) (shape_by op v.shape) false began (by_two op v.shape s.setting v.operands w.operands s.built) s
+on_two_typed op began k l s = push Absent s
 
 -- where the expression of the first of two values began; a static one made no wires
 abbrev pub began_at : Known → Known → ℕ
-began_at (shown v) l = v.began
-began_at k (shown w) = w.began
+began_at (Shown v) l = v.began
+began_at k (Shown w) = w.began
 began_at k l = 0
 
 -- a static operand counts as no quantum one
 abbrev pub as_operand : Known → Known → Known
-as_operand other (static z) = with_class_of other (typed_like 0 other (static z))
+as_operand other (Static z) = with_class_of other (typed_like 0 other (Static z))
   where
     with_class_of : Known → Known → Known
-    with_class_of (shown v) (shown w) = shown (record w { classical = v.classical })
+    with_class_of (Shown v) (Shown w) = Shown (record w { classical = v.classical })
     with_class_of k l = l
 as_operand other k = k
 
@@ -101,8 +106,8 @@ on_two op k l s = on_two_typed op (began_at k l) (as_operand l k) (as_operand k 
 
 -- `dup`, and `vector`, whose first value says how often
 abbrev pub give_copy : Known → Flattening → Flattening
-give_copy (shown v) s = give false v.shape false v.began (copied s.setting v.operands s.built) s
-give_copy k s = push absent s
+give_copy (Shown v) s = give false v.shape false v.began (copied s.setting v.operands s.built) s
+give_copy k s = push Absent s
 
 abbrev pub array_of : Shape → ℕ → Shape
 array_of Bit n = Array scalars.Bit n
@@ -114,17 +119,17 @@ abbrev pub repeated : ℕ → List Operand → List Operand
 repeated n ps = flat_map (λ qs. qs) (replicate n ps)
 
 abbrev pub give_repeated : Known → Known → Flattening → Flattening
-give_repeated (static n) (shown v) s = give false (array_of v.shape (nat_abs n)) false v.began (copied s.setting (repeated (nat_abs n) v.operands) s.built) s
-give_repeated k l s = push absent s
+give_repeated (Static n) (Shown v) s = give false (array_of v.shape (nat_abs n)) false v.began (copied s.setting (repeated (nat_abs n) v.operands) s.built) s
+give_repeated k l s = push Absent s
 
 -- ---- gates
 
 -- a gate takes its value, works on the wire and gives it on
 abbrev pub on_wire : (Setting → WireId → Built → Built) → Known → Flattening → Flattening
-on_wire gate (shown v) s =
+on_wire gate (Shown v) s =
     let t = taken s.setting v s.built in
     give false v.shape true v.began (record { answer = t.answer; built = gate s.setting (only_wire t.answer) t.built }) s
-on_wire gate k s = push absent s
+on_wire gate k s = push Absent s
 
 abbrev pub on_last_wire : (Setting → WireId → Built → Built) → Flattening → Flattening
 on_last_wire gate s = on_wire gate (last s) (drop_last s)
@@ -141,41 +146,41 @@ measure_all at [] b = b
 measure_all at (w ∷ ws) b = measure_all at ws (measure at w b)
 
 abbrev pub measure_value : Known → Flattening → Flattening
-measure_value (shown v) s =
+measure_value (Shown v) s =
     let t = taken s.setting v s.built in
     let b = end_all Measured (wires_in t.answer) (measure_all s.setting (wires_in t.answer) t.built) in
     give true v.shape false v.began (record { answer = t.answer; built = b }) s
-measure_value k s = push absent s
+measure_value k s = push Absent s
 
 -- ---- what takes values over
 
 abbrev pub shape_for : Receiver → Known → Known
-shape_for variable k = k
-shape_for (parameter need t) k = typed_as 0 t.shape k
-shape_for (result t) k = typed_as 0 t.shape k
-shape_for (output t) k = typed_as 0 t.shape k
+shape_for Variable k = k
+shape_for (Parameter need t) k = typed_as 0 t.shape k
+shape_for (CallResult t) k = typed_as 0 t.shape k
+shape_for (EntryOutput t) k = typed_as 0 t.shape k
 
-abbrev pub taken_for : Receiver → Setting → Shown → Built → Given (List Operand)
-taken_for variable at v b = cond v.classical (kept at v b) (taken at v b)
-taken_for (parameter need t) at v b = cond (not (is_consumed need) || t.classical) (kept at v b) (taken at v b)
-taken_for (result t) at v b = taken at v b
-taken_for (output t) at v b = cond t.classical (copied at v.operands b) (taken at v b)
+abbrev pub taken_for : Receiver → Setting → TypedBits → Built → Given (List Operand)
+taken_for Variable at v b = cond v.classical (kept at v b) (taken at v b)
+taken_for (Parameter need t) at v b = cond (not (is_consumed need) || t.classical) (kept at v b) (taken at v b)
+taken_for (CallResult t) at v b = taken at v b
+taken_for (EntryOutput t) at v b = cond t.classical (copied at v.operands b) (taken at v b)
 
-abbrev pub class_for : Receiver → Shown → Bool
-class_for variable v = v.classical
-class_for (parameter need t) v = t.classical
-class_for (result t) v = t.classical
-class_for (output t) v = t.classical
+abbrev pub class_for : Receiver → TypedBits → Bool
+class_for Variable v = v.classical
+class_for (Parameter need t) v = t.classical
+class_for (CallResult t) v = t.classical
+class_for (EntryOutput t) v = t.classical
 
 -- behind which wire something may be made of a value that was taken over: of a call's result behind the call
 abbrev pub began_for : Receiver → Flattening → ℕ
-began_for variable s = 0
-began_for (parameter need t) s = 0
-began_for (result t) s = wires_so_far s
-began_for (output t) s = 0
+began_for Variable s = 0
+began_for (Parameter need t) s = 0
+began_for (CallResult t) s = wires_so_far s
+began_for (EntryOutput t) s = 0
 
 abbrev pub receive_value : Receiver → Known → Flattening → Flattening
-receive_value r (shown v) s = give (class_for r v) v.shape true (began_for r s) (taken_for r s.setting v s.built) s
+receive_value r (Shown v) s = give (class_for r v) v.shape true (began_for r s) (taken_for r s.setting v s.built) s
 receive_value r k s = push k s
 
 -- ---- variables
@@ -185,27 +190,27 @@ bind x k s = record s { env = bound s.env x k }
 
 -- the name shows nothing
 abbrev pub without_name : NameId → Flattening → Flattening
-without_name x s = record s { env = in_its_block s.env x absent }
+without_name x s = record s { env = in_its_block s.env x Absent }
 
 abbrev pub known_in : Flattening → NameId → Known
-known_in s x = found absent s.env x
+known_in s x = found Absent s.env x
 
-abbrev pub part_used : ℕ → Need → List ℤ → Shown → Known
+abbrev pub part_used : ℕ → Need → List ℤ → TypedBits → Known
 part_used n need is v =
-    shown (record { classical = v.classical; shape = part_shape v.shape is; operands = part_of v.shape is v.operands; own = is_consumed need && not v.classical; began = n })
+    Shown (record { classical = v.classical; shape = part_shape v.shape is; operands = part_of v.shape is v.operands; own = is_consumed need && not v.classical; began = n })
 
 abbrev pub use_part : ℕ → Need → List ℤ → Known → Known
-use_part n need is (shown v) = part_used n need is v
-use_part n need is (lent start size v) = part_used n need is v
+use_part n need is (Shown v) = part_used n need is v
+use_part n need is (Lent start size v) = part_used n need is v
 use_part n need is k = k
 
 -- a quantum variable in a consumed use is moved, a part of one is lent
-abbrev pub moved : List ℤ → Shown → Known
-moved [] v = absent
-moved (i ∷ is) v = lent (part_start v.shape (i ∷ is)) (shape_bits (part_shape v.shape (i ∷ is))) v
+abbrev pub moved : List ℤ → TypedBits → Known
+moved [] v = Absent
+moved (i ∷ is) v = Lent (part_start v.shape (i ∷ is)) (shape_bits (part_shape v.shape (i ∷ is))) v
 
 abbrev pub after_use : Need → List ℤ → Known → Known
-after_use need is (shown v) = cond (is_consumed need && not v.classical) (moved is v) (shown v)
+after_use need is (Shown v) = cond (is_consumed need && not v.classical) (moved is v) (Shown v)
 after_use need is k = k
 
 abbrev pub use_variable : Need → NameId → List ℤ → Flattening → Flattening
@@ -213,8 +218,8 @@ use_variable need x is s = push (use_part (wires_so_far s) need is (known_in s x
 
 abbrev pub assigned : List ℤ → Known → Known → Known
 assigned [] old new = new
-assigned (i ∷ is) (lent start size v) new = shown (record v { operands = with_part v.shape (i ∷ is) v.operands (operands_of new) })
-assigned (i ∷ is) (shown v) new = shown (record v { operands = with_part v.shape (i ∷ is) v.operands (operands_of new) })
+assigned (i ∷ is) (Lent start size v) new = Shown (record v { operands = with_part v.shape (i ∷ is) v.operands (operands_of new) })
+assigned (i ∷ is) (Shown v) new = Shown (record v { operands = with_part v.shape (i ∷ is) v.operands (operands_of new) })
 assigned (i ∷ is) old new = old
 
 abbrev pub bind_all : Env Known → List NameId → List Known → Env Known
@@ -231,16 +236,16 @@ update_by updates.Sub at ws ps b = sub_into at ws ps b
 update_by updates.Xor at ws ps b = flip_each at ws ps b
 
 abbrev pub update_variable : Known → List ℤ → UpdateOp → Known → Flattening → Flattening
-update_variable (shown v) is op k s =
+update_variable (Shown v) is op k s =
     let operand = typed_as 0 (part_shape v.shape is) k in
     build (update_by op s.setting (wires_in (part_of v.shape is v.operands)) (operands_of operand) s.built) s
 update_variable target is op k s = s
 
 -- what a variable is said to be equal to is undone on its wires, which are 0 then
 abbrev pub zero_variable : Known → Known → Flattening → Flattening
-zero_variable (shown v) k s =
+zero_variable (Shown v) k s =
     let ws = wires_in v.operands in
-    build (end_all Zeroed ws (flip_each s.setting ws (operands_of (typed_like 0 (shown v) k)) s.built)) s
+    build (end_all Zeroed ws (flip_each s.setting ws (operands_of (typed_like 0 (Shown v) k)) s.built)) s
 zero_variable target k s = s
 
 -- ---- calls
@@ -260,7 +265,7 @@ back_to s (c ∷ cs) = record s { env = c.env; values = s.values ++ c.values; ca
 -- ---- steps
 
 abbrev pub flat_step : Step → Flattening → Flattening
-flat_step (give_static z) s = push (static z) s
+flat_step (give_static z) s = push (Static z) s
 flat_step (give_typed k z) s = push (typed (wires_so_far s) k z) s
 flat_step (give_part need x is) s = use_variable need x is s
 flat_step (one_operand op) s = on_one op (last s) (drop_last s)
@@ -274,8 +279,8 @@ flat_step (receive r) s = receive_value r (shape_for r (last s)) (drop_last s)
 flat_step (assign_to x is) s = bind x (assigned is (known_in s x) (last s)) (drop_last s)
 flat_step (assign_in_turn xs) s = record s { env = bind_all s.env xs (reverse (take (length xs) s.values)); values = drop (length xs) s.values }
 flat_step (update_to x is op) s = drop_last (update_variable (known_in s x) is op (last s) s)
-flat_step (end_name x) s = bind x absent s
-flat_step (end_compared x) s = drop_last (bind x absent s)
+flat_step (end_name x) s = bind x Absent s
+flat_step (end_compared x) s = drop_last (bind x Absent s)
 flat_step enter_block s = record s { env = [] ∷ s.env }
 flat_step leave_block s = record s { env = drop 1 s.env }
 flat_step (enter_body xs) s = enter xs s
@@ -349,7 +354,7 @@ inputs [] b = record { answer = []; built = b }
 inputs (s ∷ ss) b =
     let n = length b.draft.wires in
     let rest = inputs ss (input_wires (shape_bits s) b) in
-    record { answer = shown (record { classical = false; shape = s; operands = all_made (wires_from n (shape_bits s)); own = true; began = 0 }) ∷ rest.answer; built = rest.built }
+    record { answer = Shown (record { classical = false; shape = s; operands = all_made (wires_from n (shape_bits s)); own = true; began = 0 }) ∷ rest.answer; built = rest.built }
 
 abbrev pub begin : List Shape → Flattening
 begin ss =

@@ -4,27 +4,30 @@ use Rattle.silq_types.specs.Types.{shape_bits}
 use Rattle.bit_arith.specs.Built.{under}
 use Rattle.bit_arith.specs.Calls.{AllSafe, no_target, WasRead}
 use Rattle.bit_arith.specs.Does.{Fresh}
-use Rattle.flat_build.specs.State.{Shown, Known, static, shown, lent, absent, Caller, Flattening, are_wires}
+use Rattle.flat_build.specs.declared.known.TypedBits.{TypedBits}
+use Rattle.flat_build.specs.declared.known.Known.{Known}
+use Rattle.flat_build.specs.declared.known.Known.TheVariants.{Static, Shown, Lent, Absent}
+use Rattle.flat_build.specs.State.{Caller, Flattening, are_wires}
 use Rattle.flat_build.specs.Names.{AllOf, AllEnv, AllKnown}
 
 -- an operand for each bit; all wires are there; what may be kept is wires
-pub record IsShown (n : ℕ) (v : Shown) : Type 0 where
+pub record IsShown (n : ℕ) (v : TypedBits) : Type 0 where
   pub size : length v.operands ≡ shape_bits v.shape
   pub there : AllSafe n no_target v.operands
   pub wires : v.own ≡ true → are_wires v.operands ≡ true
 
 abbrev pub IsKnown : ℕ → Known → Type 0
-IsKnown n (static z) = ⊤
-IsKnown n (shown v) = IsShown n v
-IsKnown n (lent start size v) = IsShown n v
-IsKnown n absent = ⊤
+IsKnown n (Static z) = ⊤
+IsKnown n (Shown v) = IsShown n v
+IsKnown n (Lent start size v) = IsShown n v
+IsKnown n Absent = ⊤
 
 -- a variable shows wires of its own
 abbrev pub IsOwned : Known → Type 0
-IsOwned (static z) = ⊤
-IsOwned (shown v) = v.own ≡ true
-IsOwned (lent start size v) = v.own ≡ true
-IsOwned absent = ⊤
+IsOwned (Static z) = ⊤
+IsOwned (Shown v) = v.own ≡ true
+IsOwned (Lent start size v) = v.own ≡ true
+IsOwned Absent = ⊤
 
 pub record Owned (s : Flattening) : Type 0 where
   pub env : AllEnv IsOwned s.env

@@ -7,7 +7,9 @@ use Rattle.flat_core.specs.Label.{same_wire}
 use Rattle.bit_arith.specs.declared.operand.Operand.{Operand}
 use Rattle.bit_arith.specs.declared.operand.Operand.TheVariants.{Const, Literal}
 use Rattle.bit_arith.specs.Calls.{Targets}
-use Rattle.flat_build.specs.State.{Known, static, shown, lent, absent, Caller, Flattening, outside}
+use Rattle.flat_build.specs.declared.known.Known.{Known}
+use Rattle.flat_build.specs.declared.known.Known.TheVariants.{Static, Shown, Lent, Absent}
+use Rattle.flat_build.specs.State.{Caller, Flattening, outside}
 
 -- something holds of each item of a list, of each entry of an environment
 abbrev pub AllOf : {A : Type 0} → (A → Type 0) → List A → Type 0
@@ -28,10 +30,10 @@ pub record AllKnown (Q : Known → Type 0) (s : Flattening) : Type 0 where
 
 -- the operands that are there: those of a lent part are under way
 abbrev pub operands_in : Known → List Operand
-operands_in (static z) = []
-operands_in (shown v) = v.operands
-operands_in (lent start size v) = outside start size v.operands
-operands_in absent = []
+operands_in (Static z) = []
+operands_in (Shown v) = v.operands
+operands_in (Lent start size v) = outside start size v.operands
+operands_in Absent = []
 
 abbrev pub named_by : WireId → Operand → Bool
 named_by w (Const b) = false

@@ -11,7 +11,9 @@ use Rattle.flat_core.specs.Sound.{count_measures}
 use Rattle.flat_mean.specs.Row.{Row}
 use Rattle.flat_mean.specs.Terms.{Term as WireTerm}
 use Rattle.bit_arith.specs.Values.{bits_at, Clean}
-use Rattle.flat_build.specs.State.{Known, static, shown, lent, absent, Caller, Flattening, outside}
+use Rattle.flat_build.specs.declared.known.Known.{Known}
+use Rattle.flat_build.specs.declared.known.Known.TheVariants.{Static, Shown, Lent, Absent}
+use Rattle.flat_build.specs.State.{Caller, Flattening, outside}
 use Rattle.flat_build.specs.Names.{AllOf}
 
 -- a value of a type
@@ -22,11 +24,11 @@ HasShape s w = ⊥
 
 -- the operands' bits are those of the value; of a variable with a lent part, those outside it
 abbrev pub Shows : Row → Known → Value → Type 0
-Shows v (static z) (whole y) = z ≡ y
-Shows v (static z) w = ⊥
-Shows v (shown k) w = HasShape k.shape w × (bits_at v k.operands ≡ bits_of w)
-Shows v (lent start size k) w = HasShape k.shape w × (bits_at v (outside start size k.operands) ≡ outside start size (bits_of w))
-Shows v absent w = ⊤
+Shows v (Static z) (whole y) = z ≡ y
+Shows v (Static z) w = ⊥
+Shows v (Shown k) w = HasShape k.shape w × (bits_at v k.operands ≡ bits_of w)
+Shows v (Lent start size k) w = HasShape k.shape w × (bits_at v (outside start size k.operands) ≡ outside start size (bits_of w))
+Shows v Absent w = ⊤
 
 abbrev pub ListBoth : {A B : Type 0} → (A → B → Type 0) → List A → List B → Type 0
 ListBoth S [] [] = ⊤

@@ -15,27 +15,9 @@ use Rattle.bit_arith.specs.declared.operand.Operand.{Operand}
 use Rattle.bit_arith.specs.declared.operand.Operand.TheVariants.{Const, Literal}
 use Rattle.bit_arith.specs.Built.{Built, Setting, Given, all_made}
 use Rattle.bit_arith.specs.Rows.{copy}
-
--- a value with a type, and the operands that show its bits
-pub record Shown : Type 0 where
-  pub classical : Bool
-  pub shape : Shape
-  pub operands : List Operand
-  -- whether these are wires that whoever takes the value may keep: those of a variable that was moved, of a gate or of a call
-  pub own : Bool
-  -- the number of the next wire when its expression began
-  pub began : ℕ
-
--- what a value or a name shows
-pub data Known : Type 0 where
-  -- the value of a static expression
-  static : ℤ → Known
-  -- a value with a type
-  shown : Shown → Known
-  -- a variable whose bits from a place on, so many, are under way in the right side of an assignment to them
-  lent : ℕ → ℕ → Shown → Known
-  -- a variable that was moved or taken out
-  absent : Known
+use Rattle.flat_build.specs.declared.known.TypedBits.{TypedBits}
+use Rattle.flat_build.specs.declared.known.Known.{Known}
+use Rattle.flat_build.specs.declared.known.Known.TheVariants.{Static, Shown, Lent, Absent}
 
 pub record Caller : Type 0 where
   pub env : Env Known
@@ -59,7 +41,7 @@ abbrev pub push : Known → Flattening → Flattening
 push k s = record s { values = k ∷ s.values }
 
 abbrev pub first : List Known → Known
-first [] = absent
+first [] = Absent
 first (k ∷ ks) = k
 
 abbrev pub last : Flattening → Known
@@ -81,7 +63,7 @@ abbrev pub outside : {A : Type 0} → ℕ → ℕ → List A → List A
 outside start size xs = take start xs ++ drop (start + size) xs
 
 abbrev pub operands_of : Known → List Operand
-operands_of (shown v) = v.operands
+operands_of (Shown v) = v.operands
 operands_of k = []
 
 abbrev pub is_signed : Shape → Bool
@@ -89,18 +71,18 @@ is_signed (Int n) = true
 is_signed s = false
 
 abbrev pub typed : ℕ → Scalar → ℤ → Known
-typed n k z = shown (record { classical = false; shape = single_shape k; operands = map (λ b. Const b) (low_bits (scalar_bits k) (modulo z (modulus k))); own = false; began = n })
+typed n k z = Shown (record { classical = false; shape = single_shape k; operands = map (λ b. Const b) (low_bits (scalar_bits k) (modulo z (modulus k))); own = false; began = n })
 
 -- a static value takes the type
 abbrev pub typed_as : ℕ → Shape → Known → Known
-typed_as n Bit (static z) = typed n scalars.Bit z
-typed_as n (UInt w) (static z) = typed n (scalars.UInt w) z
-typed_as n (Int w) (static z) = typed n (scalars.Int w) z
+typed_as n Bit (Static z) = typed n scalars.Bit z
+typed_as n (UInt w) (Static z) = typed n (scalars.UInt w) z
+typed_as n (Int w) (Static z) = typed n (scalars.Int w) z
 typed_as n s k = k
 
 -- a static value takes the type of the other
 abbrev pub typed_like : ℕ → Known → Known → Known
-typed_like n (shown v) k = typed_as n v.shape k
+typed_like n (Shown v) k = typed_as n v.shape k
 typed_like n other k = k
 
 -- ---- parts
@@ -147,11 +129,11 @@ abbrev pub copied : Setting → List Operand → Built → Given (List Operand)
 copied at ps b = let new = copy at ps b in record { answer = all_made new.answer; built = new.built }
 
 -- the wires of a value for a new owner: its own or those that its expression made, and else copies
-abbrev pub taken : Setting → Shown → Built → Given (List Operand)
+abbrev pub taken : Setting → TypedBits → Built → Given (List Operand)
 taken at v b = cond (v.own || are_new b.draft v.began v.operands) (as_they_are v.operands b) (copied at v.operands b)
 
 -- the wires of a value that others may show too, and copies where it has none
-abbrev pub kept : Setting → Shown → Built → Given (List Operand)
+abbrev pub kept : Setting → TypedBits → Built → Given (List Operand)
 kept at v b = cond (are_wires v.operands) (as_they_are v.operands b) (copied at v.operands b)
 
 -- the wires that operands name

@@ -5,4 +5,7 @@
 //! that show its bits, and each step makes its row of steps on wires. The laws say that it has the meaning of the source, and that the wires that
 //! a true forget undoes are 0 in the end, for programs that keep what the rules of typing give (`specs/Fine`).
 
+pub mod known;
 pub mod laws;
+
+pub use crate::known::{Known, TypedBits};

@@ -9,22 +9,17 @@ use Rattle.silq_types.specs.declared.types.Ty.{Ty}
 use Rattle.silq_types.specs.Rules.{and_then}
 use Rattle.silq_types.specs.Types.{bool_eq}
 use Rattle.check_scope.specs.declared.need.Need.{Need}
+use Rattle.silq_mean.specs.declared.receiver.Receiver.{Receiver}
+use Rattle.silq_mean.specs.declared.receiver.Receiver.TheVariants.{Variable, Parameter, CallResult, EntryOutput}
 use Rattle.silq_mean.specs.Value.{Value, whole, typed, typed_as, part, is_one, of_one, of_two, repeated, flipped, bits_of}
 use Rattle.silq_mean.specs.Term.{Term, value_of, push, last, on_last, on_last_two, drop_last, turn, hadamard, assign_part, assign_all, update_part, take_out, equals_last, open_block, close_block, enter, leave}
 
--- what takes a value over: a variable by `:=`, a parameter, a result of a called function, or one of the entry
-pub data Receiver : Type 0 where
-  variable : Receiver
-  parameter : Need → Ty → Receiver
-  result : Ty → Receiver
-  output : Ty → Receiver
-
 -- a static value takes the type of what takes it over
 abbrev pub received : Receiver → Value → Value
-received variable v = v
-received (parameter need t) v = typed_as t.shape v
-received (result t) v = typed_as t.shape v
-received (output t) v = typed_as t.shape v
+received Variable v = v
+received (Parameter need t) v = typed_as t.shape v
+received (CallResult t) v = typed_as t.shape v
+received (EntryOutput t) v = typed_as t.shape v
 
 -- a step that leaves one term for each term
 pub data Step : Type 0 where

@@ -19,7 +19,9 @@ use Rattle.check_scope.specs.declared.words.BuiltIn.{BuiltIn}
 use Rattle.check_scope.specs.declared.words.BuiltIn.TheVariants.{HGate, XGate, YGate, ZGate, Dup, Measure, Vector, RotateX, RotateY, RotateZ}
 use Rattle.check_scope.specs.Uses.{is_consumed, built_in, Found, find_fun, param_need, needs_of_found}
 use Rattle.check_scope.specs.Programs.{paired, distance}
-use Rattle.silq_mean.specs.Effect.{Effect, nothing, ◌>>◌, statement, step, mix, measure, claim, choice, give_static, give_typed, give_part, one_operand, two_operands, copy_last, repeat_last, flip_last, turn_by, turn_all, assign_to, assign_in_turn, receive, update_to, end_name, end_compared, enter_block, leave_block, enter_body, leave_body, Receiver, variable, parameter, result, output}
+use Rattle.silq_mean.specs.declared.receiver.Receiver.{Receiver}
+use Rattle.silq_mean.specs.declared.receiver.Receiver.TheVariants.{Variable, Parameter, CallResult, EntryOutput}
+use Rattle.silq_mean.specs.Effect.{Effect, nothing, ◌>>◌, statement, step, mix, measure, claim, choice, give_static, give_typed, give_part, one_operand, two_operands, copy_last, repeat_last, flip_last, turn_by, turn_all, assign_to, assign_in_turn, receive, update_to, end_name, end_compared, enter_block, leave_block, enter_body, leave_body}
 
 -- what a part of a body sees: the names of built-in functions, how calls use their arguments, what takes the arguments of an earlier
 -- function over and what its call does, the static values, and what takes the results over
@@ -136,8 +138,8 @@ rounds body low (suc n) = body low >> rounds body (low +ℤ pos 1) n
 
 abbrev mutual
   pub stmt : Statement → Scope → Effect
-  stmt (assign p e s) sc = statement s.line (expr e sc Consumed >> step (receive variable) >> step (assign_to (place_name p) (static_values (place_indices p) sc.statics)))
-  stmt (spread xs e s) sc = statement s.line (items e sc (map (λ x. variable) xs) >> step (assign_in_turn xs))
+  stmt (assign p e s) sc = statement s.line (expr e sc Consumed >> step (receive Variable) >> step (assign_to (place_name p) (static_values (place_indices p) sc.statics)))
+  stmt (spread xs e s) sc = statement s.line (items e sc (map (λ x. Variable) xs) >> step (assign_in_turn xs))
   stmt (update p op e s) sc = statement s.line (expr e sc Held >> step (update_to (place_name p) (static_values (place_indices p) sc.statics) op))
   stmt (forget x s) sc = statement s.line (step (end_name x))
   stmt (forget_value x e s) sc = statement s.line (expr e sc Held >> claim s.line x >> step (end_compared x))
@@ -179,7 +181,7 @@ abbrev pub names_of : List (NameId × Need × Ty) → List NameId
 names_of ps = map (λ p. p.0) ps
 
 abbrev pub takers_of : List (NameId × Need × Ty) → List Receiver
-takers_of ps = map (λ p. parameter p.1 p.2) ps
+takers_of ps = map (λ p. Parameter p.1 p.2) ps
 
 -- what takes the arguments of a call over: nothing for a built-in function
 abbrev pub parameters_of : Option BuiltIn → Option Found → List ℤ → List Receiver
@@ -206,7 +208,7 @@ body words before calls taker f statics = step (enter_body (names_of (params_of 
 abbrev pub functions : List (NameId × BuiltIn) → List Function → NameId → List ℤ → Effect
 functions words [] f values = nothing
 functions words (g ∷ before) f values =
-    if same_name g.name f then (body words before (functions words before) result g (paired g.statics values) >> step leave_body) else functions words before f values
+    if same_name g.name f then (body words before (functions words before) CallResult g (paired g.statics values) >> step leave_body) else functions words before f values
 
 -- the const parameters, whose values follow those that the entry returns
 abbrev pub give_held : List (NameId × Need × Ty) → Effect
@@ -214,4 +216,4 @@ give_held [] = nothing
 give_held (p ∷ ps) = if is_consumed p.1 then give_held ps else (step (give_part Held p.0 []) >> give_held ps)
 
 abbrev pub entry : List (NameId × BuiltIn) → List Function → Function → Statics → Effect
-entry words before f statics = body words before (functions words before) output f statics >> give_held (params_of f statics)
+entry words before f statics = body words before (functions words before) EntryOutput f statics >> give_held (params_of f statics)

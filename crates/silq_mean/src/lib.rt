@@ -7,3 +7,6 @@
 //! carries all terms along at once, as a program would do that is given the input bits.
 
 pub mod laws;
+pub mod receiver;
+
+pub use receiver::Receiver;

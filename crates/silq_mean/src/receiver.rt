@@ -1,0 +1,17 @@
+//! What takes values over.
+
+use check_scope::need::Need;
+use silq_types::Ty;
+
+/// What takes a value over.
+#[derive(Clone, Copy, Debug, PartialEq, Eq)]
+pub enum Receiver {
+    /// A variable, by `:=`.
+    Variable,
+    /// A parameter, in its use.
+    Parameter(Need, Ty),
+    /// A result of a called function.
+    CallResult(Ty),
+    /// A result of the entry.
+    EntryOutput(Ty),
+}
