@@ -54,11 +54,14 @@ impl Builder {
         old
     }
 
-    /// Sets the source line of the next steps.
-    pub fn line(&mut self, line: u32)
-        ensures { self.new ≡ record { draft = self.old.draft; setting = record { line = line; condition = self.old.setting.condition } } }
+    /// Sets the source line of the next steps and gives the old one.
+    pub fn line(&mut self, line: u32) -> u32
+        ensures old { result ≡ self.old.setting.line }
+        ensures new { self.new ≡ record { draft = self.old.draft; setting = record { line = line; condition = self.old.setting.condition } } }
     {
+        let old = self.line;
         self.line = line;
+        old
     }
 
     /// The number of wires so far.
