@@ -12,7 +12,7 @@ use Rattle.check_scope.specs.declared.need.Need.{Need}
 use Rattle.check_scope.specs.Uses.{is_consumed}
 use Rattle.silq_mean.specs.Env.{in_its_block}
 use Rattle.silq_mean.specs.declared.receiver.Receiver.{Receiver}
-use Rattle.silq_mean.specs.declared.receiver.Receiver.TheVariants.{Variable, Parameter, CallResult, EntryOutput}
+use Rattle.silq_mean.specs.declared.receiver.Receiver.TheVariants.{Variable, Argument, CallResult, EntryOutput}
 use Rattle.silq_mean.specs.Effect.{Effect, nothing, ◌>>◌, statement, step, mix, measure as measured, claim, choice, Step, give_static, give_typed, give_part, one_operand, two_operands, copy_last, repeat_last, flip_last, turn_by, turn_all, receive, assign_to, assign_in_turn, update_to, end_name, end_compared, enter_block, leave_block, enter_body, leave_body}
 use Rattle.flat_core.specs.declared.step.WireId.{WireId}
 use Rattle.flat_core.specs.declared.step.End.TheVariants.{Measured, Zeroed}
@@ -258,7 +258,7 @@ goes_measure s g f = goes_measure_value (last s) s g (last_known s g) f.1
 
 shape_for_known : (n : ℕ) (r : Receiver) (k : Known) → IsKnown n k → IsKnown n (shape_for r k)
 shape_for_known n Variable k h = h
-shape_for_known n (Parameter need t) k h = typed_as_known n 0 t.shape k h
+shape_for_known n (Argument need t) k h = typed_as_known n 0 t.shape k h
 shape_for_known n (CallResult t) k h = typed_as_known n 0 t.shape k h
 shape_for_known n (EntryOutput t) k h = typed_as_known n 0 t.shape k h
 
@@ -268,7 +268,7 @@ either_wires d n false r q a b = b
 
 wires_for : (r : Receiver) (at : Setting) (v : TypedBits) (b : Built) → Fresh b.draft → Guards at (length b.draft.wires) no_target → IsShown (length b.draft.wires) v → GivesWires b.draft (length v.operands) (taken_for r at v b)
 wires_for Variable at v b f g k = either_wires b.draft (length v.operands) v.classical (kept at v b) (taken at v b) (wires_kept at v b f g k) (wires_taken at v b f g k)
-wires_for (Parameter need t) at v b f g k =
+wires_for (Argument need t) at v b f g k =
     either_wires b.draft (length v.operands) (not (is_consumed need) || t.classical) (kept at v b) (taken at v b) (wires_kept at v b f g k) (wires_taken at v b f g k)
 wires_for (CallResult t) at v b f g k = wires_taken at v b f g k
 wires_for (EntryOutput t) at v b f g k =

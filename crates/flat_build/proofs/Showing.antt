@@ -13,7 +13,7 @@ use Rattle.silq_types.specs.Types.{single_shape, scalar_bits, shape_bits, is_sca
 use Rattle.check_scope.specs.declared.need.Need.{Need}
 use Rattle.silq_mean.specs.Value.{Value, whole, single, array, gone, modulus, modulo, low_bits, bits_of, truth_value, is_one, of_one, of_two_typed, repeated, update_typed, equal_values, part, with_part, typed as typed_value, typed_as as value_as, typed_like as value_like}
 use Rattle.silq_mean.specs.declared.receiver.Receiver.{Receiver}
-use Rattle.silq_mean.specs.declared.receiver.Receiver.TheVariants.{Variable, Parameter, CallResult, EntryOutput}
+use Rattle.silq_mean.specs.declared.receiver.Receiver.TheVariants.{Variable, Argument, CallResult, EntryOutput}
 use Rattle.silq_mean.specs.Effect.{received}
 use Rattle.flat_mean.specs.Row.{Row}
 use Rattle.bit_arith.specs.declared.operand.Operand.{Operand}
@@ -154,7 +154,7 @@ shows_like v n a x k w g h = shows_as_like v n a.shape x k w g.0 h
 -- what takes a value over asks for a type
 pub shows_for : (v : Row) (r : Receiver) (k : Known) (w : Value) → Shows v k w → Shows v (shape_for r k) (received r w)
 shows_for v Variable k w h = h
-shows_for v (Parameter need t) k w h = shows_as v 0 t.shape k w h
+shows_for v (Argument need t) k w h = shows_as v 0 t.shape k w h
 shows_for v (CallResult t) k w h = shows_as v 0 t.shape k w h
 shows_for v (EntryOutput t) k w h = shows_as v 0 t.shape k w h
 

@@ -19,7 +19,7 @@ use Rattle.check_scope.specs.Uses.{is_consumed}
 use Rattle.silq_mean.specs.Value.{low_bits, modulo, modulus}
 use Rattle.silq_mean.specs.Env.{in_its_block}
 use Rattle.silq_mean.specs.declared.receiver.Receiver.{Receiver}
-use Rattle.silq_mean.specs.declared.receiver.Receiver.TheVariants.{Variable, Parameter, CallResult, EntryOutput}
+use Rattle.silq_mean.specs.declared.receiver.Receiver.TheVariants.{Variable, Argument, CallResult, EntryOutput}
 use Rattle.silq_mean.specs.Effect.{Step, give_static, give_typed, give_part, one_operand, two_operands, copy_last, repeat_last, flip_last, turn_by, turn_all, receive, assign_to, assign_in_turn, update_to, end_name, end_compared, enter_block, leave_block, enter_body, leave_body}
 use Rattle.flat_core.specs.declared.step.WireId.{WireId}
 use Rattle.flat_core.specs.declared.step.End.TheVariants.{Measured}
@@ -138,7 +138,7 @@ module _ (T : Targets) (at : Setting) (v : TypedBits) (b : Built) (low : Low T b
 
   pub safely_for : (r : Receiver) → Safely T b.draft (taken_for r at v b)
   safely_for Variable = safely_either T b.draft v.classical (kept at v b) (taken at v b) safely_kept safely_taken
-  safely_for (Parameter need i) = safely_either T b.draft (not (is_consumed need) || i.classical) (kept at v b) (taken at v b) safely_kept safely_taken
+  safely_for (Argument need i) = safely_either T b.draft (not (is_consumed need) || i.classical) (kept at v b) (taken at v b) safely_kept safely_taken
   safely_for (CallResult i) = safely_taken
   safely_for (EntryOutput i) = safely_either T b.draft i.classical (copied at v.operands b) (taken at v b) (safely_copied T at v.operands b low f g k.there) safely_taken
 
@@ -317,13 +317,13 @@ module _ (T : Targets) (s : Flattening) (low : Low T s.built.draft) (g : Good s)
     where
       for_known : (r : Receiver) (k : Known) → IsKnown n k → IsKnown n (shape_for r k)
       for_known Variable k q = q
-      for_known (Parameter need t) k q = typed_as_known n 0 t.shape k q
+      for_known (Argument need t) k q = typed_as_known n 0 t.shape k q
       for_known (CallResult t) k q = typed_as_known n 0 t.shape k q
       for_known (EntryOutput t) k q = typed_as_known n 0 t.shape k q
 
       for_spares : (r : Receiver) (k : Known) → Spares T k → Spares T (shape_for r k)
       for_spares Variable k q = q
-      for_spares (Parameter need t) k q = as_spares T 0 t.shape k q
+      for_spares (Argument need t) k q = as_spares T 0 t.shape k q
       for_spares (CallResult t) k q = as_spares T 0 t.shape k q
       for_spares (EntryOutput t) k q = as_spares T 0 t.shape k q
 

@@ -10,7 +10,7 @@ use Rattle.check_scope.specs.Uses.{is_consumed}
 use Rattle.silq_mean.specs.Value.{Value, of_one, of_two, repeated as repeated_value, typed_like as value_like}
 use Rattle.silq_mean.specs.Term.{first as first_value, last as last_value, last_but_one, drop_last as but_last, on_last, on_last_two}
 use Rattle.silq_mean.specs.declared.receiver.Receiver.{Receiver}
-use Rattle.silq_mean.specs.declared.receiver.Receiver.TheVariants.{Variable, Parameter, CallResult, EntryOutput}
+use Rattle.silq_mean.specs.declared.receiver.Receiver.TheVariants.{Variable, Argument, CallResult, EntryOutput}
 use Rattle.silq_mean.specs.Effect.{Outcome, received, step, follow, one_operand, two_operands, copy_last, repeat_last, receive}
 use Rattle.flat_mean.specs.Row.{Row}
 use Rattle.bit_arith.specs.declared.operand.Operand.{Operand}
@@ -175,13 +175,13 @@ as_kept s v g q = either_way s v (as_they_are v.operands s.built) (copied s.sett
 
 as_received : (r : Receiver) (s : Flattening) (v : TypedBits) → Good s → IsShown (length s.built.draft.wires) v → SameBits s v (taken_for r s.setting v s.built)
 as_received Variable s v g q = either_way s v (kept s.setting v s.built) (taken s.setting v s.built) v.classical (as_kept s v g q) (as_taken s v g q)
-as_received (Parameter need t) s v g q = either_way s v (kept s.setting v s.built) (taken s.setting v s.built) (not (is_consumed need) || t.classical) (as_kept s v g q) (as_taken s v g q)
+as_received (Argument need t) s v g q = either_way s v (kept s.setting v s.built) (taken s.setting v s.built) (not (is_consumed need) || t.classical) (as_kept s v g q) (as_taken s v g q)
 as_received (CallResult t) s v g q = as_taken s v g q
 as_received (EntryOutput t) s v g q = either_way s v (copied s.setting v.operands s.built) (taken s.setting v s.built) t.classical (as_copy s v g q) (as_taken s v g q)
 
 for_known : (n : ℕ) (r : Receiver) (k : Known) → IsKnown n k → IsKnown n (shape_for r k)
 for_known n Variable k q = q
-for_known n (Parameter need t) k q = typed_as_known n 0 t.shape k q
+for_known n (Argument need t) k q = typed_as_known n 0 t.shape k q
 for_known n (CallResult t) k q = typed_as_known n 0 t.shape k q
 for_known n (EntryOutput t) k q = typed_as_known n 0 t.shape k q
 

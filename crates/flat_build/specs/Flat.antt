@@ -17,7 +17,7 @@ use Rattle.silq_io.specs.declared.limit.OverLimit.{OverLimit}
 use Rattle.silq_io.specs.declared.limit.LimitKind.TheVariants.{Inlined}
 use Rattle.silq_mean.specs.Env.{Env, Block, found, in_its_block, bound}
 use Rattle.silq_mean.specs.declared.receiver.Receiver.{Receiver}
-use Rattle.silq_mean.specs.declared.receiver.Receiver.TheVariants.{Variable, Parameter, CallResult, EntryOutput}
+use Rattle.silq_mean.specs.declared.receiver.Receiver.TheVariants.{Variable, Argument, CallResult, EntryOutput}
 use Rattle.silq_mean.specs.Effect.{Effect, nothing, ◌>>◌, statement, step, mix, measure as measured, claim, choice, Step, give_static, give_typed, give_part, one_operand, two_operands, copy_last, repeat_last, flip_last, turn_by, turn_all, receive, assign_to, assign_in_turn, update_to, end_name, end_compared, enter_block, leave_block, enter_body, leave_body, most_inlined}
 use Rattle.silq_mean.specs.Table.{Job}
 use Rattle.flat_core.specs.declared.step.WireId.{WireId}
@@ -156,26 +156,26 @@ measure_value k s = push Absent s
 
 abbrev pub shape_for : Receiver → Known → Known
 shape_for Variable k = k
-shape_for (Parameter need t) k = typed_as 0 t.shape k
+shape_for (Argument need t) k = typed_as 0 t.shape k
 shape_for (CallResult t) k = typed_as 0 t.shape k
 shape_for (EntryOutput t) k = typed_as 0 t.shape k
 
 abbrev pub taken_for : Receiver → Setting → TypedBits → Built → Given (List Operand)
 taken_for Variable at v b = cond v.classical (kept at v b) (taken at v b)
-taken_for (Parameter need t) at v b = cond (not (is_consumed need) || t.classical) (kept at v b) (taken at v b)
+taken_for (Argument need t) at v b = cond (not (is_consumed need) || t.classical) (kept at v b) (taken at v b)
 taken_for (CallResult t) at v b = taken at v b
 taken_for (EntryOutput t) at v b = cond t.classical (copied at v.operands b) (taken at v b)
 
 abbrev pub class_for : Receiver → TypedBits → Bool
 class_for Variable v = v.classical
-class_for (Parameter need t) v = t.classical
+class_for (Argument need t) v = t.classical
 class_for (CallResult t) v = t.classical
 class_for (EntryOutput t) v = t.classical
 
 -- behind which wire something may be made of a value that was taken over: of a call's result behind the call
 abbrev pub began_for : Receiver → Flattening → ℕ
 began_for Variable s = 0
-began_for (Parameter need t) s = 0
+began_for (Argument need t) s = 0
 began_for (CallResult t) s = wires_so_far s
 began_for (EntryOutput t) s = 0
 

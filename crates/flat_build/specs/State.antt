@@ -17,7 +17,7 @@ use Rattle.bit_arith.specs.Built.{Built, Setting, Given, all_made}
 use Rattle.bit_arith.specs.Rows.{copy}
 use Rattle.flat_build.specs.declared.known.TypedBits.{TypedBits}
 use Rattle.flat_build.specs.declared.known.Known.{Known}
-use Rattle.flat_build.specs.declared.known.Known.TheVariants.{Static, Shown, Lent, Absent}
+use Rattle.flat_build.specs.declared.known.Known.TheVariants.{Static, Shown, Absent}
 
 pub record Caller : Type 0 where
   pub env : Env Known

@@ -5,19 +5,18 @@ use Rattle.silq_tree.specs.declared.node.UnaryOp.{UnaryOp}
 use Rattle.silq_tree.specs.declared.node.BinaryOp.{BinaryOp}
 use Rattle.silq_tree.specs.declared.node.UpdateOp.{UpdateOp}
 use Rattle.silq_types.specs.declared.types.Scalar.{Scalar}
-use Rattle.silq_types.specs.declared.types.Ty.{Ty}
 use Rattle.silq_types.specs.Rules.{and_then}
 use Rattle.silq_types.specs.Types.{bool_eq}
 use Rattle.check_scope.specs.declared.need.Need.{Need}
 use Rattle.silq_mean.specs.declared.receiver.Receiver.{Receiver}
-use Rattle.silq_mean.specs.declared.receiver.Receiver.TheVariants.{Variable, Parameter, CallResult, EntryOutput}
+use Rattle.silq_mean.specs.declared.receiver.Receiver.TheVariants.{Variable, Argument, CallResult, EntryOutput}
 use Rattle.silq_mean.specs.Value.{Value, whole, typed, typed_as, part, is_one, of_one, of_two, repeated, flipped, bits_of}
 use Rattle.silq_mean.specs.Term.{Term, value_of, push, last, on_last, on_last_two, drop_last, turn, hadamard, assign_part, assign_all, update_part, take_out, equals_last, open_block, close_block, enter, leave}
 
 -- a static value takes the type of what takes it over
 abbrev pub received : Receiver → Value → Value
 received Variable v = v
-received (Parameter need t) v = typed_as t.shape v
+received (Argument need t) v = typed_as t.shape v
 received (CallResult t) v = typed_as t.shape v
 received (EntryOutput t) v = typed_as t.shape v
 

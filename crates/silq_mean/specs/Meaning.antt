@@ -20,7 +20,7 @@ use Rattle.check_scope.specs.declared.words.BuiltIn.TheVariants.{HGate, XGate, Y
 use Rattle.check_scope.specs.Uses.{is_consumed, built_in, Found, find_fun, param_need, needs_of_found}
 use Rattle.check_scope.specs.Programs.{paired, distance}
 use Rattle.silq_mean.specs.declared.receiver.Receiver.{Receiver}
-use Rattle.silq_mean.specs.declared.receiver.Receiver.TheVariants.{Variable, Parameter, CallResult, EntryOutput}
+use Rattle.silq_mean.specs.declared.receiver.Receiver.TheVariants.{Variable, Argument, CallResult, EntryOutput}
 use Rattle.silq_mean.specs.Effect.{Effect, nothing, ◌>>◌, statement, step, mix, measure, claim, choice, give_static, give_typed, give_part, one_operand, two_operands, copy_last, repeat_last, flip_last, turn_by, turn_all, assign_to, assign_in_turn, receive, update_to, end_name, end_compared, enter_block, leave_block, enter_body, leave_body}
 
 -- what a part of a body sees: the names of built-in functions, how calls use their arguments, what takes the arguments of an earlier
@@ -181,7 +181,7 @@ abbrev pub names_of : List (NameId × Need × Ty) → List NameId
 names_of ps = map (λ p. p.0) ps
 
 abbrev pub takers_of : List (NameId × Need × Ty) → List Receiver
-takers_of ps = map (λ p. Parameter p.1 p.2) ps
+takers_of ps = map (λ p. Argument p.1 p.2) ps
 
 -- what takes the arguments of a call over: nothing for a built-in function
 abbrev pub parameters_of : Option BuiltIn → Option Found → List ℤ → List Receiver

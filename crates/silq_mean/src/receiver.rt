@@ -8,8 +8,8 @@ use silq_types::Ty;
 pub enum Receiver {
     /// A variable, by `:=`.
     Variable,
-    /// A parameter, in its use.
-    Parameter(Need, Ty),
+    /// A parameter, which uses the argument so.
+    Argument(Need, Ty),
     /// A result of a called function.
     CallResult(Ty),
     /// A result of the entry.

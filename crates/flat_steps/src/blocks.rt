@@ -1,0 +1,45 @@
+//! Blocks and calls.
+
+ghost use Rattle.std.specs.Prelude.{◌≡◌, IfErr, OnOk};
+ghost use Rattle.silq_mean.specs.Effect.{step, enter_block, leave_block, enter_body, leave_body};
+ghost use Rattle.bit_arith.specs.Calls.{Refused};
+ghost use Rattle.flat_build.specs.Flat.{flat};
+ghost use Rattle.flat_steps.specs.Ready.{Ready};
+
+use crate::state::Flattening;
+use silq_tree::NameId;
+use silq_io::LimitFault;
+
+impl Flattening {
+    /// Opens a block.
+    pub fn enter_block(&mut self) -> Result<(), LimitFault>
+        ensures ok { OnOk result (self.new ≡ flat (step enter_block) self.old) }
+        ensures refused { IfErr result (λ e. Refused e (flat (step enter_block) self.old).built) }
+    {
+        Err(LimitFault::Memory)
+    }
+
+    /// Closes a block.
+    pub fn leave_block(&mut self)
+        ensures { self.new ≡ flat (step leave_block) self.old }
+    {
+        self.variables.close();
+    }
+
+    /// Begins the body of a function, whose parameters are the last values.
+    pub fn enter_body(&mut self, parameters: &[NameId]) -> Result<(), LimitFault>
+        requires { Ready (step (enter_body parameters.now)) self.old }
+        ensures ok { OnOk result (self.new ≡ flat (step (enter_body parameters.now)) self.old) }
+        ensures refused { IfErr result (λ e. Refused e (flat (step (enter_body parameters.now)) self.old).built) }
+    {
+        Err(LimitFault::Memory)
+    }
+
+    /// Ends the body of a function, whose results are the values under way.
+    pub fn leave_body(&mut self) -> Result<(), LimitFault>
+        ensures ok { OnOk result (self.new ≡ flat (step leave_body) self.old) }
+        ensures refused { IfErr result (λ e. Refused e (flat (step leave_body) self.old).built) }
+    {
+        Err(LimitFault::Memory)
+    }
+}

@@ -1,0 +1,20 @@
+#![tactic(auto)]
+//! The state of flattening, and its steps.
+//!
+//! `Flattening` holds what is built so far and what is known of names and values. Each of its calls carries one step of a program's effect
+//! out, exactly as the definition of the flat form (`flat_build/specs/Flat`) says.
+
+mod blocks;
+mod branches;
+mod gates;
+mod names;
+mod operators;
+mod stack;
+mod state;
+mod statements;
+mod taking;
+mod updates;
+mod variables;
+
+pub use branches::Choice;
+pub use state::Flattening;

@@ -1,0 +1,65 @@
+//! Values of variables, and assignments.
+
+ghost use Rattle.std.specs.Prelude.{◌≡◌, IfErr, OnOk};
+ghost use Rattle.silq_mean.specs.Effect.{step, give_static, give_part, assign_to, assign_in_turn, end_name, end_compared};
+ghost use Rattle.bit_arith.specs.Calls.{Refused};
+ghost use Rattle.flat_build.specs.Flat.{flat};
+ghost use Rattle.flat_steps.specs.Ready.{Ready};
+
+use crate::state::Flattening;
+use check_scope::Need;
+use silq_tree::NameId;
+use silq_io::LimitFault;
+
+impl Flattening {
+    /// Gives the number of a static expression.
+    pub fn give_static(&mut self, number: i64) -> Result<(), LimitFault>
+        ensures ok { OnOk result (self.new ≡ flat (step (give_static number)) self.old) }
+        ensures refused { IfErr result (λ e. Refused e (flat (step (give_static number)) self.old).built) }
+    {
+        Err(LimitFault::Memory)
+    }
+
+    /// Gives a variable, or a part of one. In a consumed use a quantum variable is moved.
+    pub fn give_part(&mut self, need: Need, name: NameId, indices: &[i64]) -> Result<(), LimitFault>
+        requires { Ready (step (give_part need name indices.now)) self.old }
+        ensures ok { OnOk result (self.new ≡ flat (step (give_part need name indices.now)) self.old) }
+        ensures refused { IfErr result (λ e. Refused e (flat (step (give_part need name indices.now)) self.old).built) }
+    {
+        Err(LimitFault::Memory)
+    }
+
+    /// Assigns the last value to a variable, or to the part of one that was taken out.
+    pub fn assign_to(&mut self, name: NameId, indices: &[i64]) -> Result<(), LimitFault>
+        requires { Ready (step (assign_to name indices.now)) self.old }
+        ensures ok { OnOk result (self.new ≡ flat (step (assign_to name indices.now)) self.old) }
+        ensures refused { IfErr result (λ e. Refused e (flat (step (assign_to name indices.now)) self.old).built) }
+    {
+        Err(LimitFault::Memory)
+    }
+
+    /// Assigns the last values to variables in turn.
+    pub fn assign_in_turn(&mut self, names: &[NameId]) -> Result<(), LimitFault>
+        requires { Ready (step (assign_in_turn names.now)) self.old }
+        ensures ok { OnOk result (self.new ≡ flat (step (assign_in_turn names.now)) self.old) }
+        ensures refused { IfErr result (λ e. Refused e (flat (step (assign_in_turn names.now)) self.old).built) }
+    {
+        Err(LimitFault::Memory)
+    }
+
+    /// Takes a variable out.
+    pub fn end_name(&mut self, name: NameId) -> Result<(), LimitFault>
+        ensures ok { OnOk result (self.new ≡ flat (step (end_name name)) self.old) }
+        ensures refused { IfErr result (λ e. Refused e (flat (step (end_name name)) self.old).built) }
+    {
+        Err(LimitFault::Memory)
+    }
+
+    /// Takes a variable out, with the value that it was compared with.
+    pub fn end_compared(&mut self, name: NameId) -> Result<(), LimitFault>
+        ensures ok { OnOk result (self.new ≡ flat (step (end_compared name)) self.old) }
+        ensures refused { IfErr result (λ e. Refused e (flat (step (end_compared name)) self.old).built) }
+    {
+        Err(LimitFault::Memory)
+    }
+}

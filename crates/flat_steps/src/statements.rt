@@ -1,0 +1,26 @@
+//! The count of statements, and their lines.
+
+ghost use Rattle.std.specs.Prelude.{◌≡◌, IfOk, IfErr};
+ghost use Rattle.bit_arith.specs.Calls.{Refused};
+ghost use Rattle.flat_build.specs.Flat.{count_statement, on_line};
+
+use crate::state::Flattening;
+use silq_io::LimitFault;
+
+impl Flattening {
+    /// Counts a statement on this line, and gives the line of the statement around it.
+    pub fn begin_statement(&mut self, line: u32) -> Result<u32, LimitFault>
+        ensures outer { IfOk result (λ outer. outer ≡ self.old.setting.line) }
+        ensures ok { IfOk result (λ _. self.new ≡ on_line line (count_statement self.old)) }
+        ensures refused { IfErr result (λ e. Refused e (count_statement self.old).built) }
+    {
+        Err(LimitFault::Memory)
+    }
+
+    /// Goes on in the statement around one, which is on this line.
+    pub fn end_statement(&mut self, outer: u32)
+        ensures { self.new ≡ on_line outer self.old }
+    {
+        self.builder.line(outer);
+    }
+}
