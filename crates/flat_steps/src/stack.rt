@@ -1,7 +1,6 @@
 //! Values under way, and the calls under way.
 
-ghost use Rattle.std.specs.Prelude.{◌≡◌, [], ◌∷◌, Option, Some, None, MatchOption, OnOk, length, take, drop, reverse};
-ghost use Rattle.flat_build.specs.State.{first};
+ghost use Rattle.std.specs.Prelude.{◌≡◌, [], ◌∷◌, IfSome, IfNone, OnOk};
 
 use crate::variables::Variables;
 use flat_build::Known;
@@ -17,6 +16,7 @@ pub(crate) struct Values {
 
 impl Model for Values {
     ghost use Rattle.std.specs.Prelude.{List, reverse};
+    ghost use Rattle.flat_build.specs.declared.known.Known.{Known};
 
     // the last one first
     ghost Value = { List Known };
@@ -41,6 +41,14 @@ impl Values {
         self.items.push(value)?;
         Ok(())
     }
+
+    /// Takes the last value, if there is one.
+    pub(crate) fn pop(&mut self) -> Option<Known>
+        ensures value { IfSome result (λ k. self.old ≡ k ∷ self.new) }
+        ensures none { IfNone result ((self.old ≡ []) × (self.new ≡ [])) }
+    {
+        self.items.pop()
+    }
 }
 
 /// What a call under way will go on with: the variables and values of its caller.
@@ -58,19 +66,19 @@ pub(crate) struct Callers {
 }
 
 impl Model for Caller {
-    ghost use Rattle.flat_build.specs.State.{Caller as Known};
+    ghost use Rattle.flat_build.specs.State.{Caller as KnownCaller};
 
-    ghost Value = { Known };
+    ghost Value = { KnownCaller };
 
     ghost view = { λ c. record { env = c.variables; values = c.values } };
 }
 
 impl Model for Callers {
     ghost use Rattle.std.specs.Prelude.{List, reverse};
-    ghost use Rattle.flat_build.specs.State.{Caller as Known};
+    ghost use Rattle.flat_build.specs.State.{Caller as KnownCaller};
 
     // the nearest first
-    ghost Value = { List Known };
+    ghost Value = { List KnownCaller };
 
     ghost view = { λ c. reverse c.items.items };
 }

@@ -22,6 +22,7 @@ pub(crate) struct Variables {
 
 impl Model for Block {
     ghost use Rattle.silq_mean.specs.Env.{Block as Listed};
+    ghost use Rattle.flat_build.specs.declared.known.Known.{Known};
 
     ghost Value = { Listed Known };
 
@@ -31,6 +32,7 @@ impl Model for Block {
 impl Model for Variables {
     ghost use Rattle.std.specs.Prelude.{reverse};
     ghost use Rattle.silq_mean.specs.Env.{Env};
+    ghost use Rattle.flat_build.specs.declared.known.Known.{Known};
 
     // the innermost block first
     ghost Value = { Env Known };
