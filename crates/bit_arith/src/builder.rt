@@ -1,8 +1,7 @@
 //! A flat form that is built row by row.
 
 ghost use Rattle.std.specs.Prelude.{◌≡◌, ◌<◌, [], length, IfOk, IfErr, Option, None};
-ghost use Rattle.flat_core.specs.Drafts.{empty_draft, with_wire, with_end, finished, over_by_wire, IsNextStep};
-ghost use Rattle.flat_core.specs.Sound.{IsFlat};
+ghost use Rattle.flat_core.specs.Drafts.{empty_draft, with_wire, with_end, finished, over_by_wire, IsNextStep, FitsEnds};
 ghost use Rattle.bit_arith.specs.Built.{begun, push, new_wire, new_wires, next_wire, next_wires, blank, read, made};
 ghost use Rattle.bit_arith.specs.Rows.{measure};
 ghost use Rattle.bit_arith.specs.Calls.{Building, Safe, no_target, IsTarget, AreTargets, Went, Refused};
@@ -163,10 +162,12 @@ impl Builder {
 
     /// The flat form of what was built, with the wires of each parameter and of each result.
     pub fn finish(self, ins: WireLists, outs: WireLists) -> Flat
-        requires { IsFlat (finished self.draft ins outs) }
+        requires { FitsEnds (finished self.draft ins outs) }
         ensures { result ≡ finished self.draft ins outs }
     {
         let Builder { draft, .. } = self;
+        // A draft tells that it is sound.
+        let _outcomes = draft.outcomes();
         draft.finish(ins, outs)
     }
 }
