@@ -31,3 +31,7 @@ pub mod Sparing
 pub mod Spared
 pub mod Settling
 pub mod Zeroes
+pub mod EndsRows
+pub mod EndsKept
+pub mod EndsStates
+pub mod EndsWhole

@@ -53,7 +53,7 @@ use Rattle.flat_build.proofs.Zeroes.{Zeros, zero_flat}
 
 -- ---- the wires of the parameters are inputs
 
-abbrev AllInputs : DraftForm → Type 0
+abbrev pub AllInputs : DraftForm → Type 0
 AllInputs d = (w : WireId) → w.number < length d.wires → (wire_in d.wires w).input ≡ true
 
 last_input : (ws : List WireForm) (k : ℕ) → length ws ≤ k → k < length ws + 1 → (get_or (ws ++ record { input = true; ending = Dropped } ∷ []) k no_wire).input ≡ true
@@ -74,11 +74,11 @@ all_inputs : (n : ℕ) (b : Built) → AllInputs b.draft → AllInputs (input_wi
 all_inputs zero b h = h
 all_inputs (suc n) b h = all_inputs n (record { draft = with_wire b.draft true; over = or_later b.over (over_by_wire b.draft) }) (wire_inputs b.draft h)
 
-begin_inputs : (ss : List Shape) (b : Built) → AllInputs b.draft → AllInputs (inputs ss b).built.draft
+pub begin_inputs : (ss : List Shape) (b : Built) → AllInputs b.draft → AllInputs (inputs ss b).built.draft
 begin_inputs [] b h = h
 begin_inputs (s ∷ ss) b h = begin_inputs ss (input_wires (shape_bits s) b) (all_inputs (shape_bits s) b h)
 
-begin_length : (ss : List Shape) (b : Built) → length (inputs ss b).built.draft.wires ≡ length b.draft.wires + total_size ss
+pub begin_length : (ss : List Shape) (b : Built) → length (inputs ss b).built.draft.wires ≡ length b.draft.wires + total_size ss
 begin_length [] b = omega arith
 begin_length (s ∷ ss) b =
     let e : length (input_wires (shape_bits s) b).draft.wires ≡ length b.draft.wires + shape_bits s = length-inputs (shape_bits s) b in

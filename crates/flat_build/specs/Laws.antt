@@ -1,24 +1,27 @@
 -- The flat form has the meaning of the source.
-use Rattle.std.specs.Prelude.{◌≡◌, Bool, true, false, List, [], ◌∷◌, ◌++◌, length}
+use Rattle.std.specs.Prelude.{◌≡◌, ◌<◌, Bool, true, false, List, [], ◌∷◌, ◌++◌, length}
 use Rattle.amp_core.specs.declared.Amp.{Amp}
 use Rattle.silq_mean.specs.Effect.{Effect, Outcome, follow}
 use Rattle.silq_mean.specs.Table.{Job, total_size, meaning, Honest}
 use Rattle.silq_mean.specs.Term.{Term}
 use Rattle.flat_core.specs.declared.step.WireId.{WireId}
+use Rattle.flat_core.specs.declared.step.StepId.{StepId}
 use Rattle.flat_core.specs.declared.step.Step.{Step}
-use Rattle.flat_core.specs.declared.step.End.TheVariants.{Zeroed}
+use Rattle.flat_core.specs.declared.step.End.TheVariants.{Dropped, Zeroed}
 use Rattle.flat_core.specs.Form.{FlatForm}
-use Rattle.flat_core.specs.Label.{end_of}
-use Rattle.flat_core.specs.Sound.{joined}
+use Rattle.flat_core.specs.Label.{changes, step_at, end_of, is_input}
+use Rattle.flat_core.specs.Sound.{is_x, joined}
+use Rattle.flat_core.specs.Drafts.{FitsEnds}
 use Rattle.flat_mean.specs.Row.{bits_of}
 use Rattle.flat_mean.specs.Path.{input_row}
 use Rattle.flat_mean.specs.Terms.{Term as WireTerm, first_term, do_steps, seen_at}
+use Rattle.bit_arith.specs.Calls.{AreTargets}
 use Rattle.bit_arith.specs.Values.{Clean, forced}
 use Rattle.flat_build.specs.State.{Flattening, are_wires}
 use Rattle.flat_build.specs.Flat.{flat, begin, flattened}
 use Rattle.flat_build.specs.Names.{AllOf}
 use Rattle.flat_build.specs.Good.{Good}
-use Rattle.flat_build.specs.Fine.{Fine, IsOf}
+use Rattle.flat_build.specs.Fine.{Distinct, Fine, IsOf}
 use Rattle.flat_build.specs.Shows.{ListBoth, Related}
 
 -- ---- effects
@@ -55,3 +58,17 @@ EachZero f us = AllOf (λ u. (w : WireId) → end_of f w ≡ Zeroed → u.row w.
 
 abbrev pub ZeroedAreZero : Type 0
 ZeroedAreZero = (j : Job) (input : List Bool) (o : Outcome) → FineJob j → length input ≡ total_size j.shapes → Honest j input → EachZero (flattened j).form (do_steps o (flattened j).form.steps (first_term (input_row (flattened j).form.wires (bits_of input)) ∷ []))
+
+-- ---- ends
+
+-- what the rules of typing are to give of a program's end: each input wire, and each wire that another step than X changes, is returned, measured or
+-- forgotten; the wires that are returned differ, and none of them was measured or forgotten
+pub record EndsWell (j : Job) : Type 0 where
+  pub inputs : (w : WireId) → is_input (flattened j).form w ≡ true → end_of (flattened j).form w ≡ Dropped → ⊥
+  pub dropped : (s : StepId) (w : WireId) → s.number < length (flattened j).form.steps → end_of (flattened j).form w ≡ Dropped → changes w (step_at (flattened j).form s) ≡ true → is_x (step_at (flattened j).form s) ≡ true
+  pub distinct : Distinct (joined (flattened j).form.outs)
+  pub free : AreTargets (flat j.effect (begin j.shapes)).built.draft (joined (flattened j).form.outs)
+
+-- what is made of a program is a flat form
+abbrev pub EndsFit : Type 0
+EndsFit = (j : Job) → FineJob j → EndsWell j → FitsEnds (flattened j).form
