@@ -41,7 +41,7 @@ use Rattle.flat_build.proofs.EndsStates.{ended_flat}
 
 -- ---- the start
 
-ended_empty : Ended empty_draft
+pub ended_empty : Ended empty_draft
 ended_empty = record {
   measured = λ w m. absurd (clash m);
   has_m = λ w q. absurd (output_measured (sym (ap (λ (r : WireForm). r.ending) (get_or_past [] w.number no_wire (omega arith))) ∙ q));
@@ -144,7 +144,7 @@ joined_inputs (s ∷ ss) b =
     ap₂ ◌++◌ (in_made (wires_from n k)) (joined_inputs ss (input_wires k b) ∙ ap (λ m. wires_from m (total_size ss)) (length-inputs k b))
     ∙ from_append n k (total_size ss)
 
-joined_same : (lists : List (List WireId)) → joined lists ≡ all_joined lists
+pub joined_same : (lists : List (List WireId)) → joined lists ≡ all_joined lists
 joined_same [] = refl
 joined_same (ws ∷ lists) = ap (λ us. ws ++ us) (joined_same lists)
 

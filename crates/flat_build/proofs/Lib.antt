@@ -35,3 +35,7 @@ pub mod EndsRows
 pub mod EndsKept
 pub mod EndsStates
 pub mod EndsWhole
+pub mod EndsDraft
+pub mod EndsSums
+pub mod EndsSound
+pub mod EndsFlat

@@ -1,5 +1,5 @@
 -- The flat form has the meaning of the source.
-use Rattle.std.specs.Prelude.{◌≡◌, ◌<◌, Bool, true, false, List, [], ◌∷◌, ◌++◌, length}
+use Rattle.std.specs.Prelude.{◌≡◌, ◌<◌, Bool, true, false, List, [], ◌∷◌, ◌++◌, length, None}
 use Rattle.amp_core.specs.declared.Amp.{Amp}
 use Rattle.silq_mean.specs.Effect.{Effect, Outcome, follow}
 use Rattle.silq_mean.specs.Table.{Job, total_size, meaning, Honest}
@@ -10,7 +10,7 @@ use Rattle.flat_core.specs.declared.step.Step.{Step}
 use Rattle.flat_core.specs.declared.step.End.TheVariants.{Dropped, Zeroed}
 use Rattle.flat_core.specs.Form.{FlatForm}
 use Rattle.flat_core.specs.Label.{changes, step_at, end_of, is_input}
-use Rattle.flat_core.specs.Sound.{is_x, joined}
+use Rattle.flat_core.specs.Sound.{is_x, joined, IsFlat}
 use Rattle.flat_core.specs.Drafts.{FitsEnds}
 use Rattle.flat_mean.specs.Row.{bits_of}
 use Rattle.flat_mean.specs.Path.{input_row}
@@ -69,6 +69,10 @@ pub record EndsWell (j : Job) : Type 0 where
   pub distinct : Distinct (joined (flattened j).form.outs)
   pub free : AreTargets (flat j.effect (begin j.shapes)).built.draft (joined (flattened j).form.outs)
 
--- what is made of a program is a flat form
+-- the ends and the lists of what is made of a program fit
 abbrev pub EndsFit : Type 0
 EndsFit = (j : Job) → FineJob j → EndsWell j → FitsEnds (flattened j).form
+
+-- within all limits what is made of a program is a flat form
+abbrev pub WithinLimitsFlat : Type 0
+WithinLimitsFlat = (j : Job) → FineJob j → EndsWell j → (flattened j).over ≡ None → IsFlat (flattened j).form

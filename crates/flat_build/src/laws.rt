@@ -1,6 +1,6 @@
 //! Laws of flat forms, each a contract over the definitions alone.
 
-ghost use Rattle.flat_build.specs.Laws.{EffectsFollow, FlatHasTheMeaning, ZeroedAreZero, EndsFit};
+ghost use Rattle.flat_build.specs.Laws.{EffectsFollow, FlatHasTheMeaning, ZeroedAreZero, EndsFit, WithinLimitsFlat};
 
 /// Step by step the terms of the flat form show those of the source, in the same order; where the condition in force does not hold the
 /// steps leave each term as it is.
@@ -22,4 +22,9 @@ pub fn zeroed_are_zero()
 /// and those of results the wires that are returned.
 pub fn ends_fit()
     ensures { EndsFit }
+{}
+
+/// Within all limits the form that is made of a program is a flat form.
+pub fn within_limits_flat()
+    ensures { WithinLimitsFlat }
 {}
