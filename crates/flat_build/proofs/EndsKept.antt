@@ -55,7 +55,7 @@ output_measured e = clash (sym (ap is_output e))
 dropped_measured : Dropped ≡ Measured → ⊥
 dropped_measured e = clash (sym (ap is_dropped e))
 
-dropped_output : Dropped ≡ Output → ⊥
+pub dropped_output : Dropped ≡ Output → ⊥
 dropped_output e = clash (ap is_output e)
 
 zeroed_output : Zeroed ≡ Output → ⊥

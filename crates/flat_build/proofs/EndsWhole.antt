@@ -1,5 +1,5 @@
--- The ends and the lists of the form that is made of a program fit.
-use Rattle.std.proofs.Common.{◌≡◌, ℕ, zero, suc, ◌+◌, ◌≤◌, ◌<◌, Bool, true, false, ◌||◌, List, [], ◌∷◌, ◌++◌, length, reverse, Some, slice_get, refl, sym, ap, ap₂, ◌∙◌, subst, arith, ◌⊎◌, inl, inr}
+-- The ends and the lists of the form that is made of a program fit, and within all limits it is a flat form.
+use Rattle.std.proofs.Common.{◌≡◌, ℕ, zero, suc, ◌+◌, ◌≤◌, ◌<◌, Bool, true, false, ◌||◌, List, [], ◌∷◌, ◌++◌, length, reverse, Some, slice_get, refl, sym, ap, ap₂, ◌∙◌, subst, arith, ◌⊎◌, inl, inr, Option, None}
 use Rattle.std.specs.Prelude.{get_or, Contains}
 use Rattle.std.specs.List.{list_any}
 use Rattle.std.proofs.lemmas.Bool.{eq-eqb, cases_lt, cases_eq, or_left, or_right, false_from_ne_true}
@@ -18,7 +18,7 @@ use Rattle.flat_core.specs.Form.{DraftForm, FlatForm, WireForm}
 use Rattle.flat_core.specs.Label.{same_wire, wire_id, step_id, no_wire, no_step, wire_in, end_of, is_input}
 use Rattle.flat_core.specs.Ends.{measures}
 use Rattle.flat_core.specs.Drafts.{FitsEnds, empty_draft, with_wire, over_by_wire, is_measured}
-use Rattle.flat_core.specs.Sound.{joined, NamesExactly}
+use Rattle.flat_core.specs.Sound.{joined, NamesExactly, IsFlat}
 use Rattle.flat_core.proofs.Labels.{same_wire_is, same_wire-refl}
 use Rattle.bit_arith.specs.Built.{Built, begun, or_later, wires_from}
 use Rattle.bit_arith.specs.Calls.{among}
@@ -28,7 +28,7 @@ use Rattle.bit_arith.proofs.Making.{among_past, different_from}
 use Rattle.flat_build.specs.State.{Flattening}
 use Rattle.flat_build.specs.Flat.{flat, begin, inputs, input_wires, flattened, wire_lists, end_all, joined as all_joined}
 use Rattle.flat_build.specs.Good.{Good}
-use Rattle.flat_build.specs.Laws.{FineJob, EndsWell, EndsFit}
+use Rattle.flat_build.specs.Laws.{FineJob, EndsWell, EndsFit, WithinLimitsFlat}
 use Rattle.flat_build.proofs.Later.{end_all_steps, end_all_length, end_all_input}
 use Rattle.flat_build.proofs.Giving.{in_made}
 use Rattle.flat_build.proofs.Goods.{below_targets, different_wires}
@@ -37,126 +37,29 @@ use Rattle.flat_build.proofs.Compose.{no_input, Leads}
 use Rattle.flat_build.proofs.Steps.{leads_flat}
 use Rattle.flat_build.proofs.Whole.{AllInputs, begin_inputs, begin_length}
 use Rattle.flat_build.proofs.EndsKept.{Ended, Turned, ended_wire, end_all_ending, targets_unmeasured, output_measured}
-use Rattle.flat_build.proofs.EndsStates.{ended_flat}
+use Rattle.flat_core.proofs.Drafting.{draft_empty}
+use Rattle.flat_core.proofs.Finishes.{drafts_become_flat}
+use Rattle.flat_build.proofs.EndsDraft.{Sound, sound_wire}
+use Rattle.flat_build.proofs.EndsMine.{end_drafts}
+use Rattle.flat_build.proofs.EndsSound.{sound_flat}
+use Rattle.flat_build.proofs.EndsLists.{Exactly, names_by, contains_among, among_contains, once_different, below_among, first_wires, joined_inputs, joined_same, place}
 
 -- ---- the start
 
-pub ended_empty : Ended empty_draft
+ended_empty : Ended empty_draft
 ended_empty = record {
   measured = λ w m. absurd (clash m);
   has_m = λ w q. absurd (output_measured (sym (ap (λ (r : WireForm). r.ending) (get_or_past [] w.number no_wire (omega arith))) ∙ q));
   no_output = λ w lt q. absurd (omega (arith, lt));
 }
 
-ended_wires : (n : ℕ) (b : Built) → Ended b.draft → Ended (input_wires n b).draft
-ended_wires zero b h = h
-ended_wires (suc n) b h = ended_wires n (record { draft = with_wire b.draft true; over = or_later b.over (over_by_wire b.draft) }) (ended_wire b.draft true h)
+sound_inputs : (n : ℕ) (b : Built) → Sound b → Sound (input_wires n b)
+sound_inputs zero b h = h
+sound_inputs (suc n) b h = sound_inputs n (record { draft = with_wire b.draft true; over = or_later b.over (over_by_wire b.draft) }) (sound_wire true b h)
 
-ended_inputs : (ss : List Shape) (b : Built) → Ended b.draft → Ended (inputs ss b).built.draft
-ended_inputs [] b h = h
-ended_inputs (s ∷ ss) b h = ended_inputs ss (input_wires (shape_bits s) b) (ended_wires (shape_bits s) b h)
-
--- ---- lists that name some wires
-
-record Exactly (ws : List WireId) (IsOne : WireId → Type 0) : Type 0 where
-  only : (w : WireId) → Contains ws w → IsOne w
-  each : (w : WireId) → IsOne w → Contains ws w
-  once : (i j : ℕ) (w : WireId) → slice_get ws i ≡ Some w → slice_get ws j ≡ Some w → i ≡ j
-
-names_by : (lists : List (List WireId)) (ws : List WireId) (IsOne : WireId → Type 0) → joined lists ≡ ws → Exactly ws IsOne → NamesExactly lists IsOne
-names_by lists ws IsOne e x =
-    let y : Exactly (joined lists) IsOne = subst (λ us. Exactly us IsOne) (sym e) x in
-    record { only = y.only; each = y.each; once = y.once }
-
-contains_among : (ws : List WireId) (w : WireId) → Contains ws w → among ws w ≡ true
-contains_among ws w c = list_any_at (same_wire w) ws c.0 w c.1 (ap (same_wire w) c.2 ∙ same_wire-refl w)
-
-among_contains : (ws : List WireId) (w : WireId) → among ws w ≡ true → Contains ws w
-among_contains ws w h = Contains-from_any same_wire_is w ws h
-
-some_is : (a b : WireId) → Some a ≡ Some b → a ≡ b
-some_is a b e = cc
-
-at_among : (ws : List WireId) (j : ℕ) (w : WireId) → slice_get ws j ≡ Some w → among ws w ≡ true
-at_among [] j w e = absurd cc
-at_among (v ∷ ws) zero w e = or_left (same_wire w v) (among ws w) (ap (same_wire w) (some_is v w e) ∙ same_wire-refl w)
-at_among (v ∷ ws) (suc j) w e = or_right (same_wire w v) (among ws w) (at_among ws j w e)
-
-once_different : (ws : List WireId) → Different ws → (i j : ℕ) (w : WireId) → slice_get ws i ≡ Some w → slice_get ws j ≡ Some w → i ≡ j
-once_different [] d i j w e f = absurd cc
-once_different (v ∷ ws) d zero zero w e f = refl
-once_different (v ∷ ws) d zero (suc j) w e f = absurd (clash (sym d.0 ∙ (ap (among ws) (some_is v w e) ∙ at_among ws j w f)))
-once_different (v ∷ ws) d (suc i) zero w e f = absurd (clash (sym d.0 ∙ (ap (among ws) (some_is v w f) ∙ at_among ws i w e)))
-once_different (v ∷ ws) d (suc i) (suc j) w e f = ap suc (once_different ws d.1 i j w e f)
-
-below_among : (n : ℕ) (ws : List WireId) (w : WireId) → Below n ws → among ws w ≡ true → w.number < n
-below_among n ws w h a = at ws h (among_contains ws w a).0 w (among_contains ws w a).1 (among_contains ws w a).2
-  where
-    at : (ws : List WireId) → Below n ws → (k : ℕ) (w : WireId) → k < length ws → get_or ws k w ≡ w → w.number < n
-    at [] h k w lt e = absurd (omega (arith, lt))
-    at (v ∷ ws) h zero w lt e = subst (λ (x : WireId). x.number < n) e h.0
-    at (v ∷ ws) h (suc k) w lt e = at ws h.1 k w (omega (arith, lt)) e
-
-among_within : (a n : ℕ) (w : WireId) → a ≤ w.number → w.number < a + n → among (wires_from a n) w ≡ true
-among_within a zero w le lt = absurd (omega (arith, le, lt))
-among_within a (suc n) w le lt = elim (cases_eq w.number a) [
-  | inl e ↦ or_left (same_wire w (wire_id a)) (among (wires_from (suc a) n) w) (eq-eqb w.number a e)
-  | inr f ↦ or_right (same_wire w (wire_id a)) (among (wires_from (suc a) n) w) (among_within (suc a) n w (omega (arith, le, f)) (omega (arith, lt)))
-]
-
--- the first n wires
-first_wires : (n : ℕ) (IsOne : WireId → Type 0) → ((w : WireId) → w.number < n → IsOne w) → ((w : WireId) → IsOne w → w.number < n) → Exactly (wires_from 0 n) IsOne
-first_wires n IsOne f g = record {
-  only = λ w c. f w (within w (contains_among (wires_from 0 n) w c) (cases_lt w.number n));
-  each = λ w i. let lt = g w i in among_contains (wires_from 0 n) w (among_within 0 n w (omega arith) (omega (arith, lt)));
-  once = once_different (wires_from 0 n) (different_from 0 n);
-}
-  where
-    within : (w : WireId) → among (wires_from 0 n) w ≡ true → (w.number < n) ⊎ (n ≤ w.number) → w.number < n
-    within w a (inl lt) = lt
-    within w a (inr le) = absurd (clash (sym (among_past 0 n w (omega (arith, le))) ∙ a))
-
--- ---- the lists of parameters
-
-from_append : (n k m : ℕ) → wires_from n k ++ wires_from (n + k) m ≡ wires_from n (k + m)
-from_append n zero m = ap₂ wires_from (plus_none n) (none_plus m)
-  where
-    plus_none : (n : ℕ) → n + 0 ≡ n
-    plus_none n = omega arith
-
-    none_plus : (m : ℕ) → m ≡ 0 + m
-    none_plus m = omega arith
-from_append n (suc k) m =
-    ap (λ ws. wire_id n ∷ ws) (ap (λ i. wires_from (suc n) k ++ wires_from i m) (turn n k) ∙ from_append (suc n) k m)
-    ∙ ap (wires_from n) (up k m)
-  where
-    turn : (n k : ℕ) → n + suc k ≡ suc n + k
-    turn n k = omega arith
-
-    up : (k m : ℕ) → suc (k + m) ≡ suc k + m
-    up k m = omega arith
-
-joined_inputs : (ss : List Shape) (b : Built) → joined (wire_lists (inputs ss b).answer) ≡ wires_from (length b.draft.wires) (total_size ss)
-joined_inputs [] b = refl
-joined_inputs (s ∷ ss) b =
-    let n : ℕ = length b.draft.wires in
-    let k : ℕ = shape_bits s in
-    ap₂ ◌++◌ (in_made (wires_from n k)) (joined_inputs ss (input_wires k b) ∙ ap (λ m. wires_from m (total_size ss)) (length-inputs k b))
-    ∙ from_append n k (total_size ss)
-
-pub joined_same : (lists : List (List WireId)) → joined lists ≡ all_joined lists
-joined_same [] = refl
-joined_same (ws ∷ lists) = ap (λ us. ws ++ us) (joined_same lists)
-
--- ---- steps that measure
-
-place : (w : WireId) (ss : List Step) → is_measured ss w ≡ true → (t : StepId) × (t.number < length ss) × (measures w (get_or ss t.number no_step) ≡ true)
-place w [] m = absurd (clash m)
-place w (s ∷ ss) m = pick (measures w s) refl m (place w ss)
-  where
-    pick : (c : Bool) → measures w s ≡ c → c || is_measured ss w ≡ true → (is_measured ss w ≡ true → (t : StepId) × (t.number < length ss) × (measures w (get_or ss t.number no_step) ≡ true)) → (t : StepId) × (t.number < length (s ∷ ss)) × (measures w (get_or (s ∷ ss) t.number no_step) ≡ true)
-    pick true e m rest = (step_id 0, omega arith, e)
-    pick false e m rest = let (t, lt, q) = rest m in (step_id (suc t.number), omega (arith, lt), q)
+sound_begin : (ss : List Shape) (b : Built) → Sound b → Sound (inputs ss b).built
+sound_begin [] b h = h
+sound_begin (s ∷ ss) b h = sound_begin ss (input_wires (shape_bits s) b) (sound_inputs (shape_bits s) b h)
 
 -- ---- the whole form
 
@@ -176,8 +79,11 @@ module _ (j : Job) (fine : FineJob j) (well : EndsWell j) where
   good : Good (begin j.shapes)
   good = good_begin j.shapes
 
+  sound : Sound end
+  sound = sound_flat j.effect (begin j.shapes) good fine.0 (sound_begin j.shapes (begun empty_draft) (record { ended = ended_empty; draft = λ o. draft_empty }))
+
   ended : Ended end.draft
-  ended = ended_flat j.effect (begin j.shapes) good fine.0 (ended_inputs j.shapes (begun empty_draft) ended_empty)
+  ended = sound.ended
 
   below : Below (length end.draft.wires) outs
   below = subst (Below (length end.draft.wires)) (joined_same form.outs) (below_targets end.draft (joined form.outs) well.free)
@@ -263,5 +169,12 @@ module _ (j : Job) (fine : FineJob j) (well : EndsWell j) where
     outs_name = outs_name;
   }
 
+  pub flat_within : (flattened j).over ≡ None → IsFlat form
+  flat_within over =
+      drafts_become_flat (end_all Output outs end).draft (wire_lists (reverse (begin j.shapes).values)) form.outs (end_drafts Output outs end below sound.draft over) fitting
+
 pub ends_fit : EndsFit
 ends_fit j fine well = fitting j fine well
+
+pub within_limits_flat : WithinLimitsFlat
+within_limits_flat j fine well over = flat_within j fine well over

@@ -31,11 +31,11 @@ pub mod Sparing
 pub mod Spared
 pub mod Settling
 pub mod Zeroes
-pub mod EndsRows
 pub mod EndsKept
-pub mod EndsStates
-pub mod EndsWhole
 pub mod EndsDraft
 pub mod EndsSums
+pub mod EndsTests
+pub mod EndsMine
 pub mod EndsSound
-pub mod EndsFlat
+pub mod EndsLists
+pub mod EndsWhole

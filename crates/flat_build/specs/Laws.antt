@@ -62,7 +62,7 @@ ZeroedAreZero = (j : Job) (input : List Bool) (o : Outcome) → FineJob j → le
 -- ---- ends
 
 -- what the rules of typing are to give of a program's end: each input wire, and each wire that another step than X changes, is returned, measured or
--- forgotten; the wires that are returned differ, and none of them was measured or forgotten
+-- forgotten; the wires that are returned differ, and none of them was measured
 pub record EndsWell (j : Job) : Type 0 where
   pub inputs : (w : WireId) → is_input (flattened j).form w ≡ true → end_of (flattened j).form w ≡ Dropped → ⊥
   pub dropped : (s : StepId) (w : WireId) → s.number < length (flattened j).form.steps → end_of (flattened j).form w ≡ Dropped → changes w (step_at (flattened j).form s) ≡ true → is_x (step_at (flattened j).form s) ≡ true

@@ -1,4 +1,4 @@
-use Rattle.flat_build.proofs.EndsFlat.{within_limits_flat}
+use Rattle.flat_build.proofs.EndsWhole.{within_limits_flat}
 use Rattle.flat_build.proofs.laws.within_limits_flat.Goals as goal
 
 pub returns : goal.returns
