@@ -1,5 +1,5 @@
 -- Within all limits the rows of flips and turns make a draft of a flat form.
-use Rattle.std.proofs.Common.{◌≡◌, ℕ, zero, suc, ◌+◌, ◌%◌, ◌≤◌, ◌<◌, ltb, Bool, true, false, cond, not, ◌&&◌, ◌==◌, List, [], ◌∷◌, ◌++◌, length, Option, Some, None, IfSome, refl, sym, ap, ◌∙◌, subst, arith, append-nil}
+use Rattle.std.proofs.Common.{◌≡◌, ℕ, zero, suc, ◌+◌, ◌%◌, ◌≤◌, ◌<◌, ltb, Bool, true, false, cond, ◌==◌, List, [], ◌∷◌, ◌++◌, length, Option, Some, None, IfSome, refl, sym, ap, ◌∙◌, subst, arith, append-nil}
 use Rattle.std.proofs.lemmas.Bool.{eqb-false, false_from_ne_true, ltb-true}
 use Rattle.silq_io.specs.declared.limit.OverLimit.{OverLimit}
 use Rattle.flat_core.specs.declared.step.Step.{Step}
@@ -16,8 +16,8 @@ use Rattle.bit_arith.specs.declared.operand.Operand.TheVariants.{Const, Literal}
 use Rattle.bit_arith.specs.Built.{Built, Setting, or_later, push, new_wire, new_wires, next_wire, next_wires, wires_from, plus, literals, under}
 use Rattle.bit_arith.specs.Rows.{gathered, all_but_last, last_of, flip_lits, flip_if_any, flip, turn_lits, turn, had_under, had, flip_by, flip_up, flip_down}
 use Rattle.bit_arith.specs.Calls.{Targets, no_target, among, AllSafe, IsTarget, AreTargets, WasRead}
-use Rattle.bit_arith.specs.Fits.{FitsLit, LitsFit}
-use Rattle.bit_arith.proofs.Grows.{XGrows, length-new_wire, length-new_wires, steps-new_wires, gathered_x, flip_x, target_more, all_safe_more, all_safe_fewer}
+use Rattle.bit_arith.specs.Fits.{LitsFit}
+use Rattle.bit_arith.proofs.Grows.{XGrows, length-new_wire, length-new_wires, steps-new_wires, gathered_x, flip_x, target_more, targets_more, all_safe_more, all_safe_fewer}
 use Rattle.bit_arith.proofs.Keeps.{flip_by_x, flip_down_x}
 use Rattle.bit_arith.proofs.Fits.{next_flip, next_flip_by, next_flip_both, next_had, next_turn, made_fits, fold_next, fold_fits, gathered_fits, literals_fit, fits_front, fits_untargeted}
 use Rattle.bit_arith.proofs.Steps.{clash, apart_above, or_false}
@@ -210,10 +210,6 @@ first_apart w ws n v lt t = same_wire_swap v w (or_false (same_wire v w) (among 
 pub rest_apart : (w : WireId) (ws : List WireId) (n : ℕ) (v : WireId) → v.number < n → among (w ∷ ws) v ≡ false → among ws v ≡ false
 rest_apart w ws n v lt t = (or_false (same_wire v w) (among ws v) t).1
 
-pub targets_on : {b e : Built} → XGrows b e → (ws : List WireId) → AreTargets b.draft ws → AreTargets e.draft ws
-targets_on x [] t = tt
-targets_on x (w ∷ ws) t = (target_more x w t.0, targets_on x ws t.1)
-
 pub flip_up_sound : (at : Setting) (ws : List WireId) (cs : List (List (List Operand))) (b : Built) → AreTargets b.draft ws → AllSafe (length b.draft.wires) (among ws) (under at []) → EachOf (length b.draft.wires) (among ws) cs → Sound b → Sound (flip_up at ws cs b)
 flip_up_sound at [] cs b t g f s = s
 flip_up_sound at (w ∷ ws) [] b t g f s = s
@@ -221,7 +217,7 @@ flip_up_sound at (w ∷ ws) (c ∷ cs) b t g f s =
     let n : ℕ = length b.draft.wires in
     let x : XGrows b (flip_by at w c b) = flip_by_x at w c b in
     let m : ℕ = length (flip_by at w c b).draft.wires in
-    flip_up_sound at ws cs (flip_by at w c b) (targets_on x ws t.1)
+    flip_up_sound at ws cs (flip_by at w c b) (targets_more x ws t.1)
     (all_safe_more n m (among ws) (under at []) x.grows.few (all_safe_fewer n (among (w ∷ ws)) (among ws) (under at []) (rest_apart w ws n) g))
     (each_of_more n m (among ws) cs x.grows.few (each_of_fewer n (among (w ∷ ws)) (among ws) cs (rest_apart w ws n) f.1))
     (flip_by_sound at w c b t.0 (all_safe_fewer n (among (w ∷ ws)) (same_wire w) (under at []) (first_apart w ws n) g) (each_fewer n (among (w ∷ ws)) (same_wire w) c (first_apart w ws n) f.0) s)

@@ -1,39 +1,28 @@
 -- Lists that name some wires, each once.
-use Rattle.std.proofs.Common.{◌≡◌, ℕ, zero, suc, ◌+◌, ◌≤◌, ◌<◌, Bool, true, false, ◌||◌, List, [], ◌∷◌, ◌++◌, length, reverse, Some, slice_get, refl, sym, ap, ap₂, ◌∙◌, subst, arith, ◌⊎◌, inl, inr}
+use Rattle.std.proofs.Common.{◌≡◌, ℕ, zero, suc, ◌+◌, ◌≤◌, ◌<◌, Bool, true, false, ◌||◌, List, [], ◌∷◌, ◌++◌, length, Some, slice_get, refl, sym, ap, ap₂, ◌∙◌, subst, arith, ◌⊎◌, inl, inr}
 use Rattle.std.specs.Prelude.{get_or, Contains}
-use Rattle.std.specs.List.{list_any}
-use Rattle.std.proofs.lemmas.Bool.{eq-eqb, cases_lt, cases_eq, or_left, or_right, false_from_ne_true}
-use Rattle.std.proofs.lemmas.List.{get_or_past, reverse-reverse}
+use Rattle.std.proofs.lemmas.Bool.{eq-eqb, cases_lt, cases_eq, or_left, or_right}
 use Rattle.std.proofs.lemmas.List.Folds.{list_any_at}
 use Rattle.std.proofs.lemmas.Map.Views.{Contains-from_any}
 use Rattle.silq_types.specs.declared.types.Shape.{Shape}
 use Rattle.silq_types.specs.Types.{shape_bits}
-use Rattle.silq_mean.specs.Effect.{follow}
-use Rattle.silq_mean.specs.Table.{Job, total_size}
+use Rattle.silq_mean.specs.Table.{total_size}
 use Rattle.flat_core.specs.declared.step.Step.{Step}
 use Rattle.flat_core.specs.declared.step.WireId.{WireId}
 use Rattle.flat_core.specs.declared.step.StepId.{StepId}
-use Rattle.flat_core.specs.declared.step.End.TheVariants.{Output, Measured}
-use Rattle.flat_core.specs.Form.{DraftForm, FlatForm, WireForm}
-use Rattle.flat_core.specs.Label.{same_wire, wire_id, step_id, no_wire, no_step, wire_in, end_of, is_input}
+use Rattle.flat_core.specs.Label.{same_wire, wire_id, step_id, no_step}
 use Rattle.flat_core.specs.Ends.{measures}
-use Rattle.flat_core.specs.Drafts.{FitsEnds, empty_draft, with_wire, over_by_wire, is_measured}
+use Rattle.flat_core.specs.Drafts.{is_measured}
 use Rattle.flat_core.specs.Sound.{joined, NamesExactly}
 use Rattle.flat_core.proofs.Labels.{same_wire_is, same_wire-refl}
-use Rattle.bit_arith.specs.Built.{Built, begun, or_later, wires_from}
+use Rattle.bit_arith.specs.Built.{Built, wires_from}
 use Rattle.bit_arith.specs.Calls.{among}
 use Rattle.bit_arith.specs.Does.{Below, Different}
 use Rattle.bit_arith.proofs.Steps.{clash}
 use Rattle.bit_arith.proofs.Making.{among_past, different_from}
-use Rattle.flat_build.specs.State.{Flattening}
-use Rattle.flat_build.specs.Flat.{flat, begin, inputs, input_wires, flattened, wire_lists, end_all, joined as all_joined}
-use Rattle.flat_build.specs.Good.{Good}
-use Rattle.flat_build.specs.Laws.{FineJob, EndsWell, EndsFit}
-use Rattle.flat_build.proofs.Later.{end_all_steps, end_all_length, end_all_input}
+use Rattle.flat_build.specs.Flat.{inputs, input_wires, wire_lists, joined as all_joined}
 use Rattle.flat_build.proofs.Giving.{in_made}
-use Rattle.flat_build.proofs.Goods.{below_targets, different_wires}
-use Rattle.flat_build.proofs.Begins.{length-inputs, good_begin}
-use Rattle.flat_build.proofs.Compose.{no_input, Leads}
+use Rattle.flat_build.proofs.Begins.{length-inputs}
 
 -- ---- lists that name some wires
 

@@ -1,7 +1,6 @@
 -- Within all limits what takes values over, measures and sets ends makes a draft of a flat form.
-use Rattle.std.proofs.Common.{◌≡◌, ℕ, ◌≤◌, ◌<◌, ltb, Bool, true, false, cond, not, ◌&&◌, ◌||◌, List, [], ◌∷◌, length, replicate, ℤ, Option, Some, None, nat_abs, refl, sym, ap, ◌∙◌, subst, arith, length-set}
+use Rattle.std.proofs.Common.{◌≡◌, ℕ, ◌≤◌, ◌<◌, ltb, Bool, true, false, cond, not, ◌||◌, List, [], ◌∷◌, length, replicate, Some, None, refl, sym, subst, arith, length-set}
 use Rattle.std.proofs.lemmas.Bool.{ltb-true}
-use Rattle.silq_tree.specs.declared.node.NameId.{NameId}
 use Rattle.silq_tree.specs.declared.node.UnaryOp.{UnaryOp}
 use Rattle.silq_tree.specs.declared.node.UnaryOp.TheVariants.{Not, Neg}
 use Rattle.silq_tree.specs.declared.node.BinaryOp.{BinaryOp}
@@ -9,47 +8,35 @@ use Rattle.silq_tree.specs.declared.node.BinaryOp.TheVariants.{Or, And, Eq, Ne, 
 use Rattle.silq_tree.specs.declared.node.UpdateOp.{UpdateOp}
 use Rattle.silq_tree.specs.declared.node.UpdateOp.TheVariants as updates
 use Rattle.silq_types.specs.declared.types.Shape.{Shape}
-use Rattle.silq_types.specs.declared.types.Shape.TheVariants.{Bit}
-use Rattle.silq_types.specs.Types.{shape_bits}
 use Rattle.check_scope.specs.Uses.{is_consumed}
 use Rattle.silq_mean.specs.declared.receiver.Receiver.{Receiver}
 use Rattle.silq_mean.specs.declared.receiver.Receiver.TheVariants.{Variable, Argument, CallResult, EntryOutput}
-use Rattle.silq_mean.specs.Effect.{Effect, nothing, ◌>>◌, statement, step, mix, measure as measured, claim, choice, Step, give_static, give_typed, give_part, one_operand, two_operands, copy_last, repeat_last, flip_last, turn_by, turn_all, receive, assign_to, assign_in_turn, update_to, end_name, end_compared, enter_block, leave_block, enter_body, leave_body}
 use Rattle.silq_io.specs.declared.limit.OverLimit.{OverLimit}
 use Rattle.flat_core.specs.declared.step.WireId.{WireId}
 use Rattle.flat_core.specs.declared.step.Step.TheVariants as steps
 use Rattle.flat_core.specs.declared.step.End.{End}
-use Rattle.flat_core.specs.declared.step.End.TheVariants.{Measured, Zeroed}
 use Rattle.flat_core.specs.Form.{DraftForm}
 use Rattle.flat_core.specs.Label.{same_wire, wire_in}
 use Rattle.flat_core.specs.Sound.{most_steps, most_outcomes, count_measures}
-use Rattle.flat_core.specs.Drafts.{with_end, over_by_step, IsDraft, IsNextStep}
+use Rattle.flat_core.specs.Drafts.{with_end, over_by_step, IsDraft}
 use Rattle.flat_core.proofs.Drafting.{draft_step, draft_end}
 use Rattle.bit_arith.specs.declared.operand.Operand.{Operand}
 use Rattle.bit_arith.specs.declared.operand.Operand.TheVariants.{Const, Literal}
-use Rattle.bit_arith.specs.Built.{Built, Setting, Given, new_wires, next_wires, made, negated, under}
-use Rattle.bit_arith.specs.Rows.{flip, turn, had, measure, flip_each, singles, copy}
-use Rattle.bit_arith.specs.Calls.{no_target, among, Safe, AllSafe, IsTarget, AreTargets, WasRead}
+use Rattle.bit_arith.specs.Built.{Built, Setting, Given, new_wires, next_wires}
+use Rattle.bit_arith.specs.Rows.{measure, singles, copy}
+use Rattle.bit_arith.specs.Calls.{no_target, among, AllSafe, IsTarget, AreTargets}
 use Rattle.bit_arith.specs.Does.{Below, Different}
-use Rattle.bit_arith.proofs.Grows.{XGrows, turn_x, measure_grows, measure_others, all_safe_more}
-use Rattle.bit_arith.proofs.Keeps.{flip_up_x, flip_each_x}
-use Rattle.bit_arith.proofs.Listed.{below_more, safe_one}
-use Rattle.bit_arith.proofs.Making.{different_from, negated_safe}
-use Rattle.bit_arith.proofs.Safe.{under_safe}
-use Rattle.bit_arith.proofs.Steps.{or_false, and_true}
+use Rattle.bit_arith.proofs.Grows.{targets_more, measure_grows, measure_others}
+use Rattle.bit_arith.proofs.Keeps.{flip_up_x}
+use Rattle.bit_arith.proofs.Listed.{below_more}
+use Rattle.bit_arith.proofs.Making.{different_from}
+use Rattle.bit_arith.proofs.Steps.{or_false}
 use Rattle.flat_build.specs.declared.known.TypedBits.{TypedBits}
-use Rattle.flat_build.specs.declared.known.Known.{Known}
-use Rattle.flat_build.specs.declared.known.Known.TheVariants.{Static, Shown, Lent, Absent}
-use Rattle.flat_build.specs.State.{Caller, Flattening, last, drop_last, operands_of, typed_as, typed_like, part_shape, part_of, is_signed, are_wires, are_new, as_they_are, copied, taken, kept, wires_in, only_wire, only_operand}
-use Rattle.flat_build.specs.Flat.{by_one, by_two, on_one, on_two_typed, began_at, as_operand, give_copy, give_repeated, repeated, on_wire, turn_both, end_all, measure_all, measure_value, shape_for, taken_for, receive_value, known_in, update_by, update_variable, zero_variable, without_name, back_to, flat_step, count_statement, on_line, entered, enter_branch, chosen_by, first_branch, second_branch, flat}
-use Rattle.flat_build.specs.Good.{Good, IsShown, IsKnown}
-use Rattle.flat_build.specs.Fine.{Distinct, IsOf, MayChange, MayTake, MayTurn, MayMeasure, MayClaim, UpdatesPart, without_part, FineStep, Fine}
-use Rattle.flat_build.proofs.Kept.{known_last, known_drop}
-use Rattle.flat_build.proofs.Later.{later_then, later_read}
-use Rattle.flat_build.proofs.Giving.{Takes, takes_taken, below_in, in_made, copy_answer, only_safe, safe_zeros, safe_repeated, typed_as_known, typed_as_safe, typed_like_safe, as_operand_known}
-use Rattle.flat_build.proofs.Goods.{Goes, Branches, at_second, good_statement, goes_first, goes_second, goes_flat, below_targets, chosen_safe, last_spared, only_guard}
-use Rattle.flat_build.proofs.EndsKept.{Ended, ended_zeroed, ended_measured, targets_unmeasured}
-use Rattle.flat_build.proofs.EndsDraft.{Sound, both_none, some_none, limit_kept, flip_sound, turn_sound, had_sound, targets_on, new_targets}
+use Rattle.flat_build.specs.State.{Flattening, is_signed, are_wires, are_new, as_they_are, copied, taken, kept, wires_in, only_wire, only_operand}
+use Rattle.flat_build.specs.Flat.{by_one, by_two, end_all, measure_all, taken_for, update_by}
+use Rattle.flat_build.specs.Fine.{Distinct, MayTake}
+use Rattle.flat_build.proofs.Giving.{in_made, copy_answer, only_safe, safe_zeros}
+use Rattle.flat_build.proofs.EndsDraft.{Sound, both_none, some_none, limit_kept, new_targets}
 use Rattle.flat_build.proofs.EndsSums.{Guard, copy_sound, flip_each_sound, sum_sound, difference_sound, add_into_sound, sub_into_sound}
 use Rattle.flat_build.proofs.EndsTests.{product_sound, both_sound, either_sound, equal_sound, less_sound}
 
@@ -152,7 +139,7 @@ pub record Mine (row : Given (List Operand)) : Type 0 where
 
 copy_targets : (at : Setting) (ps : List Operand) (b : Built) → Sound b → AreTargets (copy at ps b).built.draft (copy at ps b).answer
 unfolding copy
-copy_targets at ps b s = targets_on (flip_up_x at (next_wires (length ps) b) (singles ps) (new_wires (length ps) b)) (next_wires (length ps) b) (new_targets (length ps) b s)
+copy_targets at ps b s = targets_more (flip_up_x at (next_wires (length ps) b) (singles ps) (new_wires (length ps) b)) (next_wires (length ps) b) (new_targets (length ps) b s)
 
 distinct_wires : (ws : List WireId) → Different ws → Distinct ws
 distinct_wires [] d = tt

@@ -1,20 +1,20 @@
 -- Within all limits the rows of copies and sums make a draft of a flat form.
-use Rattle.std.proofs.Common.{◌≡◌, ℕ, zero, suc, ◌+◌, ◌≤◌, ◌<◌, Bool, true, false, cond, not, List, [], ◌∷◌, ◌++◌, length, refl, sym, ap, ◌∙◌, arith}
+use Rattle.std.proofs.Common.{◌≡◌, ℕ, ◌≤◌, ◌<◌, false, List, [], ◌∷◌, length, refl, arith}
 use Rattle.flat_core.specs.declared.step.WireId.{WireId}
 use Rattle.flat_core.specs.Form.{DraftForm}
 use Rattle.flat_core.specs.Label.{same_wire}
 use Rattle.bit_arith.specs.declared.operand.Operand.{Operand}
-use Rattle.bit_arith.specs.declared.operand.Operand.TheVariants.{Const, Literal}
-use Rattle.bit_arith.specs.Built.{Built, Setting, new_wire, new_wires, next_wire, next_wires, wires_from, made, all_made, negated, all_negated, top_negated, read, under}
-use Rattle.bit_arith.specs.Rows.{flip, flip_by, flip_up, flip_down, singles, triples, products, pairs, copy, flip_each, carry_bit, carries, carry, sum_by, sum, difference, into_by, add_into, sub_into, lower, product_into, product, both, either, signed, differ_as, differ, matches, all_of, equal, borrow, less}
-use Rattle.bit_arith.specs.Calls.{Targets, no_target, among, Safe, AllSafe, IsTarget, AreTargets}
+use Rattle.bit_arith.specs.declared.operand.Operand.TheVariants.{Const}
+use Rattle.bit_arith.specs.Built.{Built, Setting, new_wire, new_wires, next_wire, next_wires, made, all_made, all_negated, under}
+use Rattle.bit_arith.specs.Rows.{singles, triples, products, pairs, copy, flip_each, carry_bit, carries, carry, sum_by, sum, difference, into_by, add_into, sub_into}
+use Rattle.bit_arith.specs.Calls.{Targets, no_target, among, Safe, AllSafe, AreTargets}
 use Rattle.bit_arith.specs.Does.{NoneNew}
-use Rattle.bit_arith.proofs.Grows.{XGrows, x_then, new_wire_x, new_wires_x, length-new_wire, length-new_wires, all_safe_more, safe_more}
-use Rattle.bit_arith.proofs.Keeps.{flip_up_x, carry_bit_x, carries_x, carry_x, add_into_x, differ_as_x, differ_x, matches_x, flip_by_x}
+use Rattle.bit_arith.proofs.Grows.{targets_more, XGrows, x_then, new_wire_x, length-new_wire, length-new_wires, all_safe_more, safe_more}
+use Rattle.bit_arith.proofs.Keeps.{carry_bit_x, carries_x, carry_x}
 use Rattle.bit_arith.proofs.Making.{among_past}
 use Rattle.bit_arith.proofs.Safe.{Wider, safe_in, all_safe_in, under_safe, under_in, beside_new, beside_new_wires, negated_safe, all_negated_safe, top_negated_safe, all_made_safe}
 use Rattle.bit_arith.proofs.Safe as safe
-use Rattle.flat_build.proofs.EndsDraft.{Sound, sound_new, sound_wires, new_target, new_targets, flip_sound, Each, EachOf, flip_by_sound, flip_up_sound, flip_down_sound, rest_apart, targets_on}
+use Rattle.flat_build.proofs.EndsDraft.{Sound, sound_new, sound_wires, new_target, new_targets, EachOf, flip_by_sound, flip_up_sound, flip_down_sound}
 
 -- the condition in force is safe from some wires
 abbrev pub Guard : Setting → ℕ → Targets → Type 0
@@ -144,7 +144,7 @@ sum_by_sound at carriers ps qs b g r p q s =
     let T : Targets = among (next_wires k b) in
     let wide : Wider n no_target i T = beside_next k b i (further le x.grows.few) in
     let free : NoneNew b1.draft T = λ w past. among_past n k w (let e = length-new_wires k b in same_past e past) in
-    flip_up_sound at (next_wires k b) (triples ps qs cs.answer) cs.built (targets_on x (next_wires k b) (new_targets k b s)) (under_in n no_target i T wide at [] g)
+    flip_up_sound at (next_wires k b) (triples ps qs cs.answer) cs.built (targets_more x (next_wires k b) (new_targets k b s)) (under_in n no_target i T wide at [] g)
     (triples_each i T ps qs cs.answer (all_safe_in n no_target i T wide ps p) (all_safe_in n no_target i T wide qs q) (carry_safe T at carriers qs b1 free))
     (carry_sound at carriers qs b1 (all_safe_more n m no_target (under at []) le g) (all_safe_more n m no_target carriers le r) (all_safe_more n m no_target qs le q) (sound_wires k b s))
   where
@@ -169,7 +169,7 @@ into_by_sound at carriers ws qs b t g r q s =
     let cs = carry at carriers qs b in
     let x : XGrows b cs.built = carry_x at carriers qs b in
     let i : ℕ = length cs.built.draft.wires in
-    flip_down_sound at ws (pairs qs cs.answer) cs.built (targets_on x ws t) (all_safe_more n i (among ws) (under at []) x.grows.few g)
+    flip_down_sound at ws (pairs qs cs.answer) cs.built (targets_more x ws t) (all_safe_more n i (among ws) (under at []) x.grows.few g)
     (pairs_each i (among ws) qs cs.answer (all_safe_more n i (among ws) qs x.grows.few q) (carry_safe (among ws) at carriers qs b (λ w past. safe.among_past b.draft ws w t past)))
     (carry_sound at carriers qs b (plain_safe n (among ws) (under at []) g) r (plain_safe n (among ws) qs q) s)
 

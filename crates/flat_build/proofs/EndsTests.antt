@@ -1,20 +1,17 @@
 -- Within all limits the rows of products and tests make a draft of a flat form.
-use Rattle.std.proofs.Common.{◌≡◌, ℕ, zero, suc, ◌+◌, ◌≤◌, ◌<◌, Bool, true, false, cond, not, List, [], ◌∷◌, ◌++◌, length, refl, sym, ap, ◌∙◌, arith}
+use Rattle.std.proofs.Common.{◌≡◌, ℕ, zero, suc, ◌+◌, ◌≤◌, Bool, true, false, List, [], ◌∷◌, length, refl, arith}
 use Rattle.flat_core.specs.declared.step.WireId.{WireId}
-use Rattle.flat_core.specs.Form.{DraftForm}
 use Rattle.flat_core.specs.Label.{same_wire}
 use Rattle.bit_arith.specs.declared.operand.Operand.{Operand}
 use Rattle.bit_arith.specs.declared.operand.Operand.TheVariants.{Const, Literal}
-use Rattle.bit_arith.specs.Built.{Built, Setting, new_wire, new_wires, next_wire, next_wires, wires_from, made, all_made, negated, all_negated, top_negated, read, under}
-use Rattle.bit_arith.specs.Rows.{flip, flip_by, flip_up, flip_down, singles, triples, products, pairs, copy, flip_each, carry_bit, carries, carry, sum_by, sum, difference, into_by, add_into, sub_into, lower, product_into, product, both, either, signed, differ_as, differ, matches, all_of, equal, borrow, less}
-use Rattle.bit_arith.specs.Calls.{Targets, no_target, among, Safe, AllSafe, IsTarget, AreTargets}
-use Rattle.bit_arith.specs.Does.{NoneNew}
-use Rattle.bit_arith.proofs.Grows.{XGrows, x_then, new_wire_x, new_wires_x, length-new_wire, length-new_wires, all_safe_more, safe_more}
-use Rattle.bit_arith.proofs.Keeps.{flip_up_x, carry_bit_x, carries_x, carry_x, add_into_x, differ_as_x, differ_x, matches_x, flip_by_x}
-use Rattle.bit_arith.proofs.Making.{among_past}
+use Rattle.bit_arith.specs.Built.{Built, Setting, new_wire, new_wires, next_wire, next_wires, wires_from, made, all_made, negated, top_negated, read, under}
+use Rattle.bit_arith.specs.Rows.{flip, flip_up, products, carry_bit, add_into, lower, product_into, product, both, either, signed, differ_as, differ, matches, all_of, equal, borrow, less}
+use Rattle.bit_arith.specs.Calls.{Targets, no_target, among, Safe, AllSafe, AreTargets}
+use Rattle.bit_arith.proofs.Grows.{targets_more, XGrows, x_then, new_wires_x, length-new_wire, length-new_wires, all_safe_more, safe_more}
+use Rattle.bit_arith.proofs.Keeps.{flip_up_x, add_into_x, differ_x, matches_x, flip_by_x}
 use Rattle.bit_arith.proofs.Safe.{Wider, safe_in, all_safe_in, under_safe, under_in, beside_new, beside_new_wires, negated_safe, all_negated_safe, top_negated_safe, all_made_safe}
 use Rattle.bit_arith.proofs.Safe as safe
-use Rattle.flat_build.proofs.EndsDraft.{Sound, sound_new, sound_wires, new_target, new_targets, flip_sound, Each, EachOf, flip_by_sound, flip_up_sound, flip_down_sound, rest_apart, targets_on}
+use Rattle.flat_build.proofs.EndsDraft.{Sound, sound_new, sound_wires, new_target, new_targets, flip_sound, flip_by_sound, flip_up_sound, rest_apart}
 use Rattle.flat_build.proofs.EndsSums.{Guard, longer_wire, longer_wires, at_most, products_each, beside_next, carry_bit_sound, carried, carried_there, plain_safe, add_into_sound}
 
 -- ---- products
@@ -53,9 +50,9 @@ product_into_sound at (w ∷ ws) (x ∷ ps) qs b t g p q s =
     let l : ℕ = length b3.draft.wires in
     let e = length-new_wires k b in
     let s3 : Sound b3 =
-    add_into_sound at (w ∷ ws) (all_made multiple) b2 (targets_on xy (w ∷ ws) t) (all_safe_more n i all (under at []) xy.grows.few g)
+    add_into_sound at (w ∷ ws) (all_made multiple) b2 (targets_more xy (w ∷ ws) t) (all_safe_more n i all (under at []) xy.grows.few g)
     (next_safe all n n k i (λ v past. safe.among_past b.draft (w ∷ ws) v t past) (at_most n) (let le = y.grows.few in omega (arith, e, le))) s2 in
-    product_into_sound at ws ps (lower qs) b3 (targets_on xyz ws t.1) (all_safe_more n l (among ws) (under at []) xyz.grows.few (all_safe_in n all n (among ws) (λ v h. (h.0, rest_apart w ws n v.wire h.0 h.1)) (under at []) g))
+    product_into_sound at ws ps (lower qs) b3 (targets_more xyz ws t.1) (all_safe_more n l (among ws) (under at []) xyz.grows.few (all_safe_in n all n (among ws) (λ v h. (h.0, rest_apart w ws n v.wire h.0 h.1)) (under at []) g))
     (all_safe_more n l no_target ps xyz.grows.few p.1) (all_safe_more n l no_target (lower qs) xyz.grows.few (lower_safe n no_target qs q)) s3
 
 pub product_sound : (at : Setting) (ps qs : List Operand) (b : Built) → Guard at (length b.draft.wires) no_target → AllSafe (length b.draft.wires) no_target ps → AllSafe (length b.draft.wires) no_target qs → Sound b → Sound (product at ps qs b).built
