@@ -15,6 +15,7 @@ mod statements;
 mod taking;
 mod updates;
 mod variables;
+mod wires;
 
 pub use branches::Choice;
 pub use state::Flattening;
