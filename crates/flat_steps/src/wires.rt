@@ -2,7 +2,7 @@
 
 ghost use Rattle.std.specs.Prelude.{◌≡◌, IfOk};
 ghost use Rattle.bit_arith.specs.Built.{all_made};
-ghost use Rattle.flat_build.specs.State.{wires_in, are_wires};
+ghost use Rattle.flat_build.specs.State.{wires_in, are_wires, only_operand};
 
 use bit_arith::Operand;
 use flat_core::{Lit, WireId};
@@ -52,4 +52,14 @@ pub(crate) fn are_wires(operands: &[Operand]) -> bool
         }
     }
     true
+}
+
+/// The operand of a bit.
+pub(crate) fn only_operand(operands: &[Operand]) -> Operand
+    ensures { result ≡ only_operand operands.now }
+{
+    match operands.first() {
+        Some(p) => *p,
+        None => Operand::Const(false),
+    }
 }
