@@ -7,12 +7,17 @@ ghost use Rattle.flat_build.specs.Flat.{flat};
 ghost use Rattle.flat_steps.specs.Ready.{Ready};
 
 use crate::state::Flattening;
-use silq_tree::{NameId, UpdateOp};
 use silq_io::LimitFault;
+use silq_tree::{NameId, UpdateOp};
 
 impl Flattening {
     /// Changes a variable, or a part of one, by the last value.
-    pub fn update_to(&mut self, name: NameId, indices: &[i64], op: UpdateOp) -> Result<(), LimitFault>
+    pub fn update_to(
+        &mut self,
+        name: NameId,
+        indices: &[i64],
+        op: UpdateOp,
+    ) -> Result<(), LimitFault>
         requires { Ready (step (update_to name indices.now op)) self.old }
         ensures ok { OnOk result (self.new ≡ flat (step (update_to name indices.now op)) self.old) }
         ensures refused { IfErr result (λ e. Refused e (flat (step (update_to name indices.now op)) self.old).built) }
