@@ -13,6 +13,7 @@ mod stack;
 mod state;
 mod statements;
 mod taking;
+mod typed;
 mod updates;
 mod variables;
 
