@@ -16,6 +16,7 @@ mod taking;
 mod typed;
 mod updates;
 mod variables;
+mod wires;
 
 pub use branches::Choice;
 pub use state::Flattening;
