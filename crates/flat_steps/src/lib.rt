@@ -6,6 +6,7 @@
 
 mod blocks;
 mod branches;
+mod copying;
 mod gates;
 mod names;
 mod operators;
