@@ -13,6 +13,7 @@ mod operators;
 mod stack;
 mod state;
 mod statements;
+mod take;
 mod taking;
 mod typed;
 mod updates;
