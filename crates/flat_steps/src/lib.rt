@@ -6,13 +6,16 @@
 
 mod blocks;
 mod branches;
+mod copying;
 mod gates;
 mod names;
 mod operators;
 mod stack;
 mod state;
 mod statements;
+mod take;
 mod taking;
+mod typed;
 mod updates;
 mod variables;
 mod wires;
