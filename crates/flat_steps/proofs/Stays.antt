@@ -134,7 +134,7 @@ on_wire_stays gate g (Shown v) s =
 on_wire_stays gate g (Lent start size v) s = same s.built
 on_wire_stays gate g Absent s = same s.built
 
-end_all_stays : (e : End) (ws : List WireId) (b : Built) → Stays b (end_all e ws b)
+pub end_all_stays : (e : End) (ws : List WireId) (b : Built) → Stays b (end_all e ws b)
 end_all_stays e [] b = same b
 end_all_stays e (w ∷ ws) b = record { on = λ o h. (end_all_stays e ws (record b { draft = with_end b.draft w e })).on o h }
 
@@ -242,6 +242,11 @@ flat_stays (choice a b) s =
 -- a limit that was passed stays the first that was passed
 pub stays : (e : Effect) (s : Flattening) (o : OverLimit) → s.built.over ≡ Some o → (flat e s).built.over ≡ Some o
 stays e s o h = (flat_stays e s).on o h
+
+-- what refuses a row refuses what goes on from it
+pub refused_on : (f : LimitFault) (b e : Built) → Stays b e → Refused f b → Refused f e
+refused_on Memory b e g h = tt
+refused_on (Limit over) b e g h = g.on over h
 
 -- what refuses an effect refuses what would come after it
 pub refused_first : (f : LimitFault) (a b : Effect) (s : Flattening) → Refused f (flat a s).built → Refused f (flat (a >> b) s).built
