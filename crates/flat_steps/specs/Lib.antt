@@ -1,2 +1,4 @@
+pub mod Changes
+pub mod Entering
 pub mod Reach
 pub mod Ready

@@ -7,15 +7,20 @@
 mod blocks;
 mod branches;
 mod copying;
+mod ends;
 mod gates;
 mod names;
 mod operators;
+mod parts;
 mod stack;
 mod state;
 mod statements;
+mod take;
 mod taking;
+mod typed;
 mod updates;
 mod variables;
+mod wires;
 
 pub use branches::Choice;
 pub use state::Flattening;
