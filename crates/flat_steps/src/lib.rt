@@ -19,6 +19,7 @@ mod take;
 mod taking;
 mod typed;
 mod updates;
+mod uses;
 mod variables;
 mod wires;
 

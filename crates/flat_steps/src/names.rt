@@ -8,6 +8,7 @@ ghost use Rattle.flat_steps.specs.Ready.{Ready};
 
 use crate::state::Flattening;
 use check_scope::Need;
+use flat_build::Known;
 use silq_tree::NameId;
 use silq_io::LimitFault;
 
@@ -17,7 +18,8 @@ impl Flattening {
         ensures ok { OnOk result (self.new ≡ flat (step (give_static number)) self.old) }
         ensures refused { IfErr result (λ e. Refused e (flat (step (give_static number)) self.old).built) }
     {
-        Err(LimitFault::Memory)
+        self.values.push(Known::Static(number))?;
+        Ok(())
     }
 
     /// Gives a variable, or a part of one. In a consumed use a quantum variable is moved.
@@ -44,7 +46,9 @@ impl Flattening {
         ensures ok { OnOk result (self.new ≡ flat (step (assign_in_turn names.now)) self.old) }
         ensures refused { IfErr result (λ e. Refused e (flat (step (assign_in_turn names.now)) self.old).built) }
     {
-        Err(LimitFault::Memory)
+        let values = self.values.turn_over(names.len())?;
+        self.variables.bind_all(names, values)?;
+        Ok(())
     }
 
     /// Takes a variable out.
@@ -52,7 +56,8 @@ impl Flattening {
         ensures ok { OnOk result (self.new ≡ flat (step (end_name name)) self.old) }
         ensures refused { IfErr result (λ e. Refused e (flat (step (end_name name)) self.old).built) }
     {
-        Err(LimitFault::Memory)
+        self.variables.bind(name, Known::Absent)?;
+        Ok(())
     }
 
     /// Takes a variable out, with the value that it was compared with.
@@ -60,6 +65,8 @@ impl Flattening {
         ensures ok { OnOk result (self.new ≡ flat (step (end_compared name)) self.old) }
         ensures refused { IfErr result (λ e. Refused e (flat (step (end_compared name)) self.old).built) }
     {
-        Err(LimitFault::Memory)
+        self.variables.bind(name, Known::Absent)?;
+        self.values.take_last();
+        Ok(())
     }
 }

@@ -41,7 +41,7 @@ fn item_shape(shape: Shape) -> Shape
 }
 
 // The place of a part's first bit.
-fn part_start(shape: Shape, indices: &[i64]) -> usize
+pub(crate) fn part_start(shape: Shape, indices: &[i64]) -> usize
     requires { part_start shape indices.now < 2 ^ 64 }
     ensures { result ≡ part_start shape indices.now }
 {
@@ -66,7 +66,7 @@ fn index_at(indices: &[i64], place: usize) -> usize
 }
 
 // How many bits a value has.
-fn bits(shape: Shape) -> usize
+pub(crate) fn bits(shape: Shape) -> usize
     requires { shape_bits shape < 2 ^ 64 }
     ensures { result ≡ shape_bits shape }
 {

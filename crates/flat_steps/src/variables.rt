@@ -1,12 +1,14 @@
 //! The variables in reach.
 
-ghost use Rattle.std.specs.Prelude.{◌≡◌, ◌<◌, true, false, [], ◌∷◌, reverse, IfSome, IfNone, OnOk, drop};
+ghost use Rattle.std.specs.Prelude.{◌≡◌, ◌<◌, true, false, [], ◌∷◌, reverse, IfSome, IfNone, IfOk, OnOk, drop};
 ghost use Rattle.std.specs.List.{position};
 ghost use Rattle.silq_types.specs.Types.{same_name};
 ghost use Rattle.silq_mean.specs.Env.{is_in_block, in_block, block_with, is_in_reach, found, in_its_block, in_first_block, bound};
 ghost use Rattle.flat_build.specs.declared.known.Known.TheVariants.{Absent};
+ghost use Rattle.flat_build.specs.Flat.{bind_all, paired};
 ghost use Rattle.flat_steps.specs.Reach.{IsInnermost};
 
+use crate::stack::Values;
 use flat_build::Known;
 use silq_tree::NameId;
 use std::alloc::{AllocError, Global};
@@ -54,6 +56,20 @@ impl Block {
         Block {
             items: Vec::new(alloc),
         }
+    }
+
+    // The variables with these names and values, of which the last one is the first name's.
+    fn of_values(alloc: Global, names: &[NameId], mut values: Values) -> Result<Block, AllocError>
+        ensures { IfOk result (λ b. b ≡ paired names.now values) }
+    {
+        let mut items = Vec::new(alloc);
+        for name in names {
+            let Some(known) = values.pop() else {
+                return Ok(Block { items });
+            };
+            items.push((*name, known))?;
+        }
+        Ok(Block { items })
     }
 
     // The place of a variable.
@@ -127,6 +143,20 @@ impl Variables {
         }
     }
 
+    /// The variables of a function's body as it begins, where the last value is the first parameter's.
+    pub(crate) fn of_parameters(
+        alloc: Global,
+        names: &[NameId],
+        values: Values,
+    ) -> Result<Variables, AllocError>
+        ensures { IfOk result (λ v. v ≡ paired names.now values ∷ []) }
+    {
+        let mut variables = Variables::new(alloc);
+        let block = Block::of_values(alloc, names, values)?;
+        variables.blocks.push(block)?;
+        Ok(variables)
+    }
+
     /// Opens a block.
     pub(crate) fn open(&mut self) -> Result<(), AllocError>
         ensures { OnOk result (self.new ≡ [] ∷ self.old) }
@@ -174,6 +204,23 @@ impl Variables {
         };
         let block = &mut self.blocks[i];
         block.replace(name, known);
+        Ok(())
+    }
+
+    /// Lets variables show values in turn, of which the last one is the first name's.
+    pub(crate) fn bind_all(
+        &mut self,
+        names: &[NameId],
+        mut values: Values,
+    ) -> Result<(), AllocError>
+        ensures { OnOk result (self.new ≡ bind_all self.old names.now values) }
+    {
+        for name in names {
+            let Some(known) = values.pop() else {
+                return Ok(());
+            };
+            self.bind(*name, known)?;
+        }
         Ok(())
     }
 
