@@ -1,10 +1,10 @@
 //! Updates, and forgotten values.
 
-ghost use Rattle.std.specs.Prelude.{◌≡◌, ℕ, drop, IfOk, IfErr, OnOk};
+ghost use Rattle.std.specs.Prelude.{◌≡◌, ℕ, IfOk, IfErr, OnOk};
 ghost use Rattle.silq_mean.specs.Effect.{step, claim, update_to};
 ghost use Rattle.bit_arith.specs.Built.{begun};
 ghost use Rattle.bit_arith.specs.Calls.{Went, Refused};
-ghost use Rattle.flat_build.specs.State.{first, operands_of, typed_as, part_shape, part_of, wires_in};
+ghost use Rattle.flat_build.specs.State.{operands_of, typed_as, part_shape, part_of, wires_in};
 ghost use Rattle.flat_build.specs.Flat.{flat, update_by};
 ghost use Rattle.flat_build.specs.Fine.{IsPart};
 ghost use Rattle.flat_steps.specs.Changes.{MayChangeBy, zeroed};
@@ -13,7 +13,6 @@ ghost use Rattle.flat_steps.specs.Ready.{Ready};
 use crate::copying::copied_operands;
 use crate::ends::end_all;
 use crate::parts::{part_of, part_shape};
-use crate::stack::Values;
 use crate::state::Flattening;
 use crate::typed::typed_as;
 use crate::wires::wires_in;
@@ -24,17 +23,6 @@ use silq_io::LimitFault;
 use silq_tree::{NameId, UpdateOp};
 use silq_types::{List, Shape};
 use std::alloc::{AllocError, Global};
-
-// Takes the last value, which is absent where there is none.
-fn pop_last(values: &mut Values) -> Known
-    ensures value { result ≡ first values.old }
-    ensures left { values.new ≡ drop 1 values.old }
-{
-    match values.pop() {
-        Some(value) => value,
-        None => Known::Absent,
-    }
-}
 
 // The operands of a value.
 fn operands_of(alloc: Global, value: Known) -> List<Operand>
@@ -140,7 +128,7 @@ impl Flattening {
         ensures ok { OnOk result (self.new ≡ flat (step (update_to name indices.now op)) self.old) }
         ensures refused { IfErr result (λ e. Refused e (flat (step (update_to name indices.now op)) self.old).built) }
     {
-        let value = pop_last(&mut self.values);
+        let value = self.values.take_last();
         let Some(Known::Shown(target)) = self.variables.find(name) else {
             return Ok(());
         };

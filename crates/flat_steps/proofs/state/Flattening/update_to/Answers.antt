@@ -13,4 +13,4 @@ update_part-requires-clause-change c =
     let s : Flattening = record { built = begun c.self.inside.builder.draft; setting = c.self.inside.builder.setting; statements = c.self.inside.statements; env = c.self.inside.variables; values = c.self.inside.values; callers = c.self.inside.callers } in
     let ready : Ready (step (update_to c.args.name c.args.indices.now c.args.op)) s = subst (Ready (step (update_to c.args.name c.args.indices.now c.args.op))) (sym c.self.view_is) c.requires in
     let known : known_in s c.args.name ≡ Shown c.in-Some-Shown.target = sym c.in-Some-Shown.ensures.some ∙ c.in-Some-Shown.field-0-is in
-    updates_by s c.args.name c.args.indices.now c.args.op c.in-Some-Shown.target c.pop_last-value.result ready known c.pop_last-value.ensures.value
+    updates_by s c.args.name c.args.indices.now c.args.op c.in-Some-Shown.target c.take_last-value.result ready known c.take_last-value.ensures.value
