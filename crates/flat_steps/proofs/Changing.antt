@@ -1,6 +1,5 @@
 -- Changes of wires: of what a state knows, and what is left.
-use Rattle.std.proofs.Common.{◌≡◌, ℕ, ◌≤◌, List, [], ◌∷◌, length, drop, Option, None, ℤ, refl, sym, ap, true, ◌∙◌, subst, arith}
-use Rattle.silq_io.specs.declared.limit.OverLimit.{OverLimit}
+use Rattle.std.proofs.Common.{◌≡◌, ℕ, List, [], ◌∷◌, length, ℤ, refl, sym, ap, true, ◌∙◌, subst}
 use Rattle.silq_tree.specs.declared.node.NameId.{NameId}
 use Rattle.silq_tree.specs.declared.node.UpdateOp.{UpdateOp}
 use Rattle.silq_types.specs.declared.types.Shape.{Shape}
@@ -9,23 +8,21 @@ use Rattle.flat_core.specs.declared.step.WireId.{WireId}
 use Rattle.flat_core.specs.declared.step.End.{End}
 use Rattle.flat_core.specs.declared.step.End.TheVariants.{Zeroed}
 use Rattle.flat_core.specs.Drafts.{with_end}
-use Rattle.flat_core.specs.Form.{DraftForm}
 use Rattle.bit_arith.specs.declared.operand.Operand.{Operand}
-use Rattle.bit_arith.specs.Built.{Built, Setting, begun, under}
+use Rattle.bit_arith.specs.Built.{Built, begun}
 use Rattle.bit_arith.specs.Rows.{flip_each}
-use Rattle.bit_arith.specs.Calls.{Building, Went, among, AllSafe}
+use Rattle.bit_arith.specs.Calls.{Building, Went, among}
 use Rattle.bit_arith.specs.Does.{Below}
-use Rattle.bit_arith.proofs.Chained.{built_by}
 use Rattle.bit_arith.proofs.Going.{went_then, went_grows}
 use Rattle.bit_arith.proofs.Keeps.{flip_each_x}
 use Rattle.bit_arith.proofs.Listed.{below_more, safe_under}
 use Rattle.flat_build.specs.declared.known.TypedBits.{TypedBits}
 use Rattle.flat_build.specs.declared.known.Known.{Known}
-use Rattle.flat_build.specs.declared.known.Known.TheVariants.{Static, Shown, Lent, Absent}
-use Rattle.flat_build.specs.State.{Flattening, build, last, operands_of, typed_as, typed_like, part_shape, part_of, wires_in, are_wires}
+use Rattle.flat_build.specs.declared.known.Known.TheVariants.{Shown}
+use Rattle.flat_build.specs.State.{Flattening, last, operands_of, typed_as, typed_like, part_shape, part_of, wires_in, are_wires}
 use Rattle.flat_build.specs.Flat.{end_all, known_in, without_name}
 use Rattle.flat_build.specs.Good.{IsShown, IsKnown}
-use Rattle.flat_build.specs.Fine.{IsOf, IsPart, UpdatesPart, MayChange, without_part}
+use Rattle.flat_build.specs.Fine.{IsOf, UpdatesPart, MayChange, without_part}
 use Rattle.flat_steps.specs.Ready.{Ready}
 use Rattle.flat_build.proofs.Kept.{known_last, known_name}
 use Rattle.flat_build.proofs.Giving.{typed_as_known, typed_as_safe, size_of, length-part, wires_part, length-in}
@@ -55,7 +52,6 @@ went_zeroed old mid new ws ps w e =
 
 -- ---- what may be changed
 
-
 -- what `MayClaim` says of a variable that shows its bits
 abbrev Claims : NameId → Flattening → TypedBits → Type 0
 Claims x s v = IsOf (λ w. w.shape ≡ v.shape) (typed_like 0 (Shown v) (last s)) × (are_wires v.operands ≡ true) × MayChange (wires_in v.operands) s (without_name x s)
@@ -73,7 +69,7 @@ updates_by s x is op v value r e same =
       lengths = length-in (part_of v.shape is v.operands) (wires_part v is f.wires) ∙ (length-part v is f.there ∙ sym (size_of n t (typed_as 0 t (last s)) (typed_as_known n 0 t (last s) known) f.operand));
       targets = f.change.targets;
       safe = safe_under n (among ws) s.setting (operands_of (typed_as 0 t (last s))) f.change.condition
-      (typed_as_safe n 0 (among ws) t (last s) known (last_spared (among ws) (without_part x is v s) f.change.spared));
+          (typed_as_safe n 0 (among ws) t (last s) known (last_spared (among ws) (without_part x is v s) f.change.spared));
     })
 
 -- the wires of a variable, by the last value
@@ -89,5 +85,5 @@ claims_by s line x v value r e same =
       lengths = length-in v.operands f.1 ∙ (shown.size ∙ sym (size_of n v.shape (typed_as 0 v.shape (last s)) (typed_as_known n 0 v.shape (last s) known) f.0));
       targets = f.2.targets;
       safe = safe_under n (among ws) s.setting (operands_of (typed_as 0 v.shape (last s))) f.2.condition
-      (typed_as_safe n 0 (among ws) v.shape (last s) known (last_spared (among ws) (without_name x s) f.2.spared));
+          (typed_as_safe n 0 (among ws) v.shape (last s) known (last_spared (among ws) (without_name x s) f.2.spared));
     })

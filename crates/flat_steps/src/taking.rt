@@ -154,3 +154,43 @@ impl Flattening {
         self.receive_bits(taker, value)
     }
 }
+
+#[cfg(test)]
+mod tests {
+    use super::*;
+    use bit_arith::Operand;
+    use silq_types::{List, Shape, Ty};
+    use std::test::Fail;
+
+    #[test]
+    fn constants_are_copied_and_own_wires_are_kept(rt: HostRuntime) -> Result<(), Fail> {
+        let mut builder = Builder::new(rt.alloc());
+        let mut operands = List::new(rt.alloc());
+        operands.push(Operand::Const(true))?;
+        let value = TypedBits {
+            classical: true,
+            shape: Shape::Bit,
+            operands,
+            own: false,
+            began: 0,
+        };
+        let variable = taken_for(&mut builder, rt.alloc(), Receiver::Variable, value)?;
+        assert_eq!(rt; builder.wires(), 1);
+        assert!(rt; are_wires(variable.operands.as_slice()));
+        Ok(())
+    }
+
+    #[test]
+    fn results_have_the_type_of_the_call(rt: HostRuntime) -> Result<(), Fail> {
+        let taker = Receiver::CallResult(Ty {
+            classical: true,
+            shape: Shape::Bit,
+        });
+        let Known::Shown(bit) = shape_for(rt.alloc(), taker, Known::Static(1))? else {
+            panic!(rt; "a number takes the type")
+        };
+        assert!(rt; !bit.classical);
+        assert!(rt; class_for(taker, &bit));
+        Ok(())
+    }
+}

@@ -123,7 +123,12 @@ fn zero_variable(
 
 impl Flattening {
     /// Changes a variable, or a part of one, by the last value.
-    pub fn update_to(&mut self, name: NameId, indices: &[i64], op: UpdateOp) -> Result<(), LimitFault>
+    pub fn update_to(
+        &mut self,
+        name: NameId,
+        indices: &[i64],
+        op: UpdateOp,
+    ) -> Result<(), LimitFault>
         requires { Ready (step (update_to name indices.now op)) self.old }
         ensures ok { OnOk result (self.new ≡ flat (step (update_to name indices.now op)) self.old) }
         ensures refused { IfErr result (λ e. Refused e (flat (step (update_to name indices.now op)) self.old).built) }
@@ -149,6 +154,30 @@ impl Flattening {
             zero_variable(&mut self.builder, self.alloc, &target, &value)?;
         }
         self.values.push(value)?;
+        Ok(())
+    }
+}
+
+#[cfg(test)]
+mod tests {
+    use super::*;
+    use std::test::Fail;
+
+    #[test]
+    fn operands_are_undone_on_wires(rt: HostRuntime) -> Result<(), Fail> {
+        let mut builder = Builder::new(rt.alloc());
+        let x = builder.wire(true)?;
+        zero_wires(&mut builder, &[x], &[Operand::Const(true)])?;
+        assert_eq!(rt; builder.wires(), 1);
+        Ok(())
+    }
+
+    #[test]
+    fn a_number_takes_the_type(rt: HostRuntime) -> Result<(), Fail> {
+        let two = operands_as(rt.alloc(), Shape::UInt(2), &Known::Static(2))?;
+        assert_eq!(rt; two.len(), 2);
+        assert_eq!(rt; two.get(0), Some(&Operand::Const(false)));
+        assert_eq!(rt; two.get(1), Some(&Operand::Const(true)));
         Ok(())
     }
 }
