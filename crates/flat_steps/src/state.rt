@@ -1,14 +1,23 @@
 //! The state of flattening.
 
-ghost use Rattle.std.specs.Prelude.{◌≡◌, IfOk, IfErr};
-ghost use Rattle.bit_arith.specs.Calls.{Refused};
-ghost use Rattle.flat_build.specs.Flat.{begin};
+ghost use Rattle.std.specs.Prelude.{◌≡◌, false, true, length, reverse, IfOk, IfErr};
+ghost use Rattle.silq_types.specs.Types.{scalar_bits, shape_bits};
+ghost use Rattle.flat_core.specs.declared.step.End.TheVariants.{Output};
+ghost use Rattle.flat_core.specs.Drafts.{finished};
+ghost use Rattle.flat_core.specs.Sound.{IsFlat};
+ghost use Rattle.bit_arith.specs.Built.{begun, all_made, wires_from};
+ghost use Rattle.bit_arith.specs.Calls.{Went, Refused};
+ghost use Rattle.bit_arith.specs.Does.{Below};
+ghost use Rattle.flat_build.specs.Flat.{begin, input_wires, end_all, wire_lists, joined};
+ghost use Rattle.flat_build.specs.Names.{AllOf};
 
 use crate::stack::{Callers, Values};
 use crate::variables::Variables;
-use bit_arith::Builder;
+use bit_arith::{Builder, Operand};
+use flat_build::{Known, TypedBits};
+use flat_core::Lit;
 use silq_io::LimitFault;
-use silq_types::Shape;
+use silq_types::{List, Scalar, Shape};
 use std::alloc::Global;
 use std::marker::Model;
 
@@ -41,6 +50,65 @@ impl Flattening {
         ensures ok { IfOk result (λ s. s ≡ begin shapes.now) }
         ensures refused { IfErr result (λ e. Refused e (begin shapes.now).built) }
     {
-        Err(LimitFault::Memory)
+        let mut builder = Builder::new(alloc);
+        let mut values = Values::new(alloc);
+        for shape in shapes {
+            let parameter = input(&mut builder, alloc, *shape)?;
+            values.push(Known::Shown(parameter))?;
+        }
+        Ok(Flattening {
+            alloc,
+            builder,
+            statements: 0,
+            variables: Variables::new(alloc),
+            values,
+            callers: Callers::new(alloc),
+        })
+    }
+}
+
+/// A parameter with wires of its own.
+fn input(builder: &mut Builder, alloc: Global, shape: Shape) -> Result<TypedBits, LimitFault>
+    ensures answer { IfOk result (λ v. v ≡ record { classical = false; shape = shape; operands = all_made (wires_from (length builder.old.draft.wires) (shape_bits shape)); own = true; began = 0 }) }
+    ensures ok { IfOk result (λ _. Went builder.old builder.new (input_wires (shape_bits shape) (begun builder.old.draft))) }
+    ensures refused { IfErr result (λ e. Refused e (input_wires (shape_bits shape) (begun builder.old.draft))) }
+{
+    let mut operands = List::new(alloc);
+    for _ in 0..bits(shape) {
+        let wire = builder.wire(true)?;
+        operands.push(Operand::Literal(Lit {
+            wire,
+            positive: true,
+        }))?;
+    }
+    Ok(TypedBits {
+        classical: false,
+        shape,
+        operands,
+        own: true,
+        began: 0,
+    })
+}
+
+/// How many bits a value has.
+fn bits(shape: Shape) -> u64
+    ensures { result ≡ shape_bits shape }
+{
+    match shape {
+        Shape::Bit => 1,
+        Shape::UInt(width) => u64::from(width),
+        Shape::Int(width) => u64::from(width),
+        Shape::Array(element, length) => u64::from(width(element)) * u64::from(length),
+    }
+}
+
+/// How many bits a number has.
+fn width(scalar: Scalar) -> u32
+    ensures { result ≡ scalar_bits scalar }
+{
+    match scalar {
+        Scalar::Bit => 1,
+        Scalar::UInt(width) => width,
+        Scalar::Int(width) => width,
     }
 }
