@@ -11,14 +11,15 @@ ghost use Rattle.bit_arith.specs.Does.{Below};
 ghost use Rattle.flat_build.specs.Flat.{begin, input_wires, end_all, wire_lists, joined};
 ghost use Rattle.flat_build.specs.Names.{AllOf};
 
+use crate::outputs::{end_values, wire_lists};
 use crate::stack::{Callers, Values};
 use crate::variables::Variables;
 use bit_arith::{Builder, Operand};
 use flat_build::{Known, TypedBits};
-use flat_core::Lit;
+use flat_core::{End, Flat, Lit, WireLists};
 use silq_io::LimitFault;
 use silq_types::{List, Scalar, Shape};
-use std::alloc::Global;
+use std::alloc::{AllocError, Global};
 use std::marker::Model;
 
 /// What is built so far, and what is known of the names in reach and of the values under way. After a refusal it is only dropped.
@@ -64,6 +65,30 @@ impl Flattening {
             values,
             callers: Callers::new(alloc),
         })
+    }
+
+    /// The wires of the values under way, the first value first.
+    pub fn wire_lists(&self) -> Result<WireLists, AllocError>
+        ensures { IfOk result (λ ws. ws ≡ wire_lists (reverse self.now.values)) }
+    {
+        wire_lists(self.alloc, self.values.as_slice())
+    }
+
+    /// The flat form of what was built: the values under way end as outputs.
+    pub fn finish(self, ins: WireLists) -> Result<Flat, AllocError>
+        requires wires { AllOf (λ ws. Below (length self.built.draft.wires) ws) (wire_lists (reverse self.values)) }
+        requires flat { IsFlat (finished (end_all Output (joined (wire_lists (reverse self.values))) self.built).draft ins (wire_lists (reverse self.values))) }
+        ensures { IfOk result (λ f. f ≡ finished (end_all Output (joined (wire_lists (reverse self.values))) self.built).draft ins (wire_lists (reverse self.values))) }
+    {
+        let outs = self.wire_lists()?;
+        let Flattening {
+            alloc,
+            mut builder,
+            values,
+            ..
+        } = self;
+        end_values(&mut builder, alloc, End::Output, values.as_slice())?;
+        Ok(builder.finish(ins, outs))
     }
 }
 
