@@ -11,6 +11,7 @@ mod ends;
 mod gates;
 mod names;
 mod operators;
+mod outputs;
 mod parts;
 mod stack;
 mod state;

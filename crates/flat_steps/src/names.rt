@@ -7,6 +7,7 @@ ghost use Rattle.flat_build.specs.Flat.{flat};
 ghost use Rattle.flat_steps.specs.Ready.{Ready};
 
 use crate::state::Flattening;
+use crate::uses::{Use, assigned, used};
 use check_scope::Need;
 use flat_build::Known;
 use silq_tree::NameId;
@@ -28,7 +29,12 @@ impl Flattening {
         ensures ok { OnOk result (self.new ≡ flat (step (give_part need name indices.now)) self.old) }
         ensures refused { IfErr result (λ e. Refused e (flat (step (give_part need name indices.now)) self.old).built) }
     {
-        Err(LimitFault::Memory)
+        let began = self.builder.wires();
+        let known = self.variables.replace(name, Known::Absent);
+        let Use { given, left } = used(self.alloc, began, need, indices, known)?;
+        self.variables.replace(name, left);
+        self.values.push(given)?;
+        Ok(())
     }
 
     /// Assigns the last value to a variable, or to the part of one that was taken out.
@@ -37,7 +43,15 @@ impl Flattening {
         ensures ok { OnOk result (self.new ≡ flat (step (assign_to name indices.now)) self.old) }
         ensures refused { IfErr result (λ e. Refused e (flat (step (assign_to name indices.now)) self.old).built) }
     {
-        Err(LimitFault::Memory)
+        let value = self.values.take_last();
+        if indices.is_empty() {
+            self.variables.bind(name, value)?;
+            return Ok(());
+        }
+        let lent = self.variables.replace(name, Known::Absent);
+        let known = assigned(self.alloc, indices, lent, value)?;
+        self.variables.bind(name, known)?;
+        Ok(())
     }
 
     /// Assigns the last values to variables in turn.

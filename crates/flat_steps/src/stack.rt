@@ -59,6 +59,13 @@ impl Values {
         self.pop().unwrap_or(Known::Absent)
     }
 
+    /// The values in order.
+    pub(crate) fn as_slice(&self) -> &[Known]
+        ensures { result.now ≡ reverse self.now }
+    {
+        self.items.as_slice()
+    }
+
     /// Takes the last values, so many, as values of their own, of which the first one is the last.
     pub(crate) fn turn_over(&mut self, count: usize) -> Result<Values, AllocError>
         ensures turned { IfOk result (λ t. t ≡ reverse (take count self.old)) }

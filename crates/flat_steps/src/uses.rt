@@ -152,7 +152,7 @@ pub(crate) fn assigned(
 }
 
 /// The operands that show a value.
-fn operands_of(known: &Known) -> &[Operand]
+pub(crate) fn operands_of(known: &Known) -> &[Operand]
     ensures { result.now ≡ operands_of known.now }
 {
     match known {
