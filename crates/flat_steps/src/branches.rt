@@ -7,13 +7,13 @@ ghost use Rattle.bit_arith.specs.Calls.{Refused, Went, Safe, AllSafe, no_target}
 ghost use Rattle.flat_build.specs.Flat.{chosen_by, first_branch, enter_branch, under, as_condition, entered};
 ghost use Rattle.flat_build.specs.Good.{Good};
 ghost use Rattle.flat_build.specs.Fine.{IsBit};
-ghost use Rattle.flat_build.specs.State.{last, operands_of, only_operand};
+ghost use Rattle.flat_build.specs.State.{last};
 ghost use Rattle.flat_steps.specs.Entering.{Entered};
 
 use crate::state::Flattening;
+use crate::uses::operands_of;
 use crate::wires::only_operand;
 use bit_arith::{Builder, Operand};
-use flat_build::Known;
 use flat_core::Lit;
 use silq_io::LimitFault;
 
@@ -24,18 +24,6 @@ pub struct Choice {
     pub chosen: Operand,
     /// The condition in force outside.
     pub outer: Option<Operand>,
-}
-
-// The operand of a value, which is a bit.
-fn chosen_by(value: &Known) -> Operand
-    ensures { result ≡ only_operand (operands_of value.now) }
-{
-    match value {
-        Known::Shown(v) => only_operand(v.operands.as_slice()),
-        Known::Static(_) => Operand::Const(false),
-        Known::Lent { .. } => Operand::Const(false),
-        Known::Absent => Operand::Const(false),
-    }
 }
 
 // The condition that holds where an operand does: the constant 1 is none.
@@ -94,7 +82,8 @@ impl Flattening {
         ensures ok { IfOk result (λ _. self.new ≡ first_branch self.old) }
         ensures refused { IfErr result (λ e. Refused e (first_branch self.old).built) }
     {
-        let chosen = chosen_by(&self.values.take_last());
+        let value = self.values.take_last();
+        let chosen = only_operand(operands_of(&value));
         let outer = enter(&mut self.builder, chosen)?;
         Ok(Choice { chosen, outer })
     }

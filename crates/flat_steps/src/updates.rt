@@ -1,6 +1,6 @@
 //! Updates, and forgotten values.
 
-ghost use Rattle.std.specs.Prelude.{◌≡◌, ℕ, IfOk, IfErr, OnOk};
+ghost use Rattle.std.specs.Prelude.{◌≡◌, ℕ, IfErr, OnOk};
 ghost use Rattle.silq_mean.specs.Effect.{step, claim, update_to};
 ghost use Rattle.bit_arith.specs.Built.{begun};
 ghost use Rattle.bit_arith.specs.Calls.{Went, Refused};
@@ -10,46 +10,18 @@ ghost use Rattle.flat_build.specs.Fine.{IsPart};
 ghost use Rattle.flat_steps.specs.Changes.{MayChangeBy, zeroed};
 ghost use Rattle.flat_steps.specs.Ready.{Ready};
 
-use crate::copying::copied_operands;
 use crate::ends::end_all;
 use crate::parts::{part_of, part_shape};
 use crate::state::Flattening;
 use crate::typed::typed_as;
+use crate::uses::operands_of;
 use crate::wires::wires_in;
 use bit_arith::{Builder, Operand};
 use flat_build::{Known, TypedBits};
 use flat_core::{End, WireId};
 use silq_io::LimitFault;
 use silq_tree::{NameId, UpdateOp};
-use silq_types::{List, Shape};
-use std::alloc::{AllocError, Global};
-
-// The operands of a value.
-fn operands_of(alloc: Global, value: Known) -> List<Operand>
-    ensures { result ≡ operands_of value }
-{
-    match value {
-        Known::Shown(bits) => bits.operands,
-        Known::Static(_) => List::new(alloc),
-        Known::Lent { .. } => List::new(alloc),
-        Known::Absent => List::new(alloc),
-    }
-}
-
-// The operands of a value that stays where it is; a static one takes the type.
-fn operands_as(alloc: Global, shape: Shape, value: &Known) -> Result<List<Operand>, AllocError>
-    ensures { IfOk result (λ ps. ps ≡ operands_of (typed_as 0 shape value.now)) }
-{
-    match value {
-        Known::Shown(bits) => copied_operands(alloc, bits.operands.as_slice()),
-        Known::Static(number) => {
-            let typed = typed_as(alloc, 0, shape, Known::Static(*number))?;
-            Ok(operands_of(alloc, typed))
-        }
-        Known::Lent { .. } => Ok(List::new(alloc)),
-        Known::Absent => Ok(List::new(alloc)),
-    }
-}
+use std::alloc::Global;
 
 // Updates wires by operands.
 fn update_by(
@@ -86,8 +58,7 @@ fn update_part(
     let part = part_of(target.shape, indices, target.operands.as_slice());
     let wires = wires_in(alloc, part)?;
     let typed = typed_as(alloc, 0, part_shape(target.shape, indices), value)?;
-    let operands = operands_of(alloc, typed);
-    update_by(builder, op, wires.as_slice(), operands.as_slice())
+    update_by(builder, op, wires.as_slice(), operands_of(&typed))
 }
 
 // Undoes operands on wires, which are 0 then.
@@ -117,8 +88,11 @@ fn zero_variable(
     ensures refused { IfErr result (λ e. Refused e (zeroed builder.old.setting (wires_in target.now.operands) (operands_of (typed_as 0 target.now.shape value.now)) (begun builder.old.draft))) }
 {
     let wires = wires_in(alloc, target.operands.as_slice())?;
-    let operands = operands_as(alloc, target.shape, value)?;
-    zero_wires(builder, wires.as_slice(), operands.as_slice())
+    if let Known::Static(number) = value {
+        let typed = typed_as(alloc, 0, target.shape, Known::Static(*number))?;
+        return zero_wires(builder, wires.as_slice(), operands_of(&typed));
+    }
+    zero_wires(builder, wires.as_slice(), operands_of(value))
 }
 
 impl Flattening {
@@ -169,15 +143,6 @@ mod tests {
         let x = builder.wire(true)?;
         zero_wires(&mut builder, &[x], &[Operand::Const(true)])?;
         assert_eq!(rt; builder.wires(), 1);
-        Ok(())
-    }
-
-    #[test]
-    fn a_number_takes_the_type(rt: HostRuntime) -> Result<(), Fail> {
-        let two = operands_as(rt.alloc(), Shape::UInt(2), &Known::Static(2))?;
-        assert_eq!(rt; two.len(), 2);
-        assert_eq!(rt; two.get(0), Some(&Operand::Const(false)));
-        assert_eq!(rt; two.get(1), Some(&Operand::Const(true)));
         Ok(())
     }
 }
