@@ -1,7 +1,7 @@
 //! A flat form that is built row by row.
 
 ghost use Rattle.std.specs.Prelude.{◌≡◌, ◌<◌, [], length, IfOk, IfErr, Option, None};
-ghost use Rattle.flat_core.specs.Drafts.{empty_draft, with_wire, with_end, finished, over_by_wire, IsNextStep, FitsEnds};
+ghost use Rattle.flat_core.specs.Drafts.{empty_draft, with_wire, with_end, finished, is_measured, over_by_wire, IsNextStep, FitsEnds};
 ghost use Rattle.bit_arith.specs.Built.{begun, push, new_wire, new_wires, next_wire, next_wires, blank, read, made};
 ghost use Rattle.bit_arith.specs.Rows.{measure};
 ghost use Rattle.bit_arith.specs.Calls.{Building, Safe, no_target, IsTarget, AreTargets, Went, Refused};
@@ -133,6 +133,14 @@ impl Builder {
         ensures { self.new ≡ record { draft = with_end self.old.draft w end; setting = self.old.setting } }
     {
         self.draft.end(w, end);
+    }
+
+    /// Whether a wire was measured.
+    pub fn is_measured(&self, w: WireId) -> bool
+        requires { w.number < length self.now.draft.wires }
+        ensures { result ≡ is_measured self.now.draft.steps w }
+    {
+        self.draft.is_measured(w)
     }
 
     /// The operand as it is read now: a wire that is no input and that no step changed shows 0.

@@ -17,6 +17,7 @@ impl Builder {
         requires safe { AllSafe (length self.old.draft.wires) no_target (under self.old.setting list.now) }
         ensures answer { IfOk result (λ ws. ws.items ≡ (copy self.old.setting list.now (begun self.old.draft)).answer) }
         ensures ok { IfOk result (λ _. Went self.old self.new (copy self.old.setting list.now (begun self.old.draft)).built) }
+        ensures targets { IfOk result (λ ws. AreTargets self.new.draft ws.items) }
         ensures refused { IfErr result (λ e. Refused e (copy self.old.setting list.now (begun self.old.draft)).built) }
     {
         let wires = self.new_wires(list.len())?;

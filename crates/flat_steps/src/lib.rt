@@ -6,15 +6,23 @@
 
 mod blocks;
 mod branches;
+mod copying;
+mod ends;
 mod gates;
 mod names;
 mod operators;
+mod outputs;
+mod parts;
 mod stack;
 mod state;
 mod statements;
+mod take;
 mod taking;
+mod typed;
 mod updates;
+mod uses;
 mod variables;
+mod wires;
 
 pub use branches::Choice;
 pub use state::Flattening;

@@ -5,7 +5,10 @@ ghost use Rattle.bit_arith.specs.Calls.{Refused};
 ghost use Rattle.flat_build.specs.Flat.{count_statement, on_line};
 
 use crate::state::Flattening;
-use silq_io::LimitFault;
+use silq_io::{LimitFault, LimitKind, OverLimit};
+
+// How many statements a program may run, with calls inlined.
+const MOST_INLINED: u32 = 1_000_000;
 
 impl Flattening {
     /// Counts a statement on this line, and gives the line of the statement around it.
@@ -14,7 +17,14 @@ impl Flattening {
         ensures ok { IfOk result (λ _. self.new ≡ on_line line (count_statement self.old)) }
         ensures refused { IfErr result (λ e. Refused e (count_statement self.old).built) }
     {
-        Err(LimitFault::Memory)
+        if self.statements >= MOST_INLINED {
+            return Err(LimitFault::Limit(OverLimit {
+                which: LimitKind::Inlined,
+                count: u64::from(MOST_INLINED) + 1,
+            }));
+        }
+        self.statements += 1;
+        Ok(self.builder.line(line))
     }
 
     /// Goes on in the statement around one, which is on this line.
@@ -22,5 +32,31 @@ impl Flattening {
         ensures { self.new ≡ on_line outer self.old }
     {
         self.builder.line(outer);
+    }
+}
+
+#[cfg(test)]
+mod tests {
+    use super::*;
+    use crate::stack::{Callers, Values};
+    use crate::variables::Variables;
+    use bit_arith::Builder;
+    use std::test::Fail;
+
+    #[test]
+    fn statements_know_the_line_around_them(rt: HostRuntime) -> Result<(), Fail> {
+        let mut state = Flattening {
+            alloc: rt.alloc(),
+            builder: Builder::new(rt.alloc()),
+            statements: 0,
+            variables: Variables::new(rt.alloc()),
+            values: Values::new(rt.alloc()),
+            callers: Callers::new(rt.alloc()),
+        };
+        assert_eq!(rt; state.begin_statement(7)?, 1);
+        assert_eq!(rt; state.begin_statement(8)?, 7);
+        state.end_statement(7);
+        assert_eq!(rt; state.begin_statement(9)?, 7);
+        Ok(())
     }
 }

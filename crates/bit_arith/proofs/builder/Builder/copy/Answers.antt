@@ -4,7 +4,7 @@ use Rattle.bit_arith.specs.declared.operand.Operand.{Operand}
 use Rattle.bit_arith.specs.Built.{Built, begun, next_wires, new_wires, under}
 use Rattle.bit_arith.specs.Rows.{copy, flip_each}
 use Rattle.bit_arith.specs.Calls.{AllSafe, among, no_target}
-use Rattle.bit_arith.proofs.Grows.{new_wires_x}
+use Rattle.bit_arith.proofs.Grows.{new_wires_x, targets_more}
 use Rattle.bit_arith.proofs.Keeps.{flip_each_x}
 use Rattle.bit_arith.proofs.Safe.{now_safe, beside_new_wires, condition_safe, operands_safe}
 use Rattle.bit_arith.proofs.Going.{Row, refused_out, refused_on, refused_with, went_with, went_grows}
@@ -51,3 +51,8 @@ pub returns-clause-ok : goal.returns-clause-ok
 unfolding copy flip_each
 returns-clause-ok c =
     went_with _ _ _ _ (next c.args.list.now) _ _ (c.as_slice.ensures.value ∙ c.in_ok-wires.ensures.answer) c.in_ok-wires.ensures.ok c.in_ok-flip_each.ensures.ok
+
+pub returns-clause-targets : goal.returns-clause-targets
+returns-clause-targets c =
+    targets_more (went_grows _ _ _ (flip_each_x c.new_wires.new.self.setting c.as_slice.result.now c.args.list.now (begun c.new_wires.new.self.draft)) c.in_ok-flip_each.ensures.ok)
+    c.in_ok-wires.wires.items c.in_ok-wires.ensures.targets
