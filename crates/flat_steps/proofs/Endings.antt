@@ -50,5 +50,6 @@ next_ended e values i k old new ws low is w n = record {
   where
     split : drop i values ≡ k ∷ drop (i + 1) values
     split = drop_more values i k low ∙ ap (λ z. z ∷ drop (i + 1) values) (sym is)
+
     same : length new.draft.wires ≡ length old.draft.wires
     same = ap (λ (b : Building). length b.draft.wires) n ∙ end_length e ws old.draft

@@ -73,6 +73,7 @@ used_is need x is s t old given left out back values same known taken g l b v =
   where
     here : back ≡ in_its_block s.env x (after_use need is (known_in s x))
     here = b ∙ ap (λ z. in_its_block z x left) taken ∙ its_its s.env x Absent left ∙ ap (in_its_block s.env x) (l ∙ ap (after_use need is) known)
+
     there : values ≡ use_part (wires_so_far s) need is (known_in s x) ∷ s.values
     there = v ∙ ap (λ z. z ∷ s.values) (g ∙ ap (use_part (wires_so_far s) need is) known)
 

@@ -9,8 +9,8 @@ ghost use Rattle.flat_steps.specs.Ready.{Ready};
 use crate::stack::{Caller, Values};
 use crate::state::Flattening;
 use crate::variables::Variables;
-use silq_tree::NameId;
 use silq_io::LimitFault;
+use silq_tree::NameId;
 use std::mem;
 
 impl Flattening {
@@ -62,6 +62,27 @@ impl Flattening {
         values.extend(results)?;
         self.variables = variables;
         self.values = values;
+        Ok(())
+    }
+}
+
+#[cfg(test)]
+mod tests {
+    use super::*;
+    use std::test::Fail;
+
+    #[test]
+    fn a_name_that_ends_in_a_block_ends_with_it(rt: HostRuntime) -> Result<(), Fail> {
+        let mut state = Flattening::begin(rt.alloc(), &[])?;
+        let name = NameId { number: 1 };
+        state.enter_block()?;
+        state.give_static(3)?;
+        state.end_compared(name)?;
+        assert!(rt; state.values.pop().is_none());
+        assert!(rt; state.variables.find(name).is_some());
+        state.leave_block();
+        assert!(rt; state.variables.find(name).is_none());
+        state.leave_body()?;
         Ok(())
     }
 }

@@ -10,8 +10,8 @@ use crate::state::Flattening;
 use crate::uses::{Use, assigned, used};
 use check_scope::Need;
 use flat_build::Known;
-use silq_tree::NameId;
 use silq_io::LimitFault;
+use silq_tree::NameId;
 
 impl Flattening {
     /// Gives the number of a static expression.

@@ -7,9 +7,9 @@ ghost use Rattle.flat_build.specs.Flat.{flat};
 ghost use Rattle.flat_steps.specs.Ready.{Ready};
 
 use crate::state::Flattening;
+use silq_io::LimitFault;
 use silq_tree::{BinaryOp, UnaryOp};
 use silq_types::Scalar;
-use silq_io::LimitFault;
 
 impl Flattening {
     /// Gives a number with a type.

@@ -1,12 +1,12 @@
 //! Parts of values.
 
 ghost use Rattle.std.specs.Prelude.{◌≡◌, ◌<◌, ◌≤◌, ◌+◌, ◌^◌, ℤ, [], ◌∷◌, length, drop};
-ghost use Rattle.silq_types.specs.Types.{shape_bits};
+ghost use Rattle.silq_types.specs.Types.{scalar_bits, shape_bits};
 ghost use Rattle.flat_build.specs.State.{part_shape, bit_start, part_start, part_of};
 
 use crate::typed::single_shape;
 use bit_arith::Operand;
-use silq_types::{Shape, Ty};
+use silq_types::{Scalar, Shape};
 
 /// What the part to which indices lead is made of: an index of an array gives an item, an index of a number a bit.
 pub(crate) fn part_shape(shape: Shape, indices: &[i64]) -> Shape
@@ -50,7 +50,7 @@ pub(crate) fn part_start(shape: Shape, indices: &[i64]) -> usize
         Shape::UInt(_) => index_at(indices, 0),
         Shape::Int(_) => index_at(indices, 0),
         Shape::Array(element, _) => {
-            index_at(indices, 0) * element.bits() as usize + index_at(indices, 1)
+            index_at(indices, 0) * scalar_bits(element) as usize + index_at(indices, 1)
         }
     }
 }
@@ -65,22 +65,32 @@ fn index_at(indices: &[i64], place: usize) -> usize
     }
 }
 
-// How many bits a value has.
+/// How many bits a value has.
 pub(crate) fn bits(shape: Shape) -> usize
-    requires { shape_bits shape < 2 ^ 64 }
     ensures { result ≡ shape_bits shape }
 {
-    Ty {
-        classical: false,
-        shape,
+    match shape {
+        Shape::Bit => 1,
+        Shape::UInt(width) => width as usize,
+        Shape::Int(width) => width as usize,
+        Shape::Array(element, length) => scalar_bits(element) as usize * length as usize,
     }
-    .bits() as usize
+}
+
+// How many bits a value of one bit or one number has.
+fn scalar_bits(scalar: Scalar) -> u32
+    ensures { result ≡ scalar_bits scalar }
+{
+    match scalar {
+        Scalar::Bit => 1,
+        Scalar::UInt(width) => width,
+        Scalar::Int(width) => width,
+    }
 }
 
 #[cfg(test)]
 mod tests {
     use super::*;
-    use silq_types::Scalar;
     use std::test::Fail;
 
     #[test]

@@ -1,7 +1,7 @@
 //! The state of flattening.
 
 ghost use Rattle.std.specs.Prelude.{◌≡◌, false, true, length, reverse, IfOk, IfErr};
-ghost use Rattle.silq_types.specs.Types.{scalar_bits, shape_bits};
+ghost use Rattle.silq_types.specs.Types.{shape_bits};
 ghost use Rattle.flat_core.specs.declared.step.End.TheVariants.{Output};
 ghost use Rattle.flat_core.specs.Drafts.{finished, FitsEnds};
 ghost use Rattle.bit_arith.specs.Built.{begun, all_made, wires_from};
@@ -11,13 +11,14 @@ ghost use Rattle.flat_build.specs.Flat.{begin, input_wires, end_all, wire_lists,
 ghost use Rattle.flat_build.specs.Names.{AllOf};
 
 use crate::outputs::{end_values, wire_lists};
+use crate::parts::bits;
 use crate::stack::{Callers, Values};
 use crate::variables::Variables;
 use bit_arith::{Builder, Operand};
 use flat_build::{Known, TypedBits};
 use flat_core::{End, Flat, Lit, WireLists};
 use silq_io::LimitFault;
-use silq_types::{List, Scalar, Shape};
+use silq_types::{List, Shape};
 use std::alloc::{AllocError, Global};
 use std::marker::Model;
 
@@ -114,25 +115,21 @@ fn input(builder: &mut Builder, alloc: Global, shape: Shape) -> Result<TypedBits
     })
 }
 
-/// How many bits a value has.
-fn bits(shape: Shape) -> u64
-    ensures { result ≡ shape_bits shape }
-{
-    match shape {
-        Shape::Bit => 1,
-        Shape::UInt(width) => u64::from(width),
-        Shape::Int(width) => u64::from(width),
-        Shape::Array(element, length) => u64::from(width(element)) * u64::from(length),
-    }
-}
+#[cfg(test)]
+mod tests {
+    use super::*;
+    use flat_core::WireId;
+    use silq_types::Scalar;
+    use std::test::Fail;
 
-/// How many bits a number has.
-fn width(scalar: Scalar) -> u32
-    ensures { result ≡ scalar_bits scalar }
-{
-    match scalar {
-        Scalar::Bit => 1,
-        Scalar::UInt(width) => width,
-        Scalar::Int(width) => width,
+    #[test]
+    fn parameters_have_the_first_wires(rt: HostRuntime) -> Result<(), Fail> {
+        let state = Flattening::begin(rt.alloc(), &[Shape::Array(Scalar::UInt(2), 2), Shape::Bit])?;
+        assert_eq!(rt; state.builder.wires(), 5);
+        let lists = state.wire_lists()?;
+        assert_eq!(rt; lists.len(), 2);
+        let last = lists.get(1).and_then(|list| list.get(0));
+        assert_eq!(rt; last.copied(), Some(WireId { number: 4 }));
+        Ok(())
     }
 }

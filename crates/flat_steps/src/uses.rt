@@ -144,7 +144,13 @@ pub(crate) fn assigned(
     match old {
         Known::Lent { start, size, value } => {
             let end = start + size;
-            let operands = with_part(alloc, value.operands.as_slice(), start, end, operands_of(&new))?;
+            let operands = with_part(
+                alloc,
+                value.operands.as_slice(),
+                start,
+                end,
+                operands_of(&new),
+            )?;
             Ok(Known::Shown(TypedBits { operands, ..value }))
         }
         other => Ok(other),
@@ -187,4 +193,19 @@ fn append(list: &mut List<Operand>, more: &[Operand]) -> Result<(), AllocError>
         list.push(*operand)?;
     }
     Ok(())
+}
+
+#[cfg(test)]
+mod tests {
+    use super::*;
+    use std::test::Fail;
+
+    #[test]
+    fn a_part_is_put_back_where_it_was(rt: HostRuntime) -> Result<(), Fail> {
+        let off = Operand::Const(false);
+        let on = Operand::Const(true);
+        let all = with_part(rt.alloc(), &[off, off, off, off], 1, 3, &[on, on])?;
+        assert_eq!(rt; all.as_slice(), [off, on, on, off].as_slice());
+        Ok(())
+    }
 }

@@ -240,3 +240,46 @@ impl Variables {
         block.define(name, known)
     }
 }
+
+#[cfg(test)]
+mod tests {
+    use super::*;
+    use std::test::Fail;
+
+    // The number that a variable shows, 0 where it shows none.
+    fn shown(variables: &Variables, number: u32) -> i64 {
+        match variables.find(NameId { number }) {
+            Some(Known::Static(shown)) => *shown,
+            _ => 0,
+        }
+    }
+
+    #[test]
+    fn blocks_hide_and_show_variables(rt: HostRuntime) -> Result<(), Fail> {
+        let mut variables = Variables::new(rt.alloc());
+        variables.bind(NameId { number: 1 }, Known::Static(10))?;
+        variables.open()?;
+        variables.bind(NameId { number: 2 }, Known::Static(20))?;
+        variables.bind(NameId { number: 1 }, Known::Static(11))?;
+        assert_eq!(rt; shown(&variables, 1), 11);
+        assert_eq!(rt; shown(&variables, 2), 20);
+        variables.close();
+        assert_eq!(rt; shown(&variables, 1), 11);
+        assert!(rt; variables.find(NameId { number: 2 }).is_none());
+        Ok(())
+    }
+
+    #[test]
+    fn parameters_show_values_in_order(rt: HostRuntime) -> Result<(), Fail> {
+        let mut values = Values::new(rt.alloc());
+        values.push(Known::Static(7))?;
+        values.push(Known::Static(8))?;
+        values.push(Known::Static(9))?;
+        let turned = values.turn_over(2)?;
+        let names = [NameId { number: 1 }, NameId { number: 2 }];
+        let variables = Variables::of_parameters(rt.alloc(), &names, turned)?;
+        assert_eq!(rt; shown(&variables, 1), 8);
+        assert_eq!(rt; shown(&variables, 2), 9);
+        Ok(())
+    }
+}

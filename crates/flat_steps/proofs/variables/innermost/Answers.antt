@@ -13,5 +13,5 @@ loop-i-preserved c =
     let low : i < length bs = omega arith in
     let next : i + 1 ≡ c.loop-i.i = omega arith in
     let free : is_in_block (get_or bs i []) c.args.name ≡ false =
-        ap (λ z. is_in_block z c.args.name) (get_or_default bs i [] c.index-blocks-i.result low ∙ sym c.index-blocks-i.is) ∙ sym c.if-has.ensures in
+    ap (λ z. is_in_block z c.args.name) (get_or_default bs i [] c.index-blocks-i.result low ∙ sym c.index-blocks-i.is) ∙ sym c.if-has.ensures in
     (omega arith, outer_more bs c.args.name i low (subst (λ z. is_in_reach (reverse (drop z bs)) c.args.name ≡ false) (sym next) c.loop-i.invariant.1) free)
