@@ -1,5 +1,5 @@
 -- Wires of parameters.
-use Rattle.std.proofs.Common.{◌≡◌, ℕ, zero, suc, ◌+◌, ◌≤◌, Bool, true, false, cond, List, [], ◌∷◌, ◌++◌, length, map, drop, reverse, Option, Some, None, refl, sym, ap, ◌∙◌, subst, arith, append_assoc, length-append}
+use Rattle.std.proofs.Common.{◌≡◌, ℕ, zero, suc, true, List, [], ◌∷◌, ◌++◌, length, reverse, Option, Some, None, refl, sym, ap, ◌∙◌, arith, append_assoc, length-append}
 use Rattle.std.proofs.lemmas.List.{reverse-append}
 use Rattle.silq_io.specs.declared.limit.OverLimit.{OverLimit}
 use Rattle.silq_types.specs.declared.types.Shape.{Shape}
@@ -10,11 +10,10 @@ use Rattle.flat_core.specs.Form.{DraftForm, WireForm}
 use Rattle.flat_core.specs.Label.{wire_id}
 use Rattle.flat_core.specs.Drafts.{with_wire, over_by_wire}
 use Rattle.bit_arith.specs.declared.operand.Operand.{Operand}
-use Rattle.bit_arith.specs.Built.{Built, Setting, begun, or_later, made, all_made, wires_from}
+use Rattle.bit_arith.specs.Built.{Built, begun, or_later, made, all_made, wires_from}
 use Rattle.bit_arith.specs.Calls.{Building}
 use Rattle.bit_arith.proofs.Grows.{Grows, grows_same, grows_then}
 use Rattle.flat_build.specs.declared.known.Known.{Known}
-use Rattle.flat_build.specs.declared.known.Known.TheVariants.{Shown}
 use Rattle.flat_build.specs.Flat.{input_wires, inputs}
 
 -- one input wire more

@@ -1,5 +1,5 @@
 -- Variables and blocks by their places.
-use Rattle.std.proofs.Common.{◌≡◌, ℕ, zero, suc, ◌+◌, ◌-◌, ◌<◌, ◌≤◌, Bool, true, false, cond, ◌||◌, Option, Some, None, is_some, List, [], ◌∷◌, ◌++◌, length, take, drop, reverse, set, get_or, refl, sym, ap, ◌∙◌, subst, arith}
+use Rattle.std.proofs.Common.{◌≡◌, ℕ, zero, suc, ◌+◌, ◌<◌, Bool, true, false, cond, ◌||◌, Some, None, is_some, List, [], ◌∷◌, ◌++◌, length, take, drop, reverse, set, get_or, refl, sym, ap, ◌∙◌, subst, arith}
 use Rattle.std.specs.Prelude.{nat_lt, not}
 use Rattle.std.specs.List.{position, position_or_len}
 use Rattle.std.proofs.lemmas.List.{reverse-append, append_assoc, set_split, set-get_or, get_or_default, drop_all, drop_more}
@@ -179,16 +179,3 @@ bound_to bs x i w b new env h e f v =
 pub first_to : {A : Type 0} (bs : List (Block A)) (x : NameId) (i : ℕ) (w : A) (b new : Block A) (env : Env A) → suc i ≡ length bs → b ≡ get_or bs i b → new ≡ block_with b x w → reverse bs ≡ env → reverse (set bs i new) ≡ in_first_block env x w
 first_to bs x i w b new env l e f v =
     ap (λ z. reverse (set bs i z)) (f ∙ ap (λ z. block_with z x w) (sym (at_block bs i b (omega (arith, l)) e))) ∙ sym (first_in bs x i w l) ∙ ap (λ z. in_first_block z x w) v
-
--- the block at the end has not what is not in reach
-in_last : {A : Type 0} (pre : Env A) (x : NameId) → is_in_reach pre x ≡ false → (b : Block A) (post : Env A) → pre ≡ b ∷ post → is_in_block b x ≡ false
-in_last pre x h b post e = pick (is_in_block b x) (ap (λ z. is_in_reach z x) (sym e) ∙ h)
-  where
-    pick : (t : Bool) → (t || is_in_reach post x) ≡ false → t ≡ false
-    pick true k = absurd (grind (arith, k))
-    pick false k = refl
-
-pub last_free : {A : Type 0} (bs : List (Block A)) (x : NameId) (i : ℕ) (b : Block A) (env : Env A) → suc i ≡ length bs → b ≡ get_or bs i b → reverse bs ≡ env → is_in_reach env x ≡ false → is_in_block b x ≡ false
-last_free bs x i b env l e v h =
-    ap (λ z. is_in_block z x) (sym (at_block bs i b (omega (arith, l)) e)) ∙ in_last env x h (get_or bs i []) (reverse (take i bs))
-    (sym v ∙ reverse_at bs i [] (omega (arith, l)) ∙ ap (λ z. reverse z ++ get_or bs i [] ∷ reverse (take i bs)) (drop_all (suc i) bs (omega (arith, l))))

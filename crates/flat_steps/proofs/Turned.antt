@@ -1,8 +1,8 @@
 -- Values that are turned over, and lists that end.
-use Rattle.std.proofs.Common.{◌≡◌, ℕ, zero, suc, ◌+◌, ◌≤◌, List, [], ◌∷◌, ◌++◌, length, take, drop, reverse, refl, sym, ap, ◌∙◌, subst, arith}
-use Rattle.std.proofs.lemmas.List.{reverse-append, append-nil}
+use Rattle.std.proofs.Common.{◌≡◌, ℕ, zero, suc, ◌+◌, ◌≤◌, List, [], ◌∷◌, ◌++◌, take, drop, reverse, refl, ap, ◌∙◌, arith}
+use Rattle.std.proofs.lemmas.List.{reverse-append}
 use Rattle.silq_tree.specs.declared.node.NameId.{NameId}
-use Rattle.silq_mean.specs.Env.{Env, Block}
+use Rattle.silq_mean.specs.Env.{Env}
 use Rattle.flat_build.specs.declared.known.Known.{Known}
 use Rattle.flat_build.specs.Flat.{bind_all, paired}
 

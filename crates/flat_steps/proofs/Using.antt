@@ -1,9 +1,9 @@
 -- Variables that are taken out and put back.
-use Rattle.std.proofs.Common.{◌≡◌, ℕ, Bool, true, false, cond, ◌||◌, List, [], ◌∷◌, length, refl, sym, ap, ◌∙◌, subst, arith, ℤ}
+use Rattle.std.proofs.Common.{◌≡◌, ℕ, Bool, true, false, cond, ◌||◌, List, [], ◌∷◌, length, refl, sym, ap, ◌∙◌, arith, ℤ}
 use Rattle.silq_tree.specs.declared.node.NameId.{NameId}
 use Rattle.silq_types.specs.Types.{same_name}
 use Rattle.check_scope.specs.declared.need.Need.{Need}
-use Rattle.silq_mean.specs.Env.{Block, Env, is_in_block, in_block, block_with, is_in_reach, found, in_its_block, in_first_block, bound}
+use Rattle.silq_mean.specs.Env.{Block, Env, is_in_block, block_with, is_in_reach, found, in_its_block, in_first_block, bound}
 use Rattle.flat_build.specs.declared.known.Known.{Known}
 use Rattle.flat_build.specs.declared.known.Known.TheVariants.{Static, Shown, Lent, Absent}
 use Rattle.flat_build.specs.State.{Flattening, last, drop_last, wires_so_far}

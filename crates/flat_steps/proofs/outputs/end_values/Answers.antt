@@ -1,4 +1,4 @@
-use Rattle.std.proofs.Common.{sym, ap, ◌∙◌, arith}
+use Rattle.std.proofs.Common.{ap, ◌∙◌, arith}
 use Rattle.flat_build.specs.State.{wires_in}
 use Rattle.flat_steps.proofs.Endings.{next_ended}
 use Rattle.flat_steps.proofs.outputs.end_values.Goals as goal

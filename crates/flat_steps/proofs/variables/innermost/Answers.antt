@@ -1,8 +1,5 @@
-use Rattle.std.proofs.Common.{◌≡◌, ℕ, suc, ◌+◌, ◌-◌, ◌<◌, ◌≤◌, false, None, Some, [], ◌∷◌, ◌++◌, length, drop, reverse, set, get_or, refl, sym, ap, ◌∙◌, subst, arith}
-use Rattle.std.specs.List.{position}
-use Rattle.silq_types.specs.Types.{same_name}
-use Rattle.silq_mean.specs.Env.{is_in_reach, is_in_block, in_block, block_with, found}
-use Rattle.flat_build.specs.declared.known.Known.TheVariants.{Absent}
+use Rattle.std.proofs.Common.{◌≡◌, ℕ, ◌+◌, ◌-◌, ◌<◌, false, [], length, drop, reverse, get_or, sym, ap, ◌∙◌, subst, arith}
+use Rattle.silq_mean.specs.Env.{is_in_reach, is_in_block}
 use Rattle.std.proofs.lemmas.List.{get_or_default}
 use Rattle.flat_steps.proofs.Places.{outer_more}
 use Rattle.flat_steps.proofs.variables.innermost.Goals as goal

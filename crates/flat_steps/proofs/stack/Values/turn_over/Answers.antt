@@ -1,4 +1,4 @@
-use Rattle.std.proofs.Common.{◌≡◌, ◌∷◌, ◌+◌, reverse, sym, ap, ◌∙◌, arith}
+use Rattle.std.proofs.Common.{◌∷◌, reverse, sym, ap, ◌∙◌, arith}
 use Rattle.flat_steps.proofs.Turned.{next_turned, ended}
 use Rattle.flat_steps.proofs.stack.Values.turn_over.Goals as goal
 

@@ -1,4 +1,4 @@
-use Rattle.std.proofs.Common.{◌≡◌, ℕ, suc, ◌+◌, ◌-◌, ◌++◌, ◌∷◌, [], drop, refl, sym, ap, ◌∙◌, subst, arith, List, get_or}
+use Rattle.std.proofs.Common.{◌+◌, drop, sym, ap, ◌∙◌, subst, arith, List, get_or}
 use Rattle.std.proofs.lemmas.List.{drop_more}
 use Rattle.std.proofs.lemmas.Result.{err_from_is_err_and}
 use Rattle.silq_types.specs.declared.types.Shape.{Shape}

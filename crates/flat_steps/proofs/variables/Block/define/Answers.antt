@@ -1,8 +1,4 @@
-use Rattle.std.proofs.Common.{◌≡◌, ◌≤◌, false, None, Some, [], ◌∷◌, ◌++◌, drop, reverse, set, get_or, refl, sym, ap, ◌∙◌, arith}
-use Rattle.std.specs.List.{position}
-use Rattle.silq_types.specs.Types.{same_name}
-use Rattle.silq_mean.specs.Env.{is_in_reach, is_in_block, in_block, block_with, found}
-use Rattle.flat_build.specs.declared.known.Known.TheVariants.{Absent}
+use Rattle.std.proofs.Common.{[], ◌∷◌, ◌++◌, sym, ap, ◌∙◌}
 use Rattle.flat_steps.proofs.Places.{block_with_new}
 use Rattle.flat_steps.proofs.variables.Block.define.Goals as goal
 

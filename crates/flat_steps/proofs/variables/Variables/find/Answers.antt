@@ -1,7 +1,5 @@
-use Rattle.std.proofs.Common.{◌≡◌, ℕ, suc, ◌+◌, ◌-◌, ◌<◌, ◌≤◌, false, None, Some, [], ◌∷◌, ◌++◌, length, drop, reverse, set, get_or, refl, sym, ap, ◌∙◌, subst, arith}
-use Rattle.std.specs.List.{position}
-use Rattle.silq_types.specs.Types.{same_name}
-use Rattle.silq_mean.specs.Env.{is_in_reach, is_in_block, in_block, block_with, found}
+use Rattle.std.proofs.Common.{◌≡◌, false, reverse, sym, ap, ◌∙◌, subst}
+use Rattle.silq_mean.specs.Env.{is_in_reach}
 use Rattle.flat_build.specs.declared.known.Known.TheVariants.{Absent}
 use Rattle.flat_steps.specs.Reach.{IsInnermost}
 use Rattle.flat_steps.proofs.Places.{not_found, found_to}
