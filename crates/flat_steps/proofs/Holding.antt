@@ -1,22 +1,29 @@
 -- Values that are taken for a change of their wires.
-use Rattle.std.proofs.Common.{◌≡◌, true, ◌||◌, List, [], ◌∷◌, length, Result, Ok, Err, IfOk, refl, sym, ap, ◌∙◌, subst, arith}
+use Rattle.std.proofs.Common.{◌≡◌, true, false, ◌||◌, List, [], ◌∷◌, length, Result, Ok, Err, IfOk, refl, sym, ap, ◌∙◌, subst, arith}
 use Rattle.silq_io.specs.declared.limit.LimitFault.{LimitFault}
+use Rattle.silq_types.specs.declared.types.Shape.{Shape}
+use Rattle.silq_types.specs.declared.types.Shape.TheVariants.{Bit}
 use Rattle.silq_types.specs.Types.{shape_bits}
+use Rattle.flat_core.specs.declared.step.WireId.{WireId}
 use Rattle.flat_core.specs.Form.{DraftForm}
 use Rattle.bit_arith.specs.declared.operand.Operand.{Operand}
+use Rattle.bit_arith.specs.declared.operand.Operand.TheVariants.{Const, Literal}
 use Rattle.bit_arith.specs.Built.{Built, Setting, Given, begun, under}
-use Rattle.bit_arith.specs.Calls.{Building, no_target, AllSafe, AreTargets, Went}
+use Rattle.bit_arith.specs.Calls.{Building, no_target, AllSafe, AreTargets, IsTarget, Went, Refused}
+use Rattle.bit_arith.proofs.Grows.{Grows}
+use Rattle.bit_arith.proofs.Going.{refused_on}
 use Rattle.bit_arith.proofs.Listed.{safe_more}
 use Rattle.flat_build.specs.declared.known.TypedBits.{TypedBits}
 use Rattle.flat_build.specs.declared.known.Known.{Known}
 use Rattle.flat_build.specs.declared.known.Known.TheVariants.{Static, Shown, Lent, Absent}
-use Rattle.flat_build.specs.State.{Flattening, first, last, are_new, wires_in, taken}
+use Rattle.flat_build.specs.State.{Flattening, first, last, push, build, are_new, are_wires, wires_in, only_wire, taken}
+use Rattle.flat_build.specs.Flat.{on_wire}
 use Rattle.flat_build.specs.Good.{Good, IsShown, IsKnown}
 use Rattle.flat_build.specs.Fine.{IsOf, MayTake}
 use Rattle.flat_build.proofs.Goods.{last_known}
 use Rattle.flat_build.proofs.Later.{later_read}
 use Rattle.flat_build.proofs.Giving.{Takes, takes_taken}
-use Rattle.flat_steps.specs.Held.{Held}
+use Rattle.flat_steps.specs.Held.{Held, taking, now_taken}
 
 -- a value that may be taken is held then
 held_here : (s : Flattening) (v : TypedBits) → Good s → IsShown (length s.built.draft.wires) v → MayTake v s → let row : Given (List Operand) = taken s.setting v (begun s.built.draft) in AreTargets row.built.draft (wires_in row.answer) → Held (record v { operands = row.answer }) row.built.draft s.setting
@@ -50,3 +57,55 @@ held_last s k v rest new (Ok w) values is g m answer ok targets =
     subst (λ (u : TypedBits). Held u new.draft new.setting) (sym answer)
     (subst (λ (d : DraftForm). Held (record v { operands = row.answer }) d new.setting) (sym ok.built)
     (subst (λ (at : Setting). Held (record v { operands = row.answer }) row.built.draft at) (sym ok.kept) (held_here s v g shown may t)))
+
+-- ---- gates
+
+-- steps on a wire
+abbrev pub Gate : Type 0
+Gate = Setting → WireId → Built → Built
+
+abbrev pub GateGrows : Gate → Type 0
+GateGrows gate = (at : Setting) (w : WireId) (b : Built) → Grows b (gate at w b)
+
+-- what refuses to take the value refuses the gate
+pub wire_refused : (gate : Gate) → GateGrows gate → (k : Known) (s : Flattening) (fault : LimitFault) → Refused fault (taking s.setting k s.built).built → Refused fault (on_wire gate k s).built
+wire_refused gate grows (Static z) s fault r = r
+wire_refused gate grows (Lent start size v) s fault r = r
+wire_refused gate grows Absent s fault r = r
+wire_refused gate grows (Shown v) s fault r =
+    let row : Given (List Operand) = taken s.setting v s.built in
+    refused_on fault row.built (gate s.setting (only_wire row.answer) row.built) (grows s.setting (only_wire row.answer) row.built) r
+
+-- the gate on the wire that was taken
+pub wire_given : (gate : Gate) (k : Known) (s : Flattening) (v : TypedBits) → Shown v ≡ now_taken s.setting k s.built → on_wire gate k s ≡ push (Shown (record v { classical = false; own = true })) (build (gate s.setting (only_wire v.operands) (taking s.setting k s.built).built) s)
+wire_given gate (Static z) s v e = cc
+wire_given gate (Lent start size u) s v e = cc
+wire_given gate Absent s v e = cc
+wire_given gate (Shown u) s v e =
+    let row : Given (List Operand) = taken s.setting u s.built in
+    ap (λ (x : TypedBits). push (Shown (record x { classical = false; own = true })) (build (gate s.setting (only_wire x.operands) row.built) s)) (sym (shown_is v (record u { operands = row.answer }) e))
+  where
+    bits_in : TypedBits → Known → TypedBits
+    bits_in other (Shown x) = x
+    bits_in other k = other
+
+    shown_is : (x y : TypedBits) → Shown x ≡ Shown y → x ≡ y
+    shown_is x y h = ap (bits_in x) h
+
+-- ---- the wire of a bit
+
+pub one_target : (d : DraftForm) (ps : List Operand) → are_wires ps ≡ true → length ps ≡ 1 → AreTargets d (wires_in ps) → IsTarget d (only_wire ps)
+one_target d [] h e t = cc
+one_target d (Const b ∷ ps) h e t = cc
+one_target d (Literal l ∷ ps) h e t = t.0
+
+-- the last value of which a gate takes the wire is a bit
+pub bit_shape : (k : Known) (at : Setting) (b : Built) (v : TypedBits) (Q : TypedBits → Type 0) → Shown v ≡ now_taken at k b → IsOf (λ u. (u.shape ≡ Bit) × Q u) k → v.shape ≡ Bit
+bit_shape (Static z) at b v Q e f = absurd f
+bit_shape (Lent start size u) at b v Q e f = absurd f
+bit_shape Absent at b v Q e f = absurd f
+bit_shape (Shown u) at b v Q e f = ap shape_in e ∙ f.0
+  where
+    shape_in : Known → Shape
+    shape_in (Shown x) = x.shape
+    shape_in k = Bit

@@ -8,6 +8,7 @@ use Rattle.bit_arith.specs.Calls.{among, no_target, AllSafe, AreTargets, WasRead
 use Rattle.flat_build.specs.declared.known.TypedBits.{TypedBits}
 use Rattle.flat_build.specs.declared.known.Known.{Known}
 use Rattle.flat_build.specs.declared.known.Known.TheVariants.{Shown}
+use Rattle.flat_build.specs.Fine.{Distinct}
 use Rattle.flat_build.specs.State.{are_wires, wires_in, as_they_are, taken}
 
 -- what taking a value builds, and the value with the wires that it gives
@@ -25,6 +26,7 @@ pub record Held (v : TypedBits) (d : DraftForm) (at : Setting) : Type 0 where
   pub wires : are_wires v.operands ≡ true
   pub there : AllSafe (length d.wires) no_target v.operands
   pub targets : AreTargets d (wires_in v.operands)
+  pub distinct : Distinct (wires_in v.operands)
   pub guards : AllSafe (length d.wires) (among (wires_in v.operands)) (under at [])
   pub condition : AllSafe (length d.wires) no_target (under at [])
   pub read : WasRead d at.condition
