@@ -1,5 +1,5 @@
 -- Values that are taken for a change of their wires.
-use Rattle.std.proofs.Common.{◌≡◌, true, false, ◌||◌, List, [], ◌∷◌, length, Result, Ok, Err, IfOk, refl, sym, ap, ◌∙◌, subst, arith}
+use Rattle.std.proofs.Common.{◌≡◌, Bool, true, false, cond, ◌||◌, List, [], ◌∷◌, length, Result, Ok, Err, IfOk, refl, sym, ap, ◌∙◌, subst, arith}
 use Rattle.silq_io.specs.declared.limit.LimitFault.{LimitFault}
 use Rattle.silq_types.specs.declared.types.Shape.{Shape}
 use Rattle.silq_types.specs.declared.types.Shape.TheVariants.{Bit}
@@ -10,20 +10,35 @@ use Rattle.bit_arith.specs.declared.operand.Operand.{Operand}
 use Rattle.bit_arith.specs.declared.operand.Operand.TheVariants.{Const, Literal}
 use Rattle.bit_arith.specs.Built.{Built, Setting, Given, begun, under}
 use Rattle.bit_arith.specs.Calls.{Building, no_target, AllSafe, AreTargets, IsTarget, Went, Refused}
+use Rattle.bit_arith.specs.Rows.{copy}
+use Rattle.bit_arith.specs.Does.{Fresh, Different}
+use Rattle.bit_arith.proofs.Making.{copy_does}
 use Rattle.bit_arith.proofs.Grows.{Grows}
 use Rattle.bit_arith.proofs.Going.{refused_on}
 use Rattle.bit_arith.proofs.Listed.{safe_more}
 use Rattle.flat_build.specs.declared.known.TypedBits.{TypedBits}
 use Rattle.flat_build.specs.declared.known.Known.{Known}
 use Rattle.flat_build.specs.declared.known.Known.TheVariants.{Static, Shown, Lent, Absent}
-use Rattle.flat_build.specs.State.{Flattening, first, last, push, build, are_new, are_wires, wires_in, only_wire, taken}
+use Rattle.flat_build.specs.State.{Flattening, first, last, push, build, are_new, are_wires, wires_in, only_wire, as_they_are, copied, taken}
 use Rattle.flat_build.specs.Flat.{on_wire}
 use Rattle.flat_build.specs.Good.{Good, IsShown, IsKnown}
-use Rattle.flat_build.specs.Fine.{IsOf, MayTake}
+use Rattle.flat_build.specs.Fine.{IsOf, MayTake, Distinct}
 use Rattle.flat_build.proofs.Goods.{last_known}
 use Rattle.flat_build.proofs.Later.{later_read}
-use Rattle.flat_build.proofs.Giving.{Takes, takes_taken}
+use Rattle.flat_build.proofs.Giving.{Takes, takes_taken, in_made}
 use Rattle.flat_steps.specs.Held.{Held, taking, now_taken}
+
+distinct_different : (ws : List WireId) → Different ws → Distinct ws
+distinct_different [] h = tt
+distinct_different (w ∷ ws) h = (h.0, distinct_different ws h.1)
+
+-- the wires that are taken differ: those of copies are new
+taken_distinct : (at : Setting) (v : TypedBits) (b : Built) → Fresh b.draft → AllSafe (length b.draft.wires) no_target (under at []) → AllSafe (length b.draft.wires) no_target v.operands → (v.own || are_new b.draft v.began v.operands ≡ true → Distinct (wires_in v.operands)) → Distinct (wires_in (taken at v b).answer)
+taken_distinct at v b f g s may = pick (v.own || are_new b.draft v.began v.operands) refl
+  where
+    pick : (x : Bool) → (v.own || are_new b.draft v.began v.operands) ≡ x → Distinct (wires_in (cond x (as_they_are v.operands b) (copied at v.operands b)).answer)
+    pick true e = may e
+    pick false e = subst Distinct (sym (in_made (copy at v.operands b).answer)) (distinct_different (copy at v.operands b).answer (copy_does at v.operands b f g s).different)
 
 -- a value that may be taken is held then
 held_here : (s : Flattening) (v : TypedBits) → Good s → IsShown (length s.built.draft.wires) v → MayTake v s → let row : Given (List Operand) = taken s.setting v (begun s.built.draft) in AreTargets row.built.draft (wires_in row.answer) → Held (record v { operands = row.answer }) row.built.draft s.setting
@@ -36,6 +51,7 @@ held_here s v g h m t =
       wires = r.wires;
       there = r.gives.there;
       targets = t;
+      distinct = taken_distinct s.setting v b g.fresh g.condition h.there (λ k. (m k).distinct);
       guards = r.guards;
       condition = safe_more (length s.built.draft.wires) (length row.built.draft.wires) no_target no_target (under s.setting []) r.gives.later.longer (λ w lt e. e) g.condition;
       read = later_read s.built.draft row.built.draft r.gives.later g.fresh s.setting.condition g.read;

@@ -1,3 +1,4 @@
+pub mod Changes
 pub mod Entering
 pub mod Ready
 pub mod Held

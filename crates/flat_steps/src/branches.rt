@@ -70,7 +70,10 @@ fn on_a_wire(builder: &mut Builder, p: Operand) -> Result<Operand, LimitFault>
     ensures refused { IfErr result (λ e. Refused e (flip builder.old.setting (next_wire (begun builder.old.draft)) (p ∷ []) (new_wire (begun builder.old.draft)))) }
 {
     let wires = builder.copy(&[p])?;
-    Ok(Operand::Literal(Lit { wire: wires[0], positive: true }))
+    Ok(Operand::Literal(Lit {
+        wire: wires[0],
+        positive: true,
+    }))
 }
 
 // Enters a branch: below another condition its own is put on a wire. Gives the condition that was in force.
@@ -125,5 +128,44 @@ impl Flattening {
         ensures { self.new ≡ under choice.outer self.old }
     {
         self.builder.under(choice.outer);
+    }
+}
+
+#[cfg(test)]
+mod tests {
+    use super::*;
+    use flat_core::WireId;
+    use std::test::Fail;
+
+    #[test]
+    fn a_constant_one_is_no_condition(rt: HostRuntime) -> Result<(), Fail> {
+        let mut builder = Builder::new(rt.alloc());
+        assert_eq!(rt; enter(&mut builder, Operand::Const(true))?, None);
+        assert_eq!(rt; builder.under(None), None);
+        enter(&mut builder, Operand::Const(false))?;
+        assert_eq!(rt; builder.under(None), Some(Operand::Const(false)));
+        assert_eq!(rt; builder.wires(), 0);
+        Ok(())
+    }
+
+    #[test]
+    fn a_branch_in_a_branch_has_a_wire(rt: HostRuntime) -> Result<(), Fail> {
+        let mut builder = Builder::new(rt.alloc());
+        let first = on_wire(builder.wire(true)?);
+        let second = on_wire(builder.wire(true)?);
+        enter(&mut builder, first)?;
+        let outer = enter(&mut builder, second)?;
+        assert_eq!(rt; outer, Some(first));
+        assert_eq!(rt; builder.wires(), 3);
+        Ok(())
+    }
+
+    fn on_wire(wire: WireId) -> Operand
+        ensures { result ≡ made wire }
+    {
+        Operand::Literal(Lit {
+            wire,
+            positive: true,
+        })
     }
 }

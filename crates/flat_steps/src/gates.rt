@@ -4,15 +4,15 @@ ghost use Rattle.std.specs.Prelude.{◌≡◌, ◌<◌, ◌++◌, [], length, tr
 ghost use Rattle.silq_mean.specs.Effect.{step, mix, measure, copy_last, repeat_last, flip_last, turn_by, turn_all};
 ghost use Rattle.bit_arith.specs.Built.{begun, under};
 ghost use Rattle.bit_arith.specs.Calls.{AllSafe, AreTargets, no_target, Refused, Went};
-ghost use Rattle.bit_arith.specs.Does.{Below};
 ghost use Rattle.flat_build.specs.declared.known.Known.TheVariants.{Shown};
 ghost use Rattle.flat_build.specs.State.{push, last, drop_last, build, copied, only_wire};
-ghost use Rattle.flat_build.specs.Flat.{flat, give, array_of, repeated, turn_both, measure_all, end_all};
+ghost use Rattle.flat_build.specs.Flat.{flat, give, array_of, repeated, turn_both, measure_all};
 ghost use Rattle.flat_build.specs.Good.{Good};
 ghost use Rattle.flat_build.specs.Fine.{IsOf, MayTake, Distinct};
 ghost use Rattle.flat_steps.specs.Held.{taking, now_taken, Held};
 ghost use Rattle.flat_steps.specs.Ready.{Ready};
 
+use crate::ends::end_all;
 use crate::state::Flattening;
 use crate::take::{copied, taken};
 use crate::wires::wires_in;
@@ -59,17 +59,6 @@ fn measure_all(builder: &mut Builder, wires: &[WireId]) -> Result<(), LimitFault
         builder.measure(*wire)?;
     }
     Ok(())
-}
-
-/// Sets the end of each wire.
-fn end_all(builder: &mut Builder, wires: &[WireId], end: End)
-    requires { Below (length builder.old.draft.wires) wires.now }
-    ensures draft { begun builder.new.draft ≡ end_all end wires.now (begun builder.old.draft) }
-    ensures setting { builder.new.setting ≡ builder.old.setting }
-{
-    for wire in wires {
-        builder.end(*wire, end);
-    }
 }
 
 /// Operands so many times.
@@ -249,7 +238,7 @@ impl Flattening {
         let value = self.take_last()?;
         let wires = wires_in(self.alloc, value.operands.as_slice())?;
         measure_all(&mut self.builder, wires.as_slice())?;
-        end_all(&mut self.builder, wires.as_slice(), End::Measured);
+        end_all(&mut self.builder, End::Measured, wires.as_slice());
         self.values.push(Known::Shown(TypedBits {
             classical: true,
             own: false,

@@ -7,9 +7,11 @@
 mod blocks;
 mod branches;
 mod copying;
+mod ends;
 mod gates;
 mod names;
 mod operators;
+mod parts;
 mod stack;
 mod state;
 mod statements;

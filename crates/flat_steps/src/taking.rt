@@ -7,8 +7,8 @@ ghost use Rattle.flat_build.specs.Flat.{flat};
 ghost use Rattle.flat_steps.specs.Ready.{Ready};
 
 use crate::state::Flattening;
-use silq_mean::Receiver;
 use silq_io::LimitFault;
+use silq_mean::Receiver;
 
 impl Flattening {
     /// The last value is taken over.

@@ -91,7 +91,7 @@ pub(crate) fn as_operand(
 }
 
 /// What a single value is made of.
-fn single_shape(scalar: Scalar) -> Shape
+pub(crate) fn single_shape(scalar: Scalar) -> Shape
     ensures { result ≡ shape_of_single scalar }
 {
     match scalar {

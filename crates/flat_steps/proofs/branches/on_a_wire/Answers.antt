@@ -1,6 +1,6 @@
-use Rattle.std.proofs.Common.{rules, ◌≡◌, [], ◌∷◌, ◌<◌, List, length, refl, sym, ap, ◌∙◌, subst, arith}
+use Rattle.std.proofs.Common.{rules, ◌≡◌, [], ◌∷◌, ◌<◌, length, refl, sym, ap, ◌∙◌, subst, arith}
 use Rattle.flat_core.specs.declared.step.WireId.{WireId}
-use Rattle.bit_arith.specs.Built.{Built, begun, made, next_wire}
+use Rattle.bit_arith.specs.Built.{begun, made, next_wire}
 use Rattle.bit_arith.proofs.Going.{went_as, refused_as, refused_out}
 use Rattle.flat_steps.proofs.Branching.{copy_one, one_copy, one_there, only_one}
 use Rattle.flat_steps.proofs.branches.on_a_wire.Goals as goal
