@@ -1,5 +1,5 @@
 -- Values that are taken for a change of their wires.
-use Rattle.std.proofs.Common.{◌≡◌, Bool, true, false, cond, ◌||◌, List, [], ◌∷◌, length, Result, Ok, Err, IfOk, refl, sym, ap, ◌∙◌, subst, arith}
+use Rattle.std.proofs.Common.{◌≡◌, ℕ, Bool, true, false, cond, ◌||◌, List, [], ◌∷◌, length, Result, Ok, Err, IfOk, refl, sym, ap, ap₂, ◌∙◌, subst, arith}
 use Rattle.silq_io.specs.declared.limit.LimitFault.{LimitFault}
 use Rattle.silq_types.specs.declared.types.Shape.{Shape}
 use Rattle.silq_types.specs.declared.types.Shape.TheVariants.{Bit}
@@ -16,16 +16,17 @@ use Rattle.bit_arith.proofs.Making.{copy_does}
 use Rattle.bit_arith.proofs.Grows.{Grows}
 use Rattle.bit_arith.proofs.Going.{refused_on}
 use Rattle.bit_arith.proofs.Listed.{safe_more}
+use Rattle.bit_arith.proofs.Safe.{under_safe}
 use Rattle.flat_build.specs.declared.known.TypedBits.{TypedBits}
 use Rattle.flat_build.specs.declared.known.Known.{Known}
 use Rattle.flat_build.specs.declared.known.Known.TheVariants.{Static, Shown, Lent, Absent}
 use Rattle.flat_build.specs.State.{Flattening, first, last, push, build, are_new, are_wires, wires_in, only_wire, as_they_are, copied, taken}
-use Rattle.flat_build.specs.Flat.{on_wire}
+use Rattle.flat_build.specs.Flat.{on_wire, repeated}
 use Rattle.flat_build.specs.Good.{Good, IsShown, IsKnown}
 use Rattle.flat_build.specs.Fine.{IsOf, MayTake, Distinct}
 use Rattle.flat_build.proofs.Goods.{last_known}
 use Rattle.flat_build.proofs.Later.{later_read}
-use Rattle.flat_build.proofs.Giving.{Takes, takes_taken, in_made}
+use Rattle.flat_build.proofs.Giving.{Takes, takes_taken, in_made, safe_repeated}
 use Rattle.flat_steps.specs.Held.{Held, taking, now_taken}
 
 distinct_different : (ws : List WireId) → Different ws → Distinct ws
@@ -92,6 +93,14 @@ wire_refused gate grows (Shown v) s fault r =
     let row : Given (List Operand) = taken s.setting v s.built in
     refused_on fault row.built (gate s.setting (only_wire row.answer) row.built) (grows s.setting (only_wire row.answer) row.built) r
 
+bits_in : TypedBits → Known → TypedBits
+bits_in other (Shown x) = x
+bits_in other k = other
+
+pub shown_is : (x y : TypedBits) → Shown x ≡ Shown y → x ≡ y
+unfolding bits_in
+shown_is x y h = ap (bits_in x) h
+
 -- the gate on the wire that was taken
 pub wire_given : (gate : Gate) (k : Known) (s : Flattening) (v : TypedBits) → Shown v ≡ now_taken s.setting k s.built → on_wire gate k s ≡ push (Shown (record v { classical = false; own = true })) (build (gate s.setting (only_wire v.operands) (taking s.setting k s.built).built) s)
 wire_given gate (Static z) s v e = cc
@@ -100,13 +109,6 @@ wire_given gate Absent s v e = cc
 wire_given gate (Shown u) s v e =
     let row : Given (List Operand) = taken s.setting u s.built in
     ap (λ (x : TypedBits). push (Shown (record x { classical = false; own = true })) (build (gate s.setting (only_wire x.operands) row.built) s)) (sym (shown_is v (record u { operands = row.answer }) e))
-  where
-    bits_in : TypedBits → Known → TypedBits
-    bits_in other (Shown x) = x
-    bits_in other k = other
-
-    shown_is : (x y : TypedBits) → Shown x ≡ Shown y → x ≡ y
-    shown_is x y h = ap (bits_in x) h
 
 -- ---- the wire of a bit
 
@@ -125,3 +127,22 @@ bit_shape (Shown u) at b v Q e f = ap shape_in e ∙ f.0
     shape_in : Known → Shape
     shape_in (Shown x) = x.shape
     shape_in k = Bit
+
+-- ---- values that are given
+
+-- a value was given in the same setting
+pub given_state : (b : Built) (k : Known) (s : Flattening) (at : Setting) (ks : List Known) → at ≡ s.setting → ks ≡ k ∷ s.values → record { built = b; setting = at; statements = s.statements; env = s.env; values = ks; callers = s.callers } ≡ push k (build b s)
+given_state b k s at ks e f =
+    ap₂ (λ (x : Setting) (ys : List Known). let r : Flattening = record { built = b; setting = x; statements = s.statements; env = s.env; values = ys; callers = s.callers } in r) e f
+
+-- the last value is there
+pub shown_last : (s : Flattening) (k : Known) (v : TypedBits) (rest : List Known) → s.values ≡ k ∷ rest → k ≡ Shown v → Good s → IsShown (length s.built.draft.wires) v
+shown_last s k v rest values is g = subst (IsKnown (length s.built.draft.wires)) (ap first values ∙ is) (last_known s g)
+
+-- and its operands again and again
+pub repeated_there : (s : Flattening) (k : Known) (v : TypedBits) (rest : List Known) (times : ℕ) (ps : List Operand) → s.values ≡ k ∷ rest → k ≡ Shown v → Good s → ps ≡ repeated times v.operands → AllSafe (length s.built.draft.wires) no_target (under s.setting ps)
+repeated_there s k v rest times ps values is g e =
+    let n : ℕ = length s.built.draft.wires in
+    subst (λ (qs : List Operand). AllSafe n no_target (under s.setting qs)) (sym e)
+    (under_safe n no_target s.setting (repeated times v.operands) g.condition
+    (safe_repeated n no_target times v.operands (shown_last s k v rest values is g).there))
