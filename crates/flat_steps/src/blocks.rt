@@ -7,8 +7,8 @@ ghost use Rattle.flat_build.specs.Flat.{flat};
 ghost use Rattle.flat_steps.specs.Ready.{Ready};
 
 use crate::state::Flattening;
-use silq_tree::NameId;
 use silq_io::LimitFault;
+use silq_tree::NameId;
 
 impl Flattening {
     /// Opens a block.

@@ -8,8 +8,8 @@ ghost use Rattle.flat_steps.specs.Ready.{Ready};
 
 use crate::state::Flattening;
 use check_scope::Need;
-use silq_tree::NameId;
 use silq_io::LimitFault;
+use silq_tree::NameId;
 
 impl Flattening {
     /// Gives the number of a static expression.

@@ -268,3 +268,41 @@ impl Flattening {
         Ok(())
     }
 }
+
+#[cfg(test)]
+mod tests {
+    use super::*;
+    use std::test::Fail;
+
+    #[test]
+    fn sums_stand_on_new_wires(rt: HostRuntime) -> Result<(), Fail> {
+        let mut builder = Builder::new(rt.alloc());
+        let bits = [Operand::Const(true), Operand::Const(false)];
+        let sum = by_two(
+            &mut builder,
+            rt.alloc(),
+            BinaryOp::Add,
+            Shape::UInt(2),
+            &bits,
+            &bits,
+        )?;
+        assert_eq!(rt; sum.len(), 2);
+        assert_eq!(rt; builder.wires(), 3);
+        Ok(())
+    }
+
+    #[test]
+    fn known_bits_are_compared_without_wires(rt: HostRuntime) -> Result<(), Fail> {
+        let mut builder = Builder::new(rt.alloc());
+        let differs = compared(
+            &mut builder,
+            BinaryOp::Ne,
+            false,
+            &[Operand::Const(true)],
+            &[Operand::Const(false)],
+        )?;
+        assert_eq!(rt; differs, Operand::Const(true));
+        assert_eq!(rt; builder.wires(), 0);
+        Ok(())
+    }
+}

@@ -68,11 +68,7 @@ pub(crate) fn typed_like(
 }
 
 /// A static operand takes the type of the other, and counts as no quantum one.
-pub(crate) fn as_operand(
-    alloc: Global,
-    other: &Known,
-    known: Known,
-) -> Result<Known, AllocError>
+pub(crate) fn as_operand(alloc: Global, other: &Known, known: Known) -> Result<Known, AllocError>
     ensures { IfOk result (λ k. k ≡ as_operand other.now known) }
 {
     let Known::Static(number) = known else {

@@ -124,7 +124,12 @@ fn zero(
 
 impl Flattening {
     /// Changes a variable, or a part of one, by the last value.
-    pub fn update_to(&mut self, name: NameId, indices: &[i64], op: UpdateOp) -> Result<(), LimitFault>
+    pub fn update_to(
+        &mut self,
+        name: NameId,
+        indices: &[i64],
+        op: UpdateOp,
+    ) -> Result<(), LimitFault>
         requires { Ready (step (update_to name indices.now op)) self.old }
         ensures ok { OnOk result (self.new ≡ flat (step (update_to name indices.now op)) self.old) }
         ensures refused { IfErr result (λ e. Refused e (flat (step (update_to name indices.now op)) self.old).built) }
