@@ -1,6 +1,5 @@
 -- A limit that was passed stays the first that was passed.
-use Rattle.std.proofs.Common.{◌≡◌, ℕ, Bool, true, false, cond, not, ◌||◌, List, [], ◌∷◌, map, length, Option, Some, None, ℤ, replicate, refl}
-use Rattle.std.specs.Prelude.{nat_lt}
+use Rattle.std.proofs.Common.{◌≡◌, ℕ, Bool, true, false, cond, not, ◌||◌, List, [], ◌∷◌, length, Option, Some, None, ℤ, replicate, refl}
 use Rattle.silq_tree.specs.declared.node.UnaryOp.{UnaryOp}
 use Rattle.silq_tree.specs.declared.node.UnaryOp.TheVariants.{Not, Neg}
 use Rattle.silq_tree.specs.declared.node.BinaryOp.{BinaryOp}
@@ -12,10 +11,9 @@ use Rattle.check_scope.specs.Uses.{is_consumed}
 use Rattle.silq_io.specs.declared.limit.LimitFault.{LimitFault}
 use Rattle.silq_io.specs.declared.limit.LimitFault.TheVariants.{Memory, Limit}
 use Rattle.silq_io.specs.declared.limit.OverLimit.{OverLimit}
-use Rattle.silq_io.specs.declared.limit.LimitKind.TheVariants.{Inlined}
 use Rattle.silq_mean.specs.declared.receiver.Receiver.{Receiver}
 use Rattle.silq_mean.specs.declared.receiver.Receiver.TheVariants.{Variable, Argument, CallResult, EntryOutput}
-use Rattle.silq_mean.specs.Effect.{Effect, nothing, ◌>>◌, statement, step, mix, measure as measured, claim, choice, Step, give_static, give_typed, give_part, one_operand, two_operands, copy_last, repeat_last, flip_last, turn_by, turn_all, receive, assign_to, assign_in_turn, update_to, end_name, end_compared, enter_block, leave_block, enter_body, leave_body, most_inlined}
+use Rattle.silq_mean.specs.Effect.{Effect, nothing, ◌>>◌, statement, step, mix, measure as measured, claim, choice, Step, give_static, give_typed, give_part, one_operand, two_operands, copy_last, repeat_last, flip_last, turn_by, turn_all, receive, assign_to, assign_in_turn, update_to, end_name, end_compared, enter_block, leave_block, enter_body, leave_body}
 use Rattle.flat_core.specs.declared.step.WireId.{WireId}
 use Rattle.flat_core.specs.declared.step.End.{End}
 use Rattle.flat_core.specs.declared.step.End.TheVariants.{Measured, Zeroed}
@@ -31,7 +29,7 @@ use Rattle.flat_build.specs.declared.known.TypedBits.{TypedBits}
 use Rattle.flat_build.specs.declared.known.Known.{Known}
 use Rattle.flat_build.specs.declared.known.Known.TheVariants.{Static, Shown, Lent, Absent}
 use Rattle.flat_build.specs.State.{Caller, Flattening, last, drop_last, operands_of, is_signed, typed_as, typed_like, part_shape, part_of, are_wires, are_new, as_they_are, copied, taken, kept, wires_in, only_wire, only_operand}
-use Rattle.flat_build.specs.Flat.{by_one, by_two, on_one, on_two_typed, began_at, as_operand, on_two, give_copy, give_repeated, repeated, on_wire, on_last_wire, turn_both, end_all, measure_all, measure_value, shape_for, taken_for, receive_value, known_in, update_by, update_variable, zero_variable, back_to, flat_step, count_statement, on_line, entered, enter_branch, chosen_by, first_branch, second_branch, flat}
+use Rattle.flat_build.specs.Flat.{by_one, by_two, on_one, on_two_typed, began_at, as_operand, give_copy, give_repeated, on_wire, turn_both, end_all, measure_all, measure_value, shape_for, taken_for, receive_value, known_in, update_by, update_variable, zero_variable, back_to, flat_step, count_statement, on_line, entered, enter_branch, chosen_by, first_branch, second_branch, flat}
 
 -- what went above a limit first did so before
 pub record Stays (b e : Built) : Type 0 where
@@ -134,7 +132,7 @@ on_wire_stays gate g (Shown v) s =
 on_wire_stays gate g (Lent start size v) s = same s.built
 on_wire_stays gate g Absent s = same s.built
 
-end_all_stays : (e : End) (ws : List WireId) (b : Built) → Stays b (end_all e ws b)
+pub end_all_stays : (e : End) (ws : List WireId) (b : Built) → Stays b (end_all e ws b)
 end_all_stays e [] b = same b
 end_all_stays e (w ∷ ws) b = record { on = λ o h. (end_all_stays e ws (record b { draft = with_end b.draft w e })).on o h }
 
@@ -242,6 +240,11 @@ flat_stays (choice a b) s =
 -- a limit that was passed stays the first that was passed
 pub stays : (e : Effect) (s : Flattening) (o : OverLimit) → s.built.over ≡ Some o → (flat e s).built.over ≡ Some o
 stays e s o h = (flat_stays e s).on o h
+
+-- what refuses a row refuses what goes on from it
+pub refused_on : (f : LimitFault) (b e : Built) → Stays b e → Refused f b → Refused f e
+refused_on Memory b e g h = tt
+refused_on (Limit over) b e g h = g.on over h
 
 -- what refuses an effect refuses what would come after it
 pub refused_first : (f : LimitFault) (a b : Effect) (s : Flattening) → Refused f (flat a s).built → Refused f (flat (a >> b) s).built

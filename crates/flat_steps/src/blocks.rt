@@ -6,9 +6,12 @@ ghost use Rattle.bit_arith.specs.Calls.{Refused};
 ghost use Rattle.flat_build.specs.Flat.{flat};
 ghost use Rattle.flat_steps.specs.Ready.{Ready};
 
+use crate::stack::{Caller, Values};
 use crate::state::Flattening;
-use silq_io::LimitFault;
+use crate::variables::Variables;
 use silq_tree::NameId;
+use silq_io::LimitFault;
+use std::mem;
 
 impl Flattening {
     /// Opens a block.
@@ -16,7 +19,8 @@ impl Flattening {
         ensures ok { OnOk result (self.new ≡ flat (step enter_block) self.old) }
         ensures refused { IfErr result (λ e. Refused e (flat (step enter_block) self.old).built) }
     {
-        Err(LimitFault::Memory)
+        self.variables.open()?;
+        Ok(())
     }
 
     /// Closes a block.
@@ -32,7 +36,14 @@ impl Flattening {
         ensures ok { OnOk result (self.new ≡ flat (step (enter_body parameters.now)) self.old) }
         ensures refused { IfErr result (λ e. Refused e (flat (step (enter_body parameters.now)) self.old).built) }
     {
-        Err(LimitFault::Memory)
+        let arguments = self.values.turn_over(parameters.len())?;
+        let variables = Variables::of_parameters(self.alloc, parameters, arguments)?;
+        let caller = Caller {
+            variables: mem::replace(&mut self.variables, variables),
+            values: mem::replace(&mut self.values, Values::new(self.alloc)),
+        };
+        self.callers.push(caller)?;
+        Ok(())
     }
 
     /// Ends the body of a function, whose results are the values under way.
@@ -40,6 +51,17 @@ impl Flattening {
         ensures ok { OnOk result (self.new ≡ flat (step leave_body) self.old) }
         ensures refused { IfErr result (λ e. Refused e (flat (step leave_body) self.old).built) }
     {
-        Err(LimitFault::Memory)
+        let Some(caller) = self.callers.pop() else {
+            return Ok(());
+        };
+        let Caller {
+            variables,
+            mut values,
+        } = caller;
+        let results = mem::replace(&mut self.values, Values::new(self.alloc));
+        values.extend(results)?;
+        self.variables = variables;
+        self.values = values;
+        Ok(())
     }
 }

@@ -1,20 +1,19 @@
 //! Choices at run time.
 
-ghost use Rattle.std.specs.Prelude.{◌≡◌, [], ◌∷◌, drop, length, IfOk, IfErr, OnOk};
+ghost use Rattle.std.specs.Prelude.{◌≡◌, [], ◌∷◌, length, IfOk, IfErr, OnOk};
 ghost use Rattle.bit_arith.specs.Built.{negated, begun, made, new_wire, next_wire, under as under_condition_of};
 ghost use Rattle.bit_arith.specs.Rows.{flip};
 ghost use Rattle.bit_arith.specs.Calls.{Refused, Went, Safe, AllSafe, no_target};
 ghost use Rattle.flat_build.specs.Flat.{chosen_by, first_branch, enter_branch, under, as_condition, entered};
 ghost use Rattle.flat_build.specs.Good.{Good};
 ghost use Rattle.flat_build.specs.Fine.{IsBit};
-ghost use Rattle.flat_build.specs.State.{last, first, operands_of, only_operand};
+ghost use Rattle.flat_build.specs.State.{last};
 ghost use Rattle.flat_steps.specs.Entering.{Entered};
 
-use crate::stack::Values;
 use crate::state::Flattening;
+use crate::uses::operands_of;
 use crate::wires::only_operand;
 use bit_arith::{Builder, Operand};
-use flat_build::Known;
 use flat_core::Lit;
 use silq_io::LimitFault;
 
@@ -25,29 +24,6 @@ pub struct Choice {
     pub chosen: Operand,
     /// The condition in force outside.
     pub outer: Option<Operand>,
-}
-
-// Takes the last value, whose operand chooses a branch.
-fn pop_chosen(values: &mut Values) -> Operand
-    ensures chosen { result ≡ only_operand (operands_of (first values.old)) }
-    ensures left { values.new ≡ drop 1 values.old }
-{
-    match values.pop() {
-        None => Operand::Const(false),
-        Some(value) => chosen_by(&value),
-    }
-}
-
-// The operand of a value, which is a bit.
-fn chosen_by(value: &Known) -> Operand
-    ensures { result ≡ only_operand (operands_of value.now) }
-{
-    match value {
-        Known::Shown(v) => only_operand(v.operands.as_slice()),
-        Known::Static(_) => Operand::Const(false),
-        Known::Lent { .. } => Operand::Const(false),
-        Known::Absent => Operand::Const(false),
-    }
 }
 
 // The condition that holds where an operand does: the constant 1 is none.
@@ -106,7 +82,8 @@ impl Flattening {
         ensures ok { IfOk result (λ _. self.new ≡ first_branch self.old) }
         ensures refused { IfErr result (λ e. Refused e (first_branch self.old).built) }
     {
-        let chosen = pop_chosen(&mut self.values);
+        let value = self.values.take_last();
+        let chosen = only_operand(operands_of(&value));
         let outer = enter(&mut self.builder, chosen)?;
         Ok(Choice { chosen, outer })
     }

@@ -11,6 +11,7 @@ mod ends;
 mod gates;
 mod names;
 mod operators;
+mod outputs;
 mod parts;
 mod stack;
 mod state;
@@ -19,6 +20,7 @@ mod take;
 mod taking;
 mod typed;
 mod updates;
+mod uses;
 mod variables;
 mod wires;
 

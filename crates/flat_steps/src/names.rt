@@ -7,9 +7,11 @@ ghost use Rattle.flat_build.specs.Flat.{flat};
 ghost use Rattle.flat_steps.specs.Ready.{Ready};
 
 use crate::state::Flattening;
+use crate::uses::{Use, assigned, used};
 use check_scope::Need;
-use silq_io::LimitFault;
+use flat_build::Known;
 use silq_tree::NameId;
+use silq_io::LimitFault;
 
 impl Flattening {
     /// Gives the number of a static expression.
@@ -17,7 +19,8 @@ impl Flattening {
         ensures ok { OnOk result (self.new ≡ flat (step (give_static number)) self.old) }
         ensures refused { IfErr result (λ e. Refused e (flat (step (give_static number)) self.old).built) }
     {
-        Err(LimitFault::Memory)
+        self.values.push(Known::Static(number))?;
+        Ok(())
     }
 
     /// Gives a variable, or a part of one. In a consumed use a quantum variable is moved.
@@ -26,7 +29,12 @@ impl Flattening {
         ensures ok { OnOk result (self.new ≡ flat (step (give_part need name indices.now)) self.old) }
         ensures refused { IfErr result (λ e. Refused e (flat (step (give_part need name indices.now)) self.old).built) }
     {
-        Err(LimitFault::Memory)
+        let began = self.builder.wires();
+        let known = self.variables.replace(name, Known::Absent);
+        let Use { given, left } = used(self.alloc, began, need, indices, known)?;
+        self.variables.replace(name, left);
+        self.values.push(given)?;
+        Ok(())
     }
 
     /// Assigns the last value to a variable, or to the part of one that was taken out.
@@ -35,7 +43,15 @@ impl Flattening {
         ensures ok { OnOk result (self.new ≡ flat (step (assign_to name indices.now)) self.old) }
         ensures refused { IfErr result (λ e. Refused e (flat (step (assign_to name indices.now)) self.old).built) }
     {
-        Err(LimitFault::Memory)
+        let value = self.values.take_last();
+        if indices.is_empty() {
+            self.variables.bind(name, value)?;
+            return Ok(());
+        }
+        let lent = self.variables.replace(name, Known::Absent);
+        let known = assigned(self.alloc, indices, lent, value)?;
+        self.variables.bind(name, known)?;
+        Ok(())
     }
 
     /// Assigns the last values to variables in turn.
@@ -44,7 +60,9 @@ impl Flattening {
         ensures ok { OnOk result (self.new ≡ flat (step (assign_in_turn names.now)) self.old) }
         ensures refused { IfErr result (λ e. Refused e (flat (step (assign_in_turn names.now)) self.old).built) }
     {
-        Err(LimitFault::Memory)
+        let values = self.values.turn_over(names.len())?;
+        self.variables.bind_all(names, values)?;
+        Ok(())
     }
 
     /// Takes a variable out.
@@ -52,7 +70,8 @@ impl Flattening {
         ensures ok { OnOk result (self.new ≡ flat (step (end_name name)) self.old) }
         ensures refused { IfErr result (λ e. Refused e (flat (step (end_name name)) self.old).built) }
     {
-        Err(LimitFault::Memory)
+        self.variables.bind(name, Known::Absent)?;
+        Ok(())
     }
 
     /// Takes a variable out, with the value that it was compared with.
@@ -60,6 +79,8 @@ impl Flattening {
         ensures ok { OnOk result (self.new ≡ flat (step (end_compared name)) self.old) }
         ensures refused { IfErr result (λ e. Refused e (flat (step (end_compared name)) self.old).built) }
     {
-        Err(LimitFault::Memory)
+        self.variables.bind(name, Known::Absent)?;
+        self.values.take_last();
+        Ok(())
     }
 }

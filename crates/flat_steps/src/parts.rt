@@ -41,7 +41,7 @@ fn item_shape(shape: Shape) -> Shape
 }
 
 // The place of a part's first bit.
-fn part_start(shape: Shape, indices: &[i64]) -> usize
+pub(crate) fn part_start(shape: Shape, indices: &[i64]) -> usize
     requires { part_start shape indices.now < 2 ^ 64 }
     ensures { result ≡ part_start shape indices.now }
 {
@@ -66,7 +66,7 @@ fn index_at(indices: &[i64], place: usize) -> usize
 }
 
 // How many bits a value has.
-fn bits(shape: Shape) -> usize
+pub(crate) fn bits(shape: Shape) -> usize
     requires { shape_bits shape < 2 ^ 64 }
     ensures { result ≡ shape_bits shape }
 {
@@ -75,4 +75,28 @@ fn bits(shape: Shape) -> usize
         shape,
     }
     .bits() as usize
+}
+
+#[cfg(test)]
+mod tests {
+    use super::*;
+    use silq_types::Scalar;
+    use std::test::Fail;
+
+    #[test]
+    fn parts_of_arrays_are_items_and_bits(rt: HostRuntime) -> Result<(), Fail> {
+        let numbers = Shape::Array(Scalar::UInt(2), 2);
+        assert_eq!(rt; part_shape(numbers, &[]), numbers);
+        assert_eq!(rt; part_shape(numbers, &[1]), Shape::UInt(2));
+        assert_eq!(rt; part_shape(numbers, &[1, 0]), Shape::Bit);
+        let bits = [
+            Operand::Const(true),
+            Operand::Const(true),
+            Operand::Const(false),
+            Operand::Const(true),
+        ];
+        assert_eq!(rt; part_of(numbers, &[1], &bits), &bits[2..]);
+        assert_eq!(rt; part_of(numbers, &[1, 1], &bits), &bits[3..]);
+        Ok(())
+    }
 }

@@ -1,6 +1,7 @@
 //! Values under way, and the calls under way.
 
-ghost use Rattle.std.specs.Prelude.{◌≡◌, [], ◌∷◌, IfSome, IfNone, OnOk};
+ghost use Rattle.std.specs.Prelude.{◌≡◌, [], ◌∷◌, ◌++◌, take, drop, reverse, IfSome, IfNone, IfOk, OnOk};
+ghost use Rattle.flat_build.specs.State.{first};
 
 use crate::variables::Variables;
 use flat_build::Known;
@@ -49,6 +50,44 @@ impl Values {
     {
         self.items.pop()
     }
+
+    /// Takes the last value, `Absent` if there is none.
+    pub(crate) fn take_last(&mut self) -> Known
+        ensures value { result ≡ first self.old }
+        ensures rest { self.new ≡ drop 1 self.old }
+    {
+        self.pop().unwrap_or(Known::Absent)
+    }
+
+    /// The values in order.
+    pub(crate) fn as_slice(&self) -> &[Known]
+        ensures { result.now ≡ reverse self.now }
+    {
+        self.items.as_slice()
+    }
+
+    /// Takes the last values, so many, as values of their own, of which the first one is the last.
+    pub(crate) fn turn_over(&mut self, count: usize) -> Result<Values, AllocError>
+        ensures turned { IfOk result (λ t. t ≡ reverse (take count self.old)) }
+        ensures rest { OnOk result (self.new ≡ drop count self.old) }
+    {
+        let mut turned = Values::new(*self.items.allocator());
+        for _ in 0..count {
+            let Some(value) = self.pop() else {
+                return Ok(turned);
+            };
+            turned.push(value)?;
+        }
+        Ok(turned)
+    }
+
+    /// Adds values, which stay in their order.
+    pub(crate) fn extend(&mut self, mut later: Values) -> Result<(), AllocError>
+        ensures { OnOk result (self.new ≡ later ++ self.old) }
+    {
+        self.items.append(&mut later.items)?;
+        Ok(())
+    }
 }
 
 /// What a call under way will go on with: the variables and values of its caller.
@@ -91,5 +130,21 @@ impl Callers {
         Callers {
             items: Vec::new(alloc),
         }
+    }
+
+    /// Adds the caller of a function that is entered.
+    pub(crate) fn push(&mut self, caller: Caller) -> Result<(), AllocError>
+        ensures { OnOk result (self.new ≡ caller ∷ self.old) }
+    {
+        self.items.push(caller)?;
+        Ok(())
+    }
+
+    /// Takes the nearest caller, if there is one.
+    pub(crate) fn pop(&mut self) -> Option<Caller>
+        ensures caller { IfSome result (λ c. self.old ≡ c ∷ self.new) }
+        ensures none { IfNone result ((self.old ≡ []) × (self.new ≡ [])) }
+    {
+        self.items.pop()
     }
 }

@@ -1,15 +1,25 @@
 //! The state of flattening.
 
-ghost use Rattle.std.specs.Prelude.{◌≡◌, IfOk, IfErr};
-ghost use Rattle.bit_arith.specs.Calls.{Refused};
-ghost use Rattle.flat_build.specs.Flat.{begin};
+ghost use Rattle.std.specs.Prelude.{◌≡◌, false, true, length, reverse, IfOk, IfErr};
+ghost use Rattle.silq_types.specs.Types.{scalar_bits, shape_bits};
+ghost use Rattle.flat_core.specs.declared.step.End.TheVariants.{Output};
+ghost use Rattle.flat_core.specs.Drafts.{finished};
+ghost use Rattle.flat_core.specs.Sound.{IsFlat};
+ghost use Rattle.bit_arith.specs.Built.{begun, all_made, wires_from};
+ghost use Rattle.bit_arith.specs.Calls.{Went, Refused};
+ghost use Rattle.bit_arith.specs.Does.{Below};
+ghost use Rattle.flat_build.specs.Flat.{begin, input_wires, end_all, wire_lists, joined};
+ghost use Rattle.flat_build.specs.Names.{AllOf};
 
+use crate::outputs::{end_values, wire_lists};
 use crate::stack::{Callers, Values};
 use crate::variables::Variables;
-use bit_arith::Builder;
+use bit_arith::{Builder, Operand};
+use flat_build::{Known, TypedBits};
+use flat_core::{End, Flat, Lit, WireLists};
 use silq_io::LimitFault;
-use silq_types::Shape;
-use std::alloc::Global;
+use silq_types::{List, Scalar, Shape};
+use std::alloc::{AllocError, Global};
 use std::marker::Model;
 
 /// What is built so far, and what is known of the names in reach and of the values under way. After a refusal it is only dropped.
@@ -41,6 +51,89 @@ impl Flattening {
         ensures ok { IfOk result (λ s. s ≡ begin shapes.now) }
         ensures refused { IfErr result (λ e. Refused e (begin shapes.now).built) }
     {
-        Err(LimitFault::Memory)
+        let mut builder = Builder::new(alloc);
+        let mut values = Values::new(alloc);
+        for shape in shapes {
+            let parameter = input(&mut builder, alloc, *shape)?;
+            values.push(Known::Shown(parameter))?;
+        }
+        Ok(Flattening {
+            alloc,
+            builder,
+            statements: 0,
+            variables: Variables::new(alloc),
+            values,
+            callers: Callers::new(alloc),
+        })
+    }
+
+    /// The wires of the values under way, the first value first.
+    pub fn wire_lists(&self) -> Result<WireLists, AllocError>
+        ensures { IfOk result (λ ws. ws ≡ wire_lists (reverse self.now.values)) }
+    {
+        wire_lists(self.alloc, self.values.as_slice())
+    }
+
+    /// The flat form of what was built: the values under way end as outputs.
+    pub fn finish(self, ins: WireLists) -> Result<Flat, AllocError>
+        requires wires { AllOf (λ ws. Below (length self.built.draft.wires) ws) (wire_lists (reverse self.values)) }
+        requires flat { IsFlat (finished (end_all Output (joined (wire_lists (reverse self.values))) self.built).draft ins (wire_lists (reverse self.values))) }
+        ensures { IfOk result (λ f. f ≡ finished (end_all Output (joined (wire_lists (reverse self.values))) self.built).draft ins (wire_lists (reverse self.values))) }
+    {
+        let outs = self.wire_lists()?;
+        let Flattening {
+            alloc,
+            mut builder,
+            values,
+            ..
+        } = self;
+        end_values(&mut builder, alloc, End::Output, values.as_slice())?;
+        Ok(builder.finish(ins, outs))
+    }
+}
+
+/// A parameter with wires of its own.
+fn input(builder: &mut Builder, alloc: Global, shape: Shape) -> Result<TypedBits, LimitFault>
+    ensures answer { IfOk result (λ v. v ≡ record { classical = false; shape = shape; operands = all_made (wires_from (length builder.old.draft.wires) (shape_bits shape)); own = true; began = 0 }) }
+    ensures ok { IfOk result (λ _. Went builder.old builder.new (input_wires (shape_bits shape) (begun builder.old.draft))) }
+    ensures refused { IfErr result (λ e. Refused e (input_wires (shape_bits shape) (begun builder.old.draft))) }
+{
+    let mut operands = List::new(alloc);
+    for _ in 0..bits(shape) {
+        let wire = builder.wire(true)?;
+        operands.push(Operand::Literal(Lit {
+            wire,
+            positive: true,
+        }))?;
+    }
+    Ok(TypedBits {
+        classical: false,
+        shape,
+        operands,
+        own: true,
+        began: 0,
+    })
+}
+
+/// How many bits a value has.
+fn bits(shape: Shape) -> u64
+    ensures { result ≡ shape_bits shape }
+{
+    match shape {
+        Shape::Bit => 1,
+        Shape::UInt(width) => u64::from(width),
+        Shape::Int(width) => u64::from(width),
+        Shape::Array(element, length) => u64::from(width(element)) * u64::from(length),
+    }
+}
+
+/// How many bits a number has.
+fn width(scalar: Scalar) -> u32
+    ensures { result ≡ scalar_bits scalar }
+{
+    match scalar {
+        Scalar::Bit => 1,
+        Scalar::UInt(width) => width,
+        Scalar::Int(width) => width,
     }
 }

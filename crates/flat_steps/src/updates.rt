@@ -1,69 +1,27 @@
 //! Updates, and forgotten values.
 
-ghost use Rattle.std.specs.Prelude.{◌≡◌, ℕ, drop, IfOk, IfErr, OnOk};
+ghost use Rattle.std.specs.Prelude.{◌≡◌, ℕ, IfErr, OnOk};
 ghost use Rattle.silq_mean.specs.Effect.{step, claim, update_to};
 ghost use Rattle.bit_arith.specs.Built.{begun};
-ghost use Rattle.bit_arith.specs.Rows.{flip_each};
 ghost use Rattle.bit_arith.specs.Calls.{Went, Refused};
-ghost use Rattle.flat_core.specs.declared.step.End.TheVariants.{Zeroed};
-ghost use Rattle.flat_build.specs.State.{first, operands_of, typed_as, part_shape, part_of, wires_in};
-ghost use Rattle.flat_build.specs.Flat.{flat, update_by, end_all};
+ghost use Rattle.flat_build.specs.State.{operands_of, typed_as, part_shape, part_of, wires_in};
+ghost use Rattle.flat_build.specs.Flat.{flat, update_by};
 ghost use Rattle.flat_build.specs.Fine.{IsPart};
-ghost use Rattle.flat_steps.specs.Changes.{MayChangeBy};
+ghost use Rattle.flat_steps.specs.Changes.{MayChangeBy, zeroed};
 ghost use Rattle.flat_steps.specs.Ready.{Ready};
 
-use crate::copying::copied_operands;
 use crate::ends::end_all;
 use crate::parts::{part_of, part_shape};
-use crate::stack::Values;
 use crate::state::Flattening;
 use crate::typed::typed_as;
+use crate::uses::operands_of;
 use crate::wires::wires_in;
 use bit_arith::{Builder, Operand};
 use flat_build::{Known, TypedBits};
 use flat_core::{End, WireId};
 use silq_io::LimitFault;
 use silq_tree::{NameId, UpdateOp};
-use silq_types::{List, Shape};
-use std::alloc::{AllocError, Global};
-
-// Takes the last value, which is absent where there is none.
-fn pop_last(values: &mut Values) -> Known
-    ensures value { result ≡ first values.old }
-    ensures left { values.new ≡ drop 1 values.old }
-{
-    match values.pop() {
-        Some(value) => value,
-        None => Known::Absent,
-    }
-}
-
-// The operands of a value.
-fn operands_of(alloc: Global, value: Known) -> List<Operand>
-    ensures { result ≡ operands_of value }
-{
-    match value {
-        Known::Shown(bits) => bits.operands,
-        Known::Static(_) => List::new(alloc),
-        Known::Lent { .. } => List::new(alloc),
-        Known::Absent => List::new(alloc),
-    }
-}
-
-// The operands of a value that stays where it is; a static one takes the type.
-fn operands_as(alloc: Global, shape: Shape, value: &Known) -> Result<List<Operand>, AllocError>
-    ensures { IfOk result (λ ps. ps ≡ operands_of (typed_as 0 shape value.now)) }
-{
-    match value {
-        Known::Shown(bits) => copied_operands(alloc, bits.operands.as_slice()),
-        Known::Static(number) => {
-            let typed = typed_as(alloc, 0, shape, Known::Static(*number))?;
-            Ok(operands_of(alloc, typed))
-        }
-        Known::Lent { .. } => Ok(List::new(alloc)),
-        Known::Absent => Ok(List::new(alloc)),
-    }
-}
+use std::alloc::Global;
 
 // Updates wires by operands.
 fn update_by(
@@ -100,26 +58,41 @@ fn update_part(
     let part = part_of(target.shape, indices, target.operands.as_slice());
     let wires = wires_in(alloc, part)?;
     let typed = typed_as(alloc, 0, part_shape(target.shape, indices), value)?;
-    let operands = operands_of(alloc, typed);
-    update_by(builder, op, wires.as_slice(), operands.as_slice())
+    update_by(builder, op, wires.as_slice(), operands_of(&typed))
 }
 
-// Undoes a value on wires, which are 0 then.
-fn zero(
+// Undoes operands on wires, which are 0 then.
+fn zero_wires(
+    builder: &mut Builder,
+    wires: &[WireId],
+    operands: &[Operand],
+) -> Result<(), LimitFault>
+    requires { MayChangeBy builder.old wires.now operands.now }
+    ensures ok { OnOk result (Went builder.old builder.new (zeroed builder.old.setting wires.now operands.now (begun builder.old.draft))) }
+    ensures refused { IfErr result (λ e. Refused e (zeroed builder.old.setting wires.now operands.now (begun builder.old.draft))) }
+{
+    builder.flip_each(wires, operands)?;
+    end_all(builder, End::Zeroed, wires);
+    Ok(())
+}
+
+// Undoes a value on the wires of a variable, which are 0 then.
+fn zero_variable(
     builder: &mut Builder,
     alloc: Global,
     target: &TypedBits,
     value: &Known,
 ) -> Result<(), LimitFault>
     requires { MayChangeBy builder.old (wires_in target.now.operands) (operands_of (typed_as 0 target.now.shape value.now)) }
-    ensures ok { OnOk result (Went builder.old builder.new (end_all Zeroed (wires_in target.now.operands) (flip_each builder.old.setting (wires_in target.now.operands) (operands_of (typed_as 0 target.now.shape value.now)) (begun builder.old.draft)))) }
-    ensures refused { IfErr result (λ e. Refused e (end_all Zeroed (wires_in target.now.operands) (flip_each builder.old.setting (wires_in target.now.operands) (operands_of (typed_as 0 target.now.shape value.now)) (begun builder.old.draft)))) }
+    ensures ok { OnOk result (Went builder.old builder.new (zeroed builder.old.setting (wires_in target.now.operands) (operands_of (typed_as 0 target.now.shape value.now)) (begun builder.old.draft))) }
+    ensures refused { IfErr result (λ e. Refused e (zeroed builder.old.setting (wires_in target.now.operands) (operands_of (typed_as 0 target.now.shape value.now)) (begun builder.old.draft))) }
 {
     let wires = wires_in(alloc, target.operands.as_slice())?;
-    let operands = operands_as(alloc, target.shape, value)?;
-    builder.flip_each(wires.as_slice(), operands.as_slice())?;
-    end_all(builder, End::Zeroed, wires.as_slice());
-    Ok(())
+    if let Known::Static(number) = value {
+        let typed = typed_as(alloc, 0, target.shape, Known::Static(*number))?;
+        return zero_wires(builder, wires.as_slice(), operands_of(&typed));
+    }
+    zero_wires(builder, wires.as_slice(), operands_of(value))
 }
 
 impl Flattening {
@@ -134,7 +107,12 @@ impl Flattening {
         ensures ok { OnOk result (self.new ≡ flat (step (update_to name indices.now op)) self.old) }
         ensures refused { IfErr result (λ e. Refused e (flat (step (update_to name indices.now op)) self.old).built) }
     {
-        Err(LimitFault::Memory)
+        let value = self.values.take_last();
+        let Some(Known::Shown(target)) = self.variables.find(name) else {
+            return Ok(());
+        };
+        update_part(&mut self.builder, self.alloc, target, indices, op, value)?;
+        Ok(())
     }
 
     /// The variable is said to be equal to the last value, which is undone on its wires.
@@ -143,6 +121,28 @@ impl Flattening {
         ensures ok { OnOk result ((line : ℕ) → self.new ≡ flat (claim line name) self.old) }
         ensures refused { IfErr result (λ e. (line : ℕ) → Refused e (flat (claim line name) self.old).built) }
     {
-        Err(LimitFault::Memory)
+        let Some(value) = self.values.pop() else {
+            return Err(LimitFault::Memory);
+        };
+        if let Known::Shown(target) = self.variables.replace(name, Known::Absent) {
+            zero_variable(&mut self.builder, self.alloc, &target, &value)?;
+        }
+        self.values.push(value)?;
+        Ok(())
+    }
+}
+
+#[cfg(test)]
+mod tests {
+    use super::*;
+    use std::test::Fail;
+
+    #[test]
+    fn operands_are_undone_on_wires(rt: HostRuntime) -> Result<(), Fail> {
+        let mut builder = Builder::new(rt.alloc());
+        let x = builder.wire(true)?;
+        zero_wires(&mut builder, &[x], &[Operand::Const(true)])?;
+        assert_eq!(rt; builder.wires(), 1);
+        Ok(())
     }
 }

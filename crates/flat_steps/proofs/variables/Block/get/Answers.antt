@@ -1,0 +1,15 @@
+use Rattle.std.proofs.Common.{◌≡◌, ℕ, suc, ◌+◌, ◌-◌, ◌<◌, ◌≤◌, false, None, Some, [], ◌∷◌, ◌++◌, length, drop, reverse, set, get_or, refl, sym, ap, ◌∙◌, subst, arith}
+use Rattle.std.specs.List.{position}
+use Rattle.silq_types.specs.Types.{same_name}
+use Rattle.silq_mean.specs.Env.{is_in_reach, is_in_block, in_block, block_with, found}
+use Rattle.flat_build.specs.declared.known.Known.TheVariants.{Absent}
+use Rattle.flat_steps.proofs.Places.{not_placed, placed}
+use Rattle.flat_steps.proofs.variables.Block.get.Goals as goal
+
+pub returns-in_err-place-clause-none : goal.returns-in_err-place-clause-none
+returns-in_err-place-clause-none c = rw c.from_residual.ensures (not_placed c.args.self.now c.args.name (sym c.in_err-place.ensures))
+
+pub returns-clause-some : goal.returns-clause-some
+returns-clause-some c =
+    let r = placed c.args.self.now c.args.name c.in_ok-place.place c.index.result.now (sym c.in_ok-place.ensures) in
+    ap (λ z. z.1) c.index.ensures ∙ ap (λ z. (get_or z c.in_ok-place.place c.index.result.now).1) c.self.view_is ∙ sym (r.shows Absent)

@@ -1,0 +1,30 @@
+use Rattle.std.proofs.Common.{◌≡◌, ℕ, suc, ◌+◌, ◌-◌, ◌<◌, ◌≤◌, false, None, Some, [], ◌∷◌, ◌++◌, length, drop, reverse, set, get_or, refl, sym, ap, ◌∙◌, subst, arith}
+use Rattle.std.specs.List.{position}
+use Rattle.silq_types.specs.Types.{same_name}
+use Rattle.silq_mean.specs.Env.{is_in_reach, is_in_block, in_block, block_with, found}
+use Rattle.flat_build.specs.declared.known.Known.TheVariants.{Absent}
+use Rattle.flat_steps.specs.Reach.{IsInnermost}
+use Rattle.flat_steps.proofs.Places.{not_found, not_its, found_to, its_to}
+use Rattle.flat_steps.proofs.variables.Variables.replace.Goals as goal
+
+pub returns-in_default-clause-old : goal.returns-in_default-clause-old
+returns-in_default-clause-old c =
+    let out : is_in_reach c.args.self.now c.args.name ≡ false = ap (λ z. is_in_reach z c.args.name) (sym c.self.view_is ∙ ap reverse (sym c.as_slice.ensures.value)) ∙ c.in_default.ensures.none in
+    sym (not_found c.args.self.now c.args.name Absent out)
+
+pub returns-in_default-clause-new : goal.returns-in_default-clause-new
+returns-in_default-clause-new c =
+    let out : is_in_reach c.args.self.now c.args.name ≡ false = ap (λ z. is_in_reach z c.args.name) (sym c.self.view_is ∙ ap reverse (sym c.as_slice.ensures.value)) ∙ c.in_default.ensures.none in
+    sym (not_its c.args.self.now c.args.name c.args.known out)
+
+pub returns-clause-old : goal.returns-clause-old
+returns-clause-old c =
+    let x = c.args.name in let i = c.in-Some.i in let b = c.index_mut-block.result.now in let bs = c.self.inside.blocks.items in
+    let h : IsInnermost bs x i = subst (λ z. IsInnermost z x i) c.as_slice.ensures.value c.in-Some.ensures.some in
+    c.replace.ensures.old ∙ sym (found_to bs x i Absent b c.args.self.now h c.index_mut-block.ensures.value c.self.view_is)
+
+pub returns-clause-new : goal.returns-clause-new
+returns-clause-new c =
+    let x = c.args.name in let i = c.in-Some.i in let b = c.index_mut-block.result.now in let bs = c.self.inside.blocks.items in
+    let h : IsInnermost bs x i = subst (λ z. IsInnermost z x i) c.as_slice.ensures.value c.in-Some.ensures.some in
+    its_to bs x i c.args.known b c.replace.new.self c.args.self.now h c.index_mut-block.ensures.value c.replace.ensures.new c.self.view_is
