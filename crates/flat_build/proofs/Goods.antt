@@ -105,7 +105,7 @@ goes_give classical t own began row s g r w =
     (goes_push (Shown (record { classical = classical; shape = t; operands = row.answer; own = own; began = began })) (build row.built s) q.good
     (record { size = r.size; there = r.there; wires = w }))
 
-last_known : (s : Flattening) → Good s → IsKnown (length s.built.draft.wires) (last s)
+pub last_known : (s : Flattening) → Good s → IsKnown (length s.built.draft.wires) (last s)
 last_known s g = known_last (IsKnown (length s.built.draft.wires)) s tt g.known
 
 name_known : (s : Flattening) (x : NameId) → Good s → IsKnown (length s.built.draft.wires) (known_in s x)

@@ -1,9 +1,9 @@
 //! Wires for a new owner.
 
-ghost use Rattle.std.specs.Prelude.{◌≡◌, [], ◌∷◌, length, IfOk, IfErr};
+ghost use Rattle.std.specs.Prelude.{◌≡◌, ◌||◌, true, [], ◌∷◌, length, IfOk, IfErr};
 ghost use Rattle.bit_arith.specs.Built.{begun, under};
-ghost use Rattle.bit_arith.specs.Calls.{AllSafe, Safe, no_target, Went, Refused};
-ghost use Rattle.flat_build.specs.State.{are_new, copied, taken};
+ghost use Rattle.bit_arith.specs.Calls.{AllSafe, AreTargets, Safe, no_target, Went, Refused};
+ghost use Rattle.flat_build.specs.State.{are_new, copied, taken, wires_in};
 
 use crate::wires::all_made;
 use bit_arith::{Builder, Operand};
@@ -21,6 +21,7 @@ pub(crate) fn taken(
     requires safe { AllSafe (length builder.old.draft.wires) no_target (under builder.old.setting value.operands) }
     ensures answer { IfOk result (λ v. v ≡ record value { operands = (taken builder.old.setting value (begun builder.old.draft)).answer }) }
     ensures ok { IfOk result (λ _. Went builder.old builder.new (taken builder.old.setting value (begun builder.old.draft)).built) }
+    ensures targets { (value.own || are_new builder.old.draft value.began value.operands ≡ true → AreTargets builder.old.draft (wires_in value.operands)) → IfOk result (λ v. AreTargets builder.new.draft (wires_in v.operands)) }
     ensures refused { IfErr result (λ e. Refused e (taken builder.old.setting value (begun builder.old.draft)).built) }
 {
     if value.own || are_new(builder, value.began, value.operands.as_slice()) {
@@ -39,6 +40,7 @@ pub(crate) fn copied(
     requires safe { AllSafe (length builder.old.draft.wires) no_target (under builder.old.setting operands.now) }
     ensures answer { IfOk result (λ ps. ps ≡ (copied builder.old.setting operands.now (begun builder.old.draft)).answer) }
     ensures ok { IfOk result (λ _. Went builder.old builder.new (copied builder.old.setting operands.now (begun builder.old.draft)).built) }
+    ensures targets { IfOk result (λ ps. AreTargets builder.new.draft (wires_in ps)) }
     ensures refused { IfErr result (λ e. Refused e (copied builder.old.setting operands.now (begun builder.old.draft)).built) }
 {
     let wires = builder.copy(operands)?;
