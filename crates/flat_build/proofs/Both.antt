@@ -5,11 +5,10 @@ use Rattle.silq_tree.specs.declared.node.NameId.{NameId}
 use Rattle.silq_types.specs.Types.{same_name}
 use Rattle.silq_mean.specs.Env.{Block, Env, is_in_block, in_block, found, is_in_reach, block_with, in_its_block, in_first_block, bound}
 use Rattle.silq_mean.specs.Value.{Value, gone}
-use Rattle.silq_mean.specs.Term.{first as first_value, bind_all as bind_all_values, paired as paired_values}
+use Rattle.silq_mean.specs.Term.{first as first_value}
 use Rattle.flat_build.specs.declared.known.Known.{Known}
 use Rattle.flat_build.specs.declared.known.Known.TheVariants.{Absent}
 use Rattle.flat_build.specs.State.{first}
-use Rattle.flat_build.specs.Flat.{bind_all, paired}
 use Rattle.flat_build.specs.Names.{AllOf, AllEnv}
 use Rattle.flat_build.specs.Shows.{ListBoth, Entry, EnvBoth}
 
@@ -267,22 +266,6 @@ first_both S d [] [] h = d
 first_both S d [] (y ∷ ys) h = absurd h
 first_both S d (x ∷ xs) [] h = absurd h
 first_both S d (x ∷ xs) (y ∷ ys) h = h.0
-
--- several names take values in turn
-pub bind_all_both : (S : Known → Value → Type 0) (xs : Env Known) (ys : Env Value) (ns : List NameId) (ks : List Known) (vs : List Value) → EnvBoth S xs ys → ListBoth S ks vs → EnvBoth S (bind_all xs ns ks) (bind_all_values ys ns vs)
-bind_all_both S xs ys [] ks vs e h = e
-bind_all_both S xs ys (n ∷ ns) [] [] e h = e
-bind_all_both S xs ys (n ∷ ns) [] (v ∷ vs) e h = absurd h
-bind_all_both S xs ys (n ∷ ns) (k ∷ ks) [] e h = absurd h
-bind_all_both S xs ys (n ∷ ns) (k ∷ ks) (v ∷ vs) e h = bind_all_both S (bound xs n k) (bound ys n v) ns ks vs (bound_both S k v h.0 xs ys n e) h.1
-
--- parameters with their arguments
-pub paired_both : (S : Known → Value → Type 0) (ns : List NameId) (ks : List Known) (vs : List Value) → ListBoth S ks vs → ListBoth (Entry S) (paired ns ks) (paired_values ns vs)
-paired_both S [] ks vs h = tt
-paired_both S (n ∷ ns) [] [] h = tt
-paired_both S (n ∷ ns) [] (v ∷ vs) h = absurd h
-paired_both S (n ∷ ns) (k ∷ ks) [] h = absurd h
-paired_both S (n ∷ ns) (k ∷ ks) (v ∷ vs) h = ((refl, h.0), paired_both S ns ks vs h.1)
 
 -- ---- a variable whose right value changes alone
 

@@ -63,7 +63,7 @@ module _ (at : Setting) (b : Built) (g : Guard at (length b.draft.wires) no_targ
   for_sound Variable v p = whichever v.classical (kept at v b) (taken at v b) (kept_sound v p) (taken_sound v p)
   for_sound (Argument need t) v p = whichever (not (is_consumed need) || t.classical) (kept at v b) (taken at v b) (kept_sound v p) (taken_sound v p)
   for_sound (CallResult t) v p = taken_sound v p
-  for_sound (EntryOutput t) v p = whichever t.classical (copied at v.operands b) (taken at v b) (copied_sound v.operands p) (taken_sound v p)
+  for_sound (EntryOutput t) v p = whichever (t.classical || v.classical) (copied at v.operands b) (taken at v b) (copied_sound v.operands p) (taken_sound v p)
 
   pub one_sound : (op : UnaryOp) (ps : List Operand) → AllSafe n no_target ps → Sound (by_one op at ps b).built
   one_sound Not ps p = s

@@ -121,11 +121,11 @@ module _ (s : Flattening) (g : Good s) (h : Sound s.built) where
   receive_sound r (Lent start size v) q = h
   receive_sound r Absent q = h
 
-  for_known : (r : Receiver) (k : Known) → IsKnown wires k → IsKnown wires (shape_for r k)
+  for_known : (r : Receiver) (k : Known) → IsKnown wires k → IsKnown wires (shape_for r wires k)
   for_known Variable k q = q
-  for_known (Argument need t) k q = typed_as_known wires 0 t.shape k q
-  for_known (CallResult t) k q = typed_as_known wires 0 t.shape k q
-  for_known (EntryOutput t) k q = typed_as_known wires 0 t.shape k q
+  for_known (Argument need t) k q = typed_as_known wires wires t.shape k q
+  for_known (CallResult t) k q = typed_as_known wires wires t.shape k q
+  for_known (EntryOutput t) k q = typed_as_known wires wires t.shape k q
 
   variable_sound : (k : Known) (x : NameId) (is : List ℤ) (op : UpdateOp) → IsOf (UpdatesPart x is op s) k → Sound (update_variable k is op (last s) s).built
   variable_sound (Static z) x is op f = absurd f
@@ -183,7 +183,7 @@ module _ (s : Flattening) (g : Good s) (h : Sound s.built) where
   step_sound flip_last f = gate_sound (λ at w b. flip at w [] b) flip_gate (last s) last_known f
   step_sound (turn_by i j) f = gate_sound (turn_both i j) (turn_gate i j) (last s) last_known f.0
   step_sound (turn_all k) f = turn_sound s.setting k [] s.built g.condition h
-  step_sound (receive r) f = receive_sound r (shape_for r (last s)) (for_known r (last s) last_known)
+  step_sound (receive r) f = receive_sound r (shape_for r wires (last s)) (for_known r (last s) last_known)
   step_sound (assign_to x is) f = h
   step_sound (assign_in_turn xs) f = h
   step_sound (update_to x is op) f = variable_sound (known_in s x) x is op f.0

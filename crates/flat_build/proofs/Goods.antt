@@ -36,11 +36,11 @@ use Rattle.flat_build.specs.declared.known.TypedBits.{TypedBits}
 use Rattle.flat_build.specs.declared.known.Known.{Known}
 use Rattle.flat_build.specs.declared.known.Known.TheVariants.{Static, Shown, Lent, Absent}
 use Rattle.flat_build.specs.State.{Caller, Flattening, push, last, drop_last, wires_so_far, build, operands_of, typed, typed_as, typed_like, part_shape, part_of, with_part, are_wires, copied, taken, kept, wires_in, only_wire, only_operand}
-use Rattle.flat_build.specs.Flat.{began_for, without_name, give, on_one, on_two, on_two_typed, began_at, as_operand, by_one, by_two, shape_by, shape_by_one, give_copy, give_repeated, array_of, repeated, on_wire, on_last_wire, turn_both, end_all, measure_all, measure_value, shape_for, taken_for, class_for, receive_value, bind, known_in, part_used, use_part, moved, after_use, use_variable, assigned, update_by, update_variable, zero_variable, enter, back_to, flat_step, count_statement, on_line, as_condition, entered, enter_branch, chosen_by, first_branch, second_branch, flat, under as with_condition}
+use Rattle.flat_build.specs.Flat.{began_for, as_variable, without_name, give, on_one, on_two, on_two_typed, began_at, as_operand, by_one, by_two, shape_by, shape_by_one, give_copy, give_repeated, array_of, repeated, on_wire, on_last_wire, turn_both, end_all, measure_all, measure_value, shape_for, taken_for, class_for, receive_value, bind, known_in, part_used, use_part, moved, after_use, use_variable, assigned, update_by, update_variable, zero_variable, enter, back_to, flat_step, count_statement, on_line, as_condition, entered, enter_branch, chosen_by, first_branch, second_branch, flat, under as with_condition}
 use Rattle.flat_build.specs.Names.{AllOf, AllEnv, CallerOf, AllKnown, Spares}
 use Rattle.flat_build.specs.Good.{IsShown, IsKnown, IsOwned, Owned, Good}
 use Rattle.flat_build.specs.Fine.{Distinct, IsOf, IsPart, MayChange, MayTake, MayTurn, MayMeasure, without_part, UpdatesPart, MayUpdate, MayClaim, FitsOne, FitsTwo, MayJoin, IsStatic, IsAny, IsTaken, WasLent, IsLent, MayAssign, MayUse, FineStep, Fine}
-use Rattle.flat_build.proofs.Kept.{AllBlock, found_all, bound_all, its_all, bind_all_all, paired_all, known_last, known_name, known_push, known_drop, known_bind, known_its, known_in_turn, known_enter_block, known_leave_block, known_enter, known_back, all_known_more}
+use Rattle.flat_build.proofs.Kept.{AllBlock, found_all, bound_all, its_all, bind_all_all, paired_all, known_last, known_name, known_push, known_drop, known_bind, known_its, known_in_turn, known_variable, known_enter_block, known_leave_block, known_enter, known_back, all_known_more}
 use Rattle.flat_build.proofs.Both.{all_drop, all_weak}
 use Rattle.flat_build.proofs.Later.{Later, later_same, later_then, later_does, later_grows, later_fresh, later_read, later_blank, later_end_all, later_had, later_measure_all}
 use Rattle.flat_build.proofs.Giving.{Gives, gives_size, gives_copied, gives_one, gives_two, length-repeated, safe_repeated, array_bits, Takes, takes_taken, GivesWires, wires_copied, wires_taken, wires_kept, typed_known, typed_as_known, typed_like_known, typed_as_safe, typed_like_safe, as_operand_known, size_of, length-part, safe_part, wires_part, length-with, safe_with, wires_with, length-in, below_in, only_below, only_safe}
@@ -256,11 +256,11 @@ goes_measure s g f = goes_measure_value (last s) s g (last_known s g) f.1
 
 -- ---- what takes values over
 
-shape_for_known : (n : ℕ) (r : Receiver) (k : Known) → IsKnown n k → IsKnown n (shape_for r k)
-shape_for_known n Variable k h = h
-shape_for_known n (Argument need t) k h = typed_as_known n 0 t.shape k h
-shape_for_known n (CallResult t) k h = typed_as_known n 0 t.shape k h
-shape_for_known n (EntryOutput t) k h = typed_as_known n 0 t.shape k h
+shape_for_known : (n m : ℕ) (r : Receiver) (k : Known) → IsKnown n k → IsKnown n (shape_for r m k)
+shape_for_known n m Variable k h = h
+shape_for_known n m (Argument need t) k h = typed_as_known n m t.shape k h
+shape_for_known n m (CallResult t) k h = typed_as_known n m t.shape k h
+shape_for_known n m (EntryOutput t) k h = typed_as_known n m t.shape k h
 
 either_wires : (d : DraftForm) (n : ℕ) (c : Bool) (r q : Given (List Operand)) → GivesWires d n r → GivesWires d n q → GivesWires d n (cond c r q)
 either_wires d n true r q a b = a
@@ -272,7 +272,7 @@ wires_for (Argument need t) at v b f g k =
     either_wires b.draft (length v.operands) (not (is_consumed need) || t.classical) (kept at v b) (taken at v b) (wires_kept at v b f g k) (wires_taken at v b f g k)
 wires_for (CallResult t) at v b f g k = wires_taken at v b f g k
 wires_for (EntryOutput t) at v b f g k =
-    either_wires b.draft (length v.operands) t.classical (copied at v.operands b) (taken at v b) (wires_copied at v.operands b f g k.there) (wires_taken at v b f g k)
+    either_wires b.draft (length v.operands) (t.classical || v.classical) (copied at v.operands b) (taken at v b) (wires_copied at v.operands b f g k.there) (wires_taken at v b f g k)
 
 goes_receive : (r : Receiver) (k : Known) (s : Flattening) → Good s → IsKnown (length s.built.draft.wires) k → IsAny k → Goes s (receive_value r k s)
 goes_receive r (Static z) s g h f = absurd f
@@ -280,14 +280,15 @@ goes_receive r (Lent start size v) s g h f = absurd f
 goes_receive r Absent s g h f = absurd f
 goes_receive r (Shown v) s g h f =
     let w : GivesWires s.built.draft (length v.operands) (taken_for r s.setting v s.built) = wires_for r s.setting v s.built g.fresh g.condition h in
-    goes_give (class_for r v) v.shape true (began_for r s) (taken_for r s.setting v s.built) s g
+    goes_give (class_for r v) v.shape true (began_for r v s.callers) (taken_for r s.setting v s.built) s g
     (gives_size s.built.draft (length v.operands) (shape_bits v.shape) (taken_for r s.setting v s.built) h.size w.gives) (λ e. w.wires)
 
 -- ---- variables
 
-goes_bind : (x : NameId) (k : Known) (s : Flattening) → Good s → IsKnown (length s.built.draft.wires) k → IsOwned k → Goes s (bind x k s)
+goes_bind : (x : NameId) (k : Known) (s : Flattening) → Good s → IsKnown (length s.built.draft.wires) k → IsOwned (as_variable k) → Goes s (bind x k s)
 goes_bind x k s g h w =
-    goes_still s (bind x k s) g refl refl (known_bind (IsKnown (length s.built.draft.wires)) x k s h g.known) (record { env = bound_all IsOwned s.env x k w g.owned.env; callers = g.owned.callers })
+    goes_still s (bind x k s) g refl refl (known_bind (IsKnown (length s.built.draft.wires)) x k s (known_variable (length s.built.draft.wires) k h) g.known)
+    (record { env = bound_all IsOwned s.env x (as_variable k) w g.owned.env; callers = g.owned.callers })
 
 name_owned : (s : Flattening) (x : NameId) → Owned s → IsOwned (known_in s x)
 name_owned s x o = found_all IsOwned Absent s.env x tt o.env
@@ -301,15 +302,15 @@ part_known n m need is v h w p = record {
 
 use_known : (n m : ℕ) (need : Need) (is : List ℤ) (k : Known) → IsKnown n k → IsOwned k → MayUse is k → IsKnown n (use_part m need is k)
 use_known n m need is (Static z) h w p = absurd p
-use_known n m need is (Shown v) h w p = part_known n m need is v h w p
-use_known n m need is (Lent start size v) h w p = part_known n m need is v h w p.0
+use_known n m need is (Shown v) h w p = part_known n m need is v h w.0 p
+use_known n m need is (Lent start size v) h w p = part_known n m need is v h w.0 p.0
 use_known n m need is Absent h w p = absurd p
 
 moved_known : (n : ℕ) (is : List ℤ) (v : TypedBits) → IsShown n v → IsKnown n (moved is v)
 moved_known n [] v h = tt
 moved_known n (i ∷ is) v h = h
 
-moved_owned : (is : List ℤ) (v : TypedBits) → v.own ≡ true → IsOwned (moved is v)
+moved_owned : (is : List ℤ) (v : TypedBits) → IsOwned (Shown v) → IsOwned (moved is v)
 moved_owned [] v h = tt
 moved_owned (i ∷ is) v h = h
 
@@ -342,9 +343,9 @@ goes_use need x is s g f =
 
 -- ---- assignments
 
-taken_owned : (k : Known) → IsTaken k → IsOwned k
+taken_owned : (k : Known) → IsTaken k → IsOwned (as_variable k)
 taken_owned (Static z) h = tt
-taken_owned (Shown v) h = h
+taken_owned (Shown v) h = (h, refl)
 taken_owned (Lent start size v) h = absurd h
 taken_owned Absent h = tt
 
@@ -365,10 +366,10 @@ assigned_known n i is (Shown v) new h k f = absurd f
 assigned_known n i is (Lent start size v) new h k f = lent_back n i is start size v new h k f
 assigned_known n i is Absent new h k f = absurd f
 
-assigned_owned : (i : ℤ) (is : List ℤ) (old new : Known) → IsLent (i ∷ is) old new → IsOwned (assigned (i ∷ is) old new)
+assigned_owned : (i : ℤ) (is : List ℤ) (old new : Known) → IsLent (i ∷ is) old new → IsOwned (as_variable (assigned (i ∷ is) old new))
 assigned_owned i is (Static z) new f = absurd f
 assigned_owned i is (Shown v) new f = absurd f
-assigned_owned i is (Lent start size v) new f = f.own
+assigned_owned i is (Lent start size v) new f = (f.own, refl)
 assigned_owned i is Absent new f = absurd f
 
 goes_assign : (x : NameId) (is : List ℤ) (s : Flattening) → Good s → MayAssign x is s → Goes s (bind x (assigned is (known_in s x) (last s)) (drop_last s))
@@ -384,8 +385,8 @@ goes_assign x (i ∷ is) s g f =
 goes_in_turn : (xs : List NameId) (s : Flattening) → Good s → AllOf IsTaken (reverse (take (length xs) s.values)) → Goes s (flat_step (assign_in_turn xs) s)
 goes_in_turn xs s g f =
     let ks : List Known = reverse (take (length xs) s.values) in
-    goes_still s (flat_step (assign_in_turn xs) s) g refl refl (known_in_turn (IsKnown (length s.built.draft.wires)) xs s g.known)
-    (record { env = bind_all_all IsOwned s.env xs ks (all_weak IsTaken IsOwned taken_owned ks f) g.owned.env; callers = g.owned.callers })
+    goes_still s (flat_step (assign_in_turn xs) s) g refl refl (known_in_turn (IsKnown (length s.built.draft.wires)) (known_variable (length s.built.draft.wires)) xs s g.known)
+    (record { env = bind_all_all IsOwned s.env xs ks (all_weak IsTaken (λ k. IsOwned (as_variable k)) taken_owned ks f) g.owned.env; callers = g.owned.callers })
 
 goes_end : (x : NameId) (s : Flattening) → Good s → Goes s (bind x Absent s)
 goes_end x s g = goes_bind x Absent s g tt tt
@@ -409,8 +410,8 @@ goes_leave_block s g =
 goes_enter : (xs : List NameId) (s : Flattening) → Good s → AllOf IsTaken (reverse (take (length xs) s.values)) → Goes s (enter xs s)
 goes_enter xs s g f =
     let ks : List Known = reverse (take (length xs) s.values) in
-    goes_still s (enter xs s) g refl refl (known_enter (IsKnown (length s.built.draft.wires)) xs s g.known)
-    (record { env = (paired_all IsOwned xs ks (all_weak IsTaken IsOwned taken_owned ks f), tt); callers = (g.owned.env, g.owned.callers) })
+    goes_still s (enter xs s) g refl refl (known_enter (IsKnown (length s.built.draft.wires)) (known_variable (length s.built.draft.wires)) xs s g.known)
+    (record { env = (paired_all IsOwned xs ks (all_weak IsTaken (λ k. IsOwned (as_variable k)) taken_owned ks f), tt); callers = (g.owned.env, g.owned.callers) })
 
 goes_back : (s : Flattening) (cs : List Caller) → Good s → AllOf (CallerOf (IsKnown (length s.built.draft.wires))) cs → AllOf (λ (c : Caller). AllEnv IsOwned c.env) cs → Goes s (back_to s cs)
 goes_back s [] g k w = goes_still s s g refl refl g.known g.owned
@@ -516,8 +517,8 @@ goes_step (turn_by k l) s g f = goes_gate (turn_both k l) (later_turn_both k l) 
 goes_step (turn_all k) s g f = goes_turn_all k s g
 goes_step (receive r) s g f =
     let d : Goes s (drop_last s) = goes_drop s g in
-    goes_then s (drop_last s) (receive_value r (shape_for r (last s)) (drop_last s)) d
-    (goes_receive r (shape_for r (last s)) (drop_last s) d.good (shape_for_known (length s.built.draft.wires) r (last s) (last_known s g)) f)
+    goes_then s (drop_last s) (receive_value r (shape_for r (wires_so_far s) (last s)) (drop_last s)) d
+    (goes_receive r (shape_for r (wires_so_far s) (last s)) (drop_last s) d.good (shape_for_known (length s.built.draft.wires) (wires_so_far s) r (last s) (last_known s g)) f)
 goes_step (assign_to x is) s g f = goes_assign x is s g f.0
 goes_step (assign_in_turn xs) s g f = goes_in_turn xs s g f
 goes_step (update_to x is op) s g f = goes_update x is op s g f.0

@@ -23,7 +23,7 @@ use Rattle.flat_build.specs.declared.known.TypedBits.{TypedBits}
 use Rattle.flat_build.specs.declared.known.Known.{Known}
 use Rattle.flat_build.specs.declared.known.Known.TheVariants.{Static, Shown, Lent, Absent}
 use Rattle.flat_build.specs.State.{Caller, Flattening, first, last, push, drop_last, outside}
-use Rattle.flat_build.specs.Flat.{bind, known_in, bind_all, paired, enter, back_to, flat_step}
+use Rattle.flat_build.specs.Flat.{as_variable, bind, known_in, bind_all, paired, enter, back_to, flat_step}
 use Rattle.flat_build.specs.Names.{AllOf, AllEnv, CallerOf, AllKnown, operands_in, named_by, names, Spares}
 use Rattle.flat_build.specs.Good.{IsShown, IsKnown}
 use Rattle.flat_build.specs.Shows.{Shows, ListBoth, EnvBoth, CallerShows, Related}
@@ -176,12 +176,16 @@ bound_all Q env x a q h = pick (is_in_reach env x)
     pick true = its_all Q env x a q h
     pick false = first_block_all Q env x a q h
 
-pub bind_all_all : (Q : Known → Type 0) (env : Env Known) (xs : List NameId) (ks : List Known) → AllOf Q ks → AllEnv Q env → AllEnv Q (bind_all env xs ks)
+-- what holds of a value and not of where its expression began
+abbrev pub OfVariables : (Known → Type 0) → Type 0
+OfVariables Q = (k : Known) → Q k → Q (as_variable k)
+
+pub bind_all_all : (Q : Known → Type 0) (env : Env Known) (xs : List NameId) (ks : List Known) → AllOf (λ k. Q (as_variable k)) ks → AllEnv Q env → AllEnv Q (bind_all env xs ks)
 bind_all_all Q env [] ks q h = h
 bind_all_all Q env (x ∷ xs) [] q h = h
-bind_all_all Q env (x ∷ xs) (k ∷ ks) q h = bind_all_all Q (bound env x k) xs ks q.1 (bound_all Q env x k q.0 h)
+bind_all_all Q env (x ∷ xs) (k ∷ ks) q h = bind_all_all Q (bound env x (as_variable k)) xs ks q.1 (bound_all Q env x (as_variable k) q.0 h)
 
-pub paired_all : (Q : Known → Type 0) (xs : List NameId) (ks : List Known) → AllOf Q ks → AllBlock Q (paired xs ks)
+pub paired_all : (Q : Known → Type 0) (xs : List NameId) (ks : List Known) → AllOf (λ k. Q (as_variable k)) ks → AllBlock Q (paired xs ks)
 paired_all Q [] ks q = tt
 paired_all Q (x ∷ xs) [] q = tt
 paired_all Q (x ∷ xs) (k ∷ ks) q = (q.0, paired_all Q xs ks q.1)
@@ -218,15 +222,30 @@ known_push Q k s q h = record { env = h.env; values = (q, h.values); callers = h
 pub known_drop : (Q : Known → Type 0) (s : Flattening) → AllKnown Q s → AllKnown Q (drop_last s)
 known_drop Q s h = record { env = h.env; values = all_drop Q 1 s.values h.values; callers = h.callers }
 
-pub known_bind : (Q : Known → Type 0) (x : NameId) (k : Known) (s : Flattening) → Q k → AllKnown Q s → AllKnown Q (bind x k s)
-known_bind Q x k s q h = record { env = bound_all Q s.env x k q h.env; values = h.values; callers = h.callers }
+pub known_bind : (Q : Known → Type 0) (x : NameId) (k : Known) (s : Flattening) → Q (as_variable k) → AllKnown Q s → AllKnown Q (bind x k s)
+known_bind Q x k s q h = record { env = bound_all Q s.env x (as_variable k) q h.env; values = h.values; callers = h.callers }
 
 pub known_its : (Q : Known → Type 0) (x : NameId) (k : Known) (s : Flattening) → Q k → AllKnown Q s → AllKnown Q (record s { env = in_its_block s.env x k })
 known_its Q x k s q h = record { env = its_all Q s.env x k q h.env; values = h.values; callers = h.callers }
 
-pub known_in_turn : (Q : Known → Type 0) (xs : List NameId) (s : Flattening) → AllKnown Q s → AllKnown Q (flat_step (assign_in_turn xs) s)
-known_in_turn Q xs s h = record {
-  env = bind_all_all Q s.env xs (reverse (take (length xs) s.values)) (all_reverse Q (take (length xs) s.values) (all_take Q (length xs) s.values h.values)) h.env;
+pub known_variable : (n : ℕ) → OfVariables (IsKnown n)
+known_variable n (Static z) h = h
+known_variable n (Shown v) h = record { size = h.size; there = h.there; wires = h.wires }
+known_variable n (Lent start size v) h = h
+known_variable n Absent h = h
+
+pub spares_variable : (T : Targets) → OfVariables (Spares T)
+spares_variable T (Static z) h = h
+spares_variable T (Shown v) h = h
+spares_variable T (Lent start size v) h = h
+spares_variable T Absent h = h
+
+last_variables : (Q : Known → Type 0) → OfVariables Q → (n : ℕ) (s : Flattening) → AllKnown Q s → AllOf (λ k. Q (as_variable k)) (reverse (take n s.values))
+last_variables Q f n s h = all_weak Q (λ k. Q (as_variable k)) f (reverse (take n s.values)) (all_reverse Q (take n s.values) (all_take Q n s.values h.values))
+
+pub known_in_turn : (Q : Known → Type 0) → OfVariables Q → (xs : List NameId) (s : Flattening) → AllKnown Q s → AllKnown Q (flat_step (assign_in_turn xs) s)
+known_in_turn Q f xs s h = record {
+  env = bind_all_all Q s.env xs (reverse (take (length xs) s.values)) (last_variables Q f (length xs) s h) h.env;
   values = all_drop Q (length xs) s.values h.values;
   callers = h.callers;
 }
@@ -237,9 +256,9 @@ known_enter_block Q s h = record { env = (tt, h.env); values = h.values; callers
 pub known_leave_block : (Q : Known → Type 0) (s : Flattening) → AllKnown Q s → AllKnown Q (flat_step leave_block s)
 known_leave_block Q s h = record { env = all_drop (AllBlock Q) 1 s.env h.env; values = h.values; callers = h.callers }
 
-pub known_enter : (Q : Known → Type 0) (xs : List NameId) (s : Flattening) → AllKnown Q s → AllKnown Q (enter xs s)
-known_enter Q xs s h = record {
-  env = (paired_all Q xs (reverse (take (length xs) s.values)) (all_reverse Q (take (length xs) s.values) (all_take Q (length xs) s.values h.values)), tt);
+pub known_enter : (Q : Known → Type 0) → OfVariables Q → (xs : List NameId) (s : Flattening) → AllKnown Q s → AllKnown Q (enter xs s)
+known_enter Q f xs s h = record {
+  env = (paired_all Q xs (reverse (take (length xs) s.values)) (last_variables Q f (length xs) s h), tt);
   values = tt;
   callers = ((h.env, all_drop Q (length xs) s.values h.values), h.callers);
 }
@@ -333,8 +352,15 @@ shows_lent v start size k w h = (h.0, outside_map (bit_of v) start size k.operan
 pub all_show_push : (v : Row) (k : Known) (w : Value) (s : Flattening) (t : Term) → Shows v k w → AllShow v s t → AllShow v (push k s) (record t { values = w ∷ t.values })
 all_show_push v k w s t g h = record { env = h.env; values = (g, h.values); callers = h.callers }
 
+-- a value shows the same as a variable
+pub shows_variable : (v : Row) (k : Known) (w : Value) → Shows v k w → Shows v (as_variable k) w
+shows_variable v (Static z) w h = h
+shows_variable v (Shown k) w h = h
+shows_variable v (Lent start size k) w h = h
+shows_variable v Absent w h = h
+
 pub all_show_bind : (v : Row) (x : NameId) (k : Known) (w : Value) (s : Flattening) (t : Term) → Shows v k w → AllShow v s t → AllShow v (bind x k s) (record t { env = bound t.env x w })
-all_show_bind v x k w s t g h = record { env = bound_both (Shows v) k w g s.env t.env x h.env; values = h.values; callers = h.callers }
+all_show_bind v x k w s t g h = record { env = bound_both (Shows v) (as_variable k) w (shows_variable v k w g) s.env t.env x h.env; values = h.values; callers = h.callers }
 
 -- where it stands, what is known of a variable changes alone
 pub all_show_its : (v : Row) (x : NameId) (k : Known) (s : Flattening) (t : Term) → Shows v k (found gone t.env x) → AllShow v s t → AllShow v (record s { env = in_its_block s.env x k }) t

@@ -18,13 +18,13 @@ use Rattle.flat_build.specs.declared.known.TypedBits.{TypedBits}
 use Rattle.flat_build.specs.declared.known.Known.{Known}
 use Rattle.flat_build.specs.declared.known.Known.TheVariants.{Static, Shown, Lent, Absent}
 use Rattle.flat_build.specs.State.{Caller, Flattening, last, operands_of, part_shape, part_start, wires_so_far, outside, with_part as with_bits_of_part}
-use Rattle.flat_build.specs.Flat.{flat, flat_step, known_in, use_part, after_use, moved, part_used, assigned, bind_all, paired, back_to}
+use Rattle.flat_build.specs.Flat.{flat, flat_step, known_in, use_part, after_use, moved, part_used, assigned, as_variable, bind_all, paired, back_to}
 use Rattle.flat_build.specs.Good.{Good, IsShown, IsKnown}
 use Rattle.flat_build.specs.Fine.{IsOf, IsPart, IndexFits, FitsIndex, IsLent, MayAssign, MayUse}
 use Rattle.flat_build.specs.Shows.{Shows, ListBoth, Entry, EnvBoth, CallerShows, Related}
 use Rattle.flat_build.proofs.Both.{both_take, both_drop_more, both_drop, both_reverse, both_append, found_both, bound_both, its_left}
 use Rattle.flat_build.proofs.Bits.{bits_length, IsThere}
-use Rattle.flat_build.proofs.Kept.{known_name, AllShow}
+use Rattle.flat_build.proofs.Kept.{shows_variable, known_name, AllShow}
 use Rattle.flat_build.proofs.Showing.{shows_typed, shows_part, shows_rest, shows_moved, shows_put}
 use Rattle.flat_build.proofs.Compose.{Leads, leads_named}
 use Rattle.flat_build.proofs.Taking.{last_shows}
@@ -133,11 +133,13 @@ leads_assign_to o x is s g may fit =
     leads_named o s (flat_step (assign_to x is) s) (assign_part x is) refl refl
     (λ u t r.
     let old : Shows u.row (known_in s x) (value_of t.env x) = found_both (Shows u.row) Absent gone tt s.env t.env x r.env in
-    let new : Shows u.row (assigned is (known_in s x) (last s)) (with_part (value_of t.env x) is (last_value t)) =
+    let k : Known = assigned is (known_in s x) (last s) in
+    let w : Value = with_part (value_of t.env x) is (last_value t) in
+    let new : Shows u.row k w =
     assigned_shows u.row n is (known_in s x) (last s) (value_of t.env x) (last_value t) (way is may) fit (known_name (IsKnown n) s x tt g.known) old (last_shows u.row s.values t.values r.values) in
     related_by s (flat_step (assign_to x is) s) u t (assign_part x is t) refl r
     (record {
-      env = bound_both (Shows u.row) (assigned is (known_in s x) (last s)) (with_part (value_of t.env x) is (last_value t)) new s.env t.env x r.env;
+      env = bound_both (Shows u.row) (as_variable k) w (shows_variable u.row k w new) s.env t.env x r.env;
       values = both_drop (Shows u.row) s.values t.values r.values;
       callers = r.callers;
     }) refl refl refl)
@@ -151,7 +153,7 @@ bind_all_both x [] ks ws env other h e = e
 bind_all_both x (y ∷ ys) [] [] env other h e = e
 bind_all_both x (y ∷ ys) [] (w ∷ ws) env other h e = absurd h
 bind_all_both x (y ∷ ys) (k ∷ ks) [] env other h e = absurd h
-bind_all_both x (y ∷ ys) (k ∷ ks) (w ∷ ws) env other h e = bind_all_both x ys ks ws (bound env y k) (bound other y w) h.1 (bound_both (Shows x) k w h.0 env other y e)
+bind_all_both x (y ∷ ys) (k ∷ ks) (w ∷ ws) env other h e = bind_all_both x ys ks ws (bound env y (as_variable k)) (bound other y w) h.1 (bound_both (Shows x) (as_variable k) w (shows_variable x k w h.0) env other y e)
 
 last_ones : (x : Row) (n : ℕ) (ks : List Known) (ws : List Value) → ListBoth (Shows x) ks ws → ListBoth (Shows x) (reverse (take n ks)) (reverse (take n ws))
 last_ones x n ks ws h = both_reverse (Shows x) (take n ks) (take n ws) (both_take (Shows x) n ks ws h)
@@ -198,7 +200,7 @@ paired_both x [] ks ws h = tt
 paired_both x (y ∷ ys) [] [] h = tt
 paired_both x (y ∷ ys) [] (w ∷ ws) h = absurd h
 paired_both x (y ∷ ys) (k ∷ ks) [] h = absurd h
-paired_both x (y ∷ ys) (k ∷ ks) (w ∷ ws) h = ((refl, h.0), paired_both x ys ks ws h.1)
+paired_both x (y ∷ ys) (k ∷ ks) (w ∷ ws) h = ((refl, shows_variable x k w h.0), paired_both x ys ks ws h.1)
 
 pub leads_enter_body : (o : Outcome) (xs : List NameId) (s : Flattening) → Leads o s (flat (step (enter_body xs)) s) (follow o (step (enter_body xs)))
 leads_enter_body o xs s =

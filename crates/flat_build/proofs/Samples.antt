@@ -1,20 +1,21 @@
 -- Flat forms of small programs, by computing.
 use Rattle.std.specs.Prelude.{◌≡◌, refl, ℕ, true, List, [], ◌∷◌, length, map, Option, Some, None}
-use Rattle.silq_tree.specs.declared.node.BinaryOp.TheVariants.{And, Ne, Add as Plus}
+use Rattle.silq_tree.specs.declared.node.UnaryOp.TheVariants.{Not}
+use Rattle.silq_tree.specs.declared.node.BinaryOp.TheVariants.{And, Eq, Ne, Add as Plus}
 use Rattle.silq_tree.specs.declared.node.UpdateOp.TheVariants.{Add}
-use Rattle.silq_tree.specs.Syntax.{called as call_of, none, whole, update, forget_value}
+use Rattle.silq_tree.specs.Syntax.{Expression, truth, called as call_of, tuple, unary, none, whole, spread, update, forget_value}
 use Rattle.silq_tree.specs.declared.node.Mark.TheVariants as marks
 use Rattle.static_num.specs.Static.{is_static, value, in_range}
 use Rattle.static_num.specs.Angle.{is_turn, fraction, divisor}
 use Rattle.silq_mean.specs.Table.{Job, job}
-use Rattle.silq_mean.proofs.Spelled.{s, main, a, b, c, x, y, v, bin, xg, let', when, back, b1, u, param, const, alone, words, f, fun, num}
+use Rattle.silq_mean.proofs.Spelled.{s, main, a, b, c, x, y, n, m, v, one, two, bin, xg, dup, measure, let', when, back, b1, u, param, const, alone, words, f, fun, num}
 use Rattle.silq_mean.proofs.Samples.{teleport, search, twice}
 use Rattle.flat_core.specs.declared.step.WireId.{WireId}
 use Rattle.flat_core.specs.declared.step.Lit.{Lit}
 use Rattle.flat_core.specs.declared.step.Step.{Step}
 use Rattle.flat_core.specs.declared.step.Step.TheVariants.{X, H, P, M}
 use Rattle.flat_core.specs.declared.step.End.{End}
-use Rattle.flat_core.specs.declared.step.End.TheVariants.{Output, Dropped, Zeroed}
+use Rattle.flat_core.specs.declared.step.End.TheVariants.{Output, Measured, Dropped, Zeroed}
 use Rattle.flat_core.specs.Label.{wire_id}
 use Rattle.bit_arith.specs.Rows.{flip, turn, had, measure as measured, copy, flip_each, carry, sum, add_into, both, equal}
 use Rattle.flat_build.specs.Flat.{flattened}
@@ -104,3 +105,67 @@ differing = job (record {
 differing_steps : steps differing ≡ x1 2 0 ∷ x0 2 ∷ []
 unfolding is_static value in_range is_turn fraction divisor flip both equal copy
 differing_steps = refl
+
+-- ---- what is new, and what is copied
+
+-- def f(b:B, c:B):B×B { return (c, b); }   def main(x:B, y:B, const a:B):B×B { (m, n) := f(x, y); if a { m := X(m); } return (m, n); }
+abbrev pub exchanging : Job
+exchanging = job (record {
+  words = words;
+  funs = fun f (param b b1 ∷ param c b1 ∷ []) (b1 ∷ b1 ∷ []) (back (tuple (two (v c) (v b)) s) ∷ [])
+      ∷ fun main (param x b1 ∷ param y b1 ∷ const a b1 ∷ []) (b1 ∷ b1 ∷ [])
+      (spread (m ∷ n ∷ []) (call_of f none (two (v x) (v y)) s) s ∷ when (v a) (let' m (xg (v m)) ∷ []) ∷ back (tuple (two (v m) (v n)) s) ∷ []) ∷ [];
+}) main []
+
+exchanging_steps : steps exchanging ≡ x1 1 2 ∷ []
+unfolding is_static value in_range is_turn fraction divisor flip
+exchanging_steps = refl
+
+exchanging_ends : ends exchanging ≡ Output ∷ Output ∷ Output ∷ []
+unfolding is_static value in_range is_turn fraction divisor flip
+exchanging_ends = refl
+
+-- def main(x:B, y:B):B { m := measure(x); n := measure(y); return m && n; }
+-- the entry copies a classical value, whatever type it returns
+abbrev measuring : Job
+measuring = alone (param x b1 ∷ param y b1 ∷ []) (b1 ∷ []) (let' m (measure (v x)) ∷ let' n (measure (v y)) ∷ back (bin And (v m) (v n)) ∷ [])
+
+measuring_steps : steps measuring ≡ M (w 0) 0 ∷ M (w 1) 1 ∷ x2 2 0 1 ∷ x1 3 2 ∷ []
+unfolding is_static value in_range is_turn fraction divisor flip measured both copy
+measuring_steps = refl
+
+measuring_ends : ends measuring ≡ Measured ∷ Measured ∷ Dropped ∷ Output ∷ []
+unfolding is_static value in_range is_turn fraction divisor flip measured both copy
+measuring_ends = refl
+
+-- def f(const y:B)lifted:B { return dup(y); }   def main(const y:B):B { x := ..; return x; }
+abbrev of_call : (Expression → Expression) → Job
+of_call e = job (record {
+  words = words;
+  funs = record (fun f (const y b1 ∷ []) (b1 ∷ []) (back (dup (v y)) ∷ [])) { mark = marks.Lifted }
+      ∷ fun main (const y b1 ∷ []) (b1 ∷ []) (let' x (e (call_of f none (one (v y)) s)) ∷ back (v x) ∷ []) ∷ [];
+}) main []
+
+-- !(!f(y)): the wire that the call made is new
+abbrev denied : Job
+denied = of_call (λ e. unary Not (unary Not e s) s)
+
+denied_steps : steps denied ≡ x1 1 0 ∷ []
+unfolding is_static value in_range is_turn fraction divisor flip copy
+denied_steps = refl
+
+denied_ends : ends denied ≡ Output ∷ Output ∷ []
+unfolding is_static value in_range is_turn fraction divisor flip copy
+denied_ends = refl
+
+-- f(y) == true
+abbrev equalled : Job
+equalled = of_call (λ e. bin Eq e (truth true s))
+
+equalled_steps : steps equalled ≡ x1 1 0 ∷ []
+unfolding is_static value in_range is_turn fraction divisor flip equal copy
+equalled_steps = refl
+
+equalled_ends : ends equalled ≡ Output ∷ Output ∷ []
+unfolding is_static value in_range is_turn fraction divisor flip equal copy
+equalled_ends = refl

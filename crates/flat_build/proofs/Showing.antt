@@ -152,11 +152,11 @@ pub shows_like : (v : Row) (n : ℕ) (a : TypedBits) (x : Value) (k : Known) (w 
 shows_like v n a x k w g h = shows_as_like v n a.shape x k w g.0 h
 
 -- what takes a value over asks for a type
-pub shows_for : (v : Row) (r : Receiver) (k : Known) (w : Value) → Shows v k w → Shows v (shape_for r k) (received r w)
-shows_for v Variable k w h = h
-shows_for v (Argument need t) k w h = shows_as v 0 t.shape k w h
-shows_for v (CallResult t) k w h = shows_as v 0 t.shape k w h
-shows_for v (EntryOutput t) k w h = shows_as v 0 t.shape k w h
+pub shows_for : (v : Row) (r : Receiver) (n : ℕ) (k : Known) (w : Value) → Shows v k w → Shows v (shape_for r n k) (received r w)
+shows_for v Variable n k w h = h
+shows_for v (Argument need t) n k w h = shows_as v n t.shape k w h
+shows_for v (CallResult t) n k w h = shows_as v n t.shape k w h
+shows_for v (EntryOutput t) n k w h = shows_as v n t.shape k w h
 
 static_operand : (v : Row) (c own : Bool) (s : Shape) (ps : List Operand) (began : ℕ) (x : Value) (z : ℤ) → HasShape s x → IsOf (λ a. ⊤) (as_operand (Shown (record { classical = c; shape = s; operands = ps; own = own; began = began })) (Static z))
     → Shows v (as_operand (Shown (record { classical = c; shape = s; operands = ps; own = own; began = began })) (Static z)) (value_like x (whole z))

@@ -52,7 +52,7 @@ use Rattle.flat_build.specs.Flat.{by_one, by_two, alone, opposite, give, on_one,
 use Rattle.flat_build.specs.Names.{AllOf, AllKnown, CallerOf, named_by, Spares}
 use Rattle.flat_build.specs.Good.{Good, IsShown, IsKnown}
 use Rattle.flat_build.specs.Fine.{IsOf, MayTake, MayTurn, MayMeasure, UpdatesPart, MayUpdate, FitsTwo, MayJoin, WasLent, IsLent, MayAssign, MayUse, FineStep, without_part}
-use Rattle.flat_build.proofs.Kept.{known_last, known_name, known_push, known_drop, known_bind, known_its, known_in_turn, known_enter_block, known_leave_block, known_enter, known_back, safe_spared, safe_outside}
+use Rattle.flat_build.proofs.Kept.{spares_variable, known_last, known_name, known_push, known_drop, known_bind, known_its, known_in_turn, known_enter_block, known_leave_block, known_enter, known_back, safe_spared, safe_outside}
 use Rattle.flat_build.proofs.Later.{later_fresh, later_measure_all}
 use Rattle.flat_build.proofs.Giving.{known_operands, safe_zeros, safe_negated, Takes, takes_taken, typed_as_all, typed_as_known, typed_as_safe, as_operand_known, size_of, length-part, wires_part, length-in, safe_part, below_in, safe_consts, only_safe, safe_repeated, only_below}
 use Rattle.flat_build.proofs.OperatorRows.{update_does}
@@ -140,7 +140,7 @@ module _ (T : Targets) (at : Setting) (v : TypedBits) (b : Built) (low : Low T b
   safely_for Variable = safely_either T b.draft v.classical (kept at v b) (taken at v b) safely_kept safely_taken
   safely_for (Argument need i) = safely_either T b.draft (not (is_consumed need) || i.classical) (kept at v b) (taken at v b) safely_kept safely_taken
   safely_for (CallResult i) = safely_taken
-  safely_for (EntryOutput i) = safely_either T b.draft i.classical (copied at v.operands b) (taken at v b) (safely_copied T at v.operands b low f g k.there) safely_taken
+  safely_for (EntryOutput i) = safely_either T b.draft (i.classical || v.classical) (copied at v.operands b) (taken at v b) (safely_copied T at v.operands b low f g k.there) safely_taken
 
 typed_spares : (T : Targets) (m : ℕ) (j : Scalar) (z : ℤ) → Spares T (typed m j z)
 typed_spares T m j z = none_named 0 T (map (λ b. Const b) (low_bits (scalar_bits j) (modulo z (modulus j)))) (safe_consts 0 T (low_bits (scalar_bits j) (modulo z (modulus j))))
@@ -313,19 +313,19 @@ module _ (T : Targets) (s : Flattening) (low : Low T s.built.draft) (g : Good s)
           spared_give T s (drop_last (drop_last s)) _ _ _ _ (copied s.setting ps s.built) (safely_copied T s.setting ps s.built low g.fresh g.condition (safe_repeated n no_target (nat_abs m) v.operands h.there)) but_two
 
   spared_receive : (r : Receiver) → Spared T s (flat_step (receive r) s)
-  spared_receive r = go (shape_for r (last s)) (for_known r (last s) last_known) (for_spares r (last s) last_spares)
+  spared_receive r = go (shape_for r n (last s)) (for_known r (last s) last_known) (for_spares r (last s) last_spares)
     where
-      for_known : (r : Receiver) (k : Known) → IsKnown n k → IsKnown n (shape_for r k)
+      for_known : (r : Receiver) (k : Known) → IsKnown n k → IsKnown n (shape_for r n k)
       for_known Variable k q = q
-      for_known (Argument need t) k q = typed_as_known n 0 t.shape k q
-      for_known (CallResult t) k q = typed_as_known n 0 t.shape k q
-      for_known (EntryOutput t) k q = typed_as_known n 0 t.shape k q
+      for_known (Argument need t) k q = typed_as_known n n t.shape k q
+      for_known (CallResult t) k q = typed_as_known n n t.shape k q
+      for_known (EntryOutput t) k q = typed_as_known n n t.shape k q
 
-      for_spares : (r : Receiver) (k : Known) → Spares T k → Spares T (shape_for r k)
+      for_spares : (r : Receiver) (k : Known) → Spares T k → Spares T (shape_for r n k)
       for_spares Variable k q = q
-      for_spares (Argument need t) k q = as_spares T 0 t.shape k q
-      for_spares (CallResult t) k q = as_spares T 0 t.shape k q
-      for_spares (EntryOutput t) k q = as_spares T 0 t.shape k q
+      for_spares (Argument need t) k q = as_spares T n t.shape k q
+      for_spares (CallResult t) k q = as_spares T n t.shape k q
+      for_spares (EntryOutput t) k q = as_spares T n t.shape k q
 
       go : (k : Known) → IsKnown n k → Spares T k → Spared T s (receive_value r k (drop_last s))
       go (Static z) h p = spared_still T s (push (Static z) (drop_last s)) refl (known_push (Spares T) (Static z) (drop_last s) p but_last)
@@ -461,10 +461,10 @@ module _ (T : Targets) (s : Flattening) (low : Low T s.built.draft) (g : Good s)
   assigned_spares i is Absent new h j p q f = absurd f
 
   spared_assign : (x : NameId) (is : List ℤ) → MayAssign x is s → Spared T s (flat_step (assign_to x is) s)
-  spared_assign x [] f = spared_still T s (flat_step (assign_to x []) s) refl (known_bind (Spares T) x (last s) (drop_last s) last_spares but_last)
+  spared_assign x [] f = spared_still T s (flat_step (assign_to x []) s) refl (known_bind (Spares T) x (last s) (drop_last s) (spares_variable T (last s) last_spares) but_last)
   spared_assign x (i ∷ is) f =
       let new : Known = assigned (i ∷ is) (known_in s x) (last s) in
-      spared_still T s (bind x new (drop_last s)) refl (known_bind (Spares T) x new (drop_last s) (assigned_spares i is (known_in s x) (last s) (name_known x) last_known (name_spares x) last_spares f) but_last)
+      spared_still T s (bind x new (drop_last s)) refl (known_bind (Spares T) x new (drop_last s) (spares_variable T new (assigned_spares i is (known_in s x) (last s) (name_known x) last_known (name_spares x) last_spares f)) but_last)
 
   spared_back : (cs : List Caller) → AllOf (CallerOf (Spares T)) cs → Spared T s (back_to s cs)
   spared_back [] k = spared_still T s s refl all
@@ -488,13 +488,13 @@ module _ (T : Targets) (s : Flattening) (low : Low T s.built.draft) (g : Good s)
   }
   spared_step (receive r) f = spared_receive r
   spared_step (assign_to x is) f = spared_assign x is f.0
-  spared_step (assign_in_turn xs) f = spared_still T s (flat_step (assign_in_turn xs) s) refl (known_in_turn (Spares T) xs s all)
+  spared_step (assign_in_turn xs) f = spared_still T s (flat_step (assign_in_turn xs) s) refl (known_in_turn (Spares T) (spares_variable T) xs s all)
   spared_step (update_to x is op) f = spared_update x is op f.0
   spared_step (end_name x) f = spared_still T s (bind x Absent s) refl (known_bind (Spares T) x Absent s (λ w t. refl) all)
   spared_step (end_compared x) f = spared_still T s (drop_last (bind x Absent s)) refl (known_drop (Spares T) (bind x Absent s) (known_bind (Spares T) x Absent s (λ w t. refl) all))
   spared_step enter_block f = spared_still T s (flat_step enter_block s) refl (known_enter_block (Spares T) s all)
   spared_step leave_block f = spared_still T s (flat_step leave_block s) refl (known_leave_block (Spares T) s all)
-  spared_step (enter_body xs) f = spared_still T s (flat_step (enter_body xs) s) refl (known_enter (Spares T) xs s all)
+  spared_step (enter_body xs) f = spared_still T s (flat_step (enter_body xs) s) refl (known_enter (Spares T) (spares_variable T) xs s all)
   spared_step leave_body f = spared_back s.callers all.callers
 
   pub spared_mix : MayTurn s → Spared T s (on_wire had (last s) (drop_last s))

@@ -22,7 +22,7 @@ use Rattle.bit_arith.proofs.Doing.{does_none, does_weak}
 use Rattle.flat_build.specs.declared.known.TypedBits.{TypedBits}
 use Rattle.flat_build.specs.declared.known.Known.{Known}
 use Rattle.flat_build.specs.declared.known.Known.TheVariants.{Static, Shown, Lent, Absent}
-use Rattle.flat_build.specs.State.{Flattening, push, first, last, drop_last, build, are_wires, are_new, as_they_are, copied, taken, kept}
+use Rattle.flat_build.specs.State.{Flattening, push, first, last, drop_last, wires_so_far, build, are_wires, are_new, as_they_are, copied, taken, kept}
 use Rattle.flat_build.specs.Flat.{flat, by_one, by_two, shape_by, shape_by_one, on_one, on_two_typed, began_at, as_operand, give_copy, give_repeated, array_of, repeated, shape_for, taken_for, class_for, began_for, receive_value}
 use Rattle.flat_build.specs.Good.{Good, IsShown, IsKnown}
 use Rattle.flat_build.specs.Fine.{IsOf, IsAny, IsStatic, FitsOne, FitsTwo, MayJoin}
@@ -177,18 +177,18 @@ as_received : (r : Receiver) (s : Flattening) (v : TypedBits) → Good s → IsS
 as_received Variable s v g q = either_way s v (kept s.setting v s.built) (taken s.setting v s.built) v.classical (as_kept s v g q) (as_taken s v g q)
 as_received (Argument need t) s v g q = either_way s v (kept s.setting v s.built) (taken s.setting v s.built) (not (is_consumed need) || t.classical) (as_kept s v g q) (as_taken s v g q)
 as_received (CallResult t) s v g q = as_taken s v g q
-as_received (EntryOutput t) s v g q = either_way s v (copied s.setting v.operands s.built) (taken s.setting v s.built) t.classical (as_copy s v g q) (as_taken s v g q)
+as_received (EntryOutput t) s v g q = either_way s v (copied s.setting v.operands s.built) (taken s.setting v s.built) (t.classical || v.classical) (as_copy s v g q) (as_taken s v g q)
 
-for_known : (n : ℕ) (r : Receiver) (k : Known) → IsKnown n k → IsKnown n (shape_for r k)
-for_known n Variable k q = q
-for_known n (Argument need t) k q = typed_as_known n 0 t.shape k q
-for_known n (CallResult t) k q = typed_as_known n 0 t.shape k q
-for_known n (EntryOutput t) k q = typed_as_known n 0 t.shape k q
+for_known : (n m : ℕ) (r : Receiver) (k : Known) → IsKnown n k → IsKnown n (shape_for r m k)
+for_known n m Variable k q = q
+for_known n m (Argument need t) k q = typed_as_known n m t.shape k q
+for_known n m (CallResult t) k q = typed_as_known n m t.shape k q
+for_known n m (EntryOutput t) k q = typed_as_known n m t.shape k q
 
-pub leads_receive : (o : Outcome) (r : Receiver) (s : Flattening) → Good s → IsAny (shape_for r (last s)) → Leads o s (flat (step (receive r)) s) (follow o (step (receive r)))
+pub leads_receive : (o : Outcome) (r : Receiver) (s : Flattening) → Good s → IsAny (shape_for r (wires_so_far s) (last s)) → Leads o s (flat (step (receive r)) s) (follow o (step (receive r)))
 leads_receive o r s g fit =
     let n : ℕ = length s.built.draft.wires in
-    go (shape_for r (last s)) fit (for_known n r (last s) (known_last (IsKnown n) s tt g.known)) (λ x w h. shows_for x r (last s) w h)
+    go (shape_for r n (last s)) fit (for_known n n r (last s) (known_last (IsKnown n) s tt g.known)) (λ x w h. shows_for x r n (last s) w h)
   where
     go : (k : Known) → IsOf (λ v. ⊤) k → IsKnown (length s.built.draft.wires) k → ((x : Row) (w : Value) → Shows x (last s) w → Shows x k (received r w)) → Leads o s (receive_value r k (drop_last s)) (λ t. on_last (received r) t ∷ [])
     go (Static z) f q h = absurd f
@@ -196,6 +196,6 @@ leads_receive o r s g fit =
     go Absent f q h = absurd f
     go (Shown v) f q h =
         let row : Given (List Operand) = taken_for r s.setting v s.built in
-        let z : TypedBits = record { classical = class_for r v; shape = v.shape; operands = row.answer; own = true; began = began_for r (drop_last s) } in
+        let z : TypedBits = record { classical = class_for r v; shape = v.shape; operands = row.answer; own = true; began = began_for r v s.callers } in
         leads_on_last o s (Shown z) row.built (received r) (λ x y. bits_at y row.answer ≡ bits_at x v.operands) g (as_received r s v g q)
         (λ x y w i t. shows_bits x y v z (received r w) refl t (h x w i))

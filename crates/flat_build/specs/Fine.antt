@@ -21,7 +21,7 @@ use Rattle.bit_arith.specs.Calls.{among, AllSafe, AreTargets}
 use Rattle.flat_build.specs.declared.known.TypedBits.{TypedBits}
 use Rattle.flat_build.specs.declared.known.Known.{Known}
 use Rattle.flat_build.specs.declared.known.Known.TheVariants.{Static, Shown, Lent, Absent}
-use Rattle.flat_build.specs.State.{Flattening, last, drop_last, typed_as, typed_like, part_shape, part_start, part_of, are_wires, are_new, wires_in}
+use Rattle.flat_build.specs.State.{Flattening, last, drop_last, typed_as, typed_like, wires_so_far, part_shape, part_start, part_of, are_wires, are_new, wires_in}
 use Rattle.flat_build.specs.Flat.{as_operand, shape_for, without_name, known_in, count_statement, on_line, chosen_by, first_branch, second_branch, flat}
 use Rattle.flat_build.specs.Names.{AllOf, AllKnown, named_by, Spares}
 
@@ -164,7 +164,7 @@ FineStep repeat_last s = IsStatic (last (drop_last s)) × IsOf (λ v. is_scalar 
 FineStep flip_last s = MayTurn s
 FineStep (turn_by k l) s = MayTurn s × (k < 8) × (l < 8)
 FineStep (turn_all k) s = k < 8
-FineStep (receive r) s = IsAny (shape_for r (last s))
+FineStep (receive r) s = IsAny (shape_for r (wires_so_far s) (last s))
 FineStep (assign_to x is) s = MayAssign x is s × FitsIndex is (known_in s x)
 FineStep (assign_in_turn xs) s = AllOf IsTaken (reverse (take (length xs) s.values))
 FineStep (update_to x is op) s = MayUpdate x is op s × FitsIndex is (known_in s x)

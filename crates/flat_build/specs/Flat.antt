@@ -32,7 +32,7 @@ use Rattle.bit_arith.specs.Rows.{flip, turn, had, measure, flip_each, sum, diffe
 use Rattle.flat_build.specs.declared.known.TypedBits.{TypedBits}
 use Rattle.flat_build.specs.declared.known.Known.{Known}
 use Rattle.flat_build.specs.declared.known.Known.TheVariants.{Static, Shown, Lent, Absent}
-use Rattle.flat_build.specs.State.{Caller, Flattening, push, last, drop_last, wires_so_far, build, operands_of, is_signed, typed, typed_as, typed_like, part_shape, part_start, part_of, with_part, as_they_are, copied, taken, kept, wires_in, only_wire, only_operand}
+use Rattle.flat_build.specs.State.{Caller, Flattening, began_or, push, last, drop_last, wires_so_far, build, operands_of, is_signed, typed, typed_as, typed_like, part_shape, part_start, part_of, with_part, as_they_are, copied, taken, kept, wires_in, only_wire, only_operand}
 
 -- ---- operators
 
@@ -154,17 +154,17 @@ measure_value k s = push Absent s
 
 -- ---- what takes values over
 
-abbrev pub shape_for : Receiver → Known → Known
-shape_for Variable k = k
-shape_for (Argument need t) k = typed_as 0 t.shape k
-shape_for (CallResult t) k = typed_as 0 t.shape k
-shape_for (EntryOutput t) k = typed_as 0 t.shape k
+abbrev pub shape_for : Receiver → ℕ → Known → Known
+shape_for Variable n k = k
+shape_for (Argument need t) n k = typed_as n t.shape k
+shape_for (CallResult t) n k = typed_as n t.shape k
+shape_for (EntryOutput t) n k = typed_as n t.shape k
 
 abbrev pub taken_for : Receiver → Setting → TypedBits → Built → Given (List Operand)
 taken_for Variable at v b = cond v.classical (kept at v b) (taken at v b)
 taken_for (Argument need t) at v b = cond (not (is_consumed need) || t.classical) (kept at v b) (taken at v b)
 taken_for (CallResult t) at v b = taken at v b
-taken_for (EntryOutput t) at v b = cond t.classical (copied at v.operands b) (taken at v b)
+taken_for (EntryOutput t) at v b = cond (t.classical || v.classical) (copied at v.operands b) (taken at v b)
 
 abbrev pub class_for : Receiver → TypedBits → Bool
 class_for Variable v = v.classical
@@ -172,21 +172,24 @@ class_for (Argument need t) v = t.classical
 class_for (CallResult t) v = t.classical
 class_for (EntryOutput t) v = t.classical
 
--- behind which wire something may be made of a value that was taken over: of a call's result behind the call
-abbrev pub began_for : Receiver → Flattening → ℕ
-began_for Variable s = 0
-began_for (Argument need t) s = 0
-began_for (CallResult t) s = wires_so_far s
-began_for (EntryOutput t) s = 0
+-- where the expression of a value that is taken over began: that of a call's result where the call began
+abbrev pub began_for : Receiver → TypedBits → List Caller → ℕ
+began_for (CallResult t) v cs = began_or v.began cs
+began_for r v cs = v.began
 
 abbrev pub receive_value : Receiver → Known → Flattening → Flattening
-receive_value r (Shown v) s = give (class_for r v) v.shape true (began_for r s) (taken_for r s.setting v s.built) s
+receive_value r (Shown v) s = give (class_for r v) v.shape true (began_for r v s.callers) (taken_for r s.setting v s.built) s
 receive_value r k s = push k s
 
 -- ---- variables
 
+-- a variable does not say where the expression of its value began
+abbrev pub as_variable : Known → Known
+as_variable (Shown v) = Shown (record v { began = 0 })
+as_variable k = k
+
 abbrev pub bind : NameId → Known → Flattening → Flattening
-bind x k s = record s { env = bound s.env x k }
+bind x k s = record s { env = bound s.env x (as_variable k) }
 
 -- the name shows nothing
 abbrev pub without_name : NameId → Flattening → Flattening
@@ -223,11 +226,11 @@ assigned (i ∷ is) (Shown v) new = Shown (record v { operands = with_part v.sha
 assigned (i ∷ is) old new = old
 
 abbrev pub bind_all : Env Known → List NameId → List Known → Env Known
-bind_all env (x ∷ xs) (k ∷ ks) = bind_all (bound env x k) xs ks
+bind_all env (x ∷ xs) (k ∷ ks) = bind_all (bound env x (as_variable k)) xs ks
 bind_all env xs ks = env
 
 abbrev pub paired : List NameId → List Known → Block Known
-paired (x ∷ xs) (k ∷ ks) = (x, k) ∷ paired xs ks
+paired (x ∷ xs) (k ∷ ks) = (x, as_variable k) ∷ paired xs ks
 paired xs ks = []
 
 abbrev pub update_by : UpdateOp → Setting → List WireId → List Operand → Built → Built
@@ -250,12 +253,18 @@ zero_variable target k s = s
 
 -- ---- calls
 
+-- a call's expression began with its first argument
+abbrev pub call_began : ℕ → List Known → ℕ
+call_began n (Shown v ∷ ks) = v.began
+call_began n ks = n
+
 abbrev pub enter : List NameId → Flattening → Flattening
 enter xs s =
+    let arguments = reverse (take (length xs) s.values) in
     record s {
-      env = paired xs (reverse (take (length xs) s.values)) ∷ [];
+      env = paired xs arguments ∷ [];
       values = [];
-      callers = record { env = s.env; values = drop (length xs) s.values } ∷ s.callers;
+      callers = record { began = call_began (wires_so_far s) arguments; env = s.env; values = drop (length xs) s.values } ∷ s.callers;
     }
 
 abbrev pub back_to : Flattening → List Caller → Flattening
@@ -275,7 +284,7 @@ flat_step repeat_last s = give_repeated (last (drop_last s)) (last s) (drop_last
 flat_step flip_last s = on_last_wire (λ at w b. flip at w [] b) s
 flat_step (turn_by k l) s = on_last_wire (turn_both k l) s
 flat_step (turn_all k) s = build (turn s.setting k [] s.built) s
-flat_step (receive r) s = receive_value r (shape_for r (last s)) (drop_last s)
+flat_step (receive r) s = receive_value r (shape_for r (wires_so_far s) (last s)) (drop_last s)
 flat_step (assign_to x is) s = bind x (assigned is (known_in s x) (last s)) (drop_last s)
 flat_step (assign_in_turn xs) s = record s { env = bind_all s.env xs (reverse (take (length xs) s.values)); values = drop (length xs) s.values }
 flat_step (update_to x is op) s = drop_last (update_variable (known_in s x) is op (last s) s)

@@ -22,11 +22,11 @@ IsKnown n (Shown v) = IsShown n v
 IsKnown n (Lent start size v) = IsShown n v
 IsKnown n Absent = ⊤
 
--- a variable shows wires of its own
+-- a variable shows wires of its own, and does not say where an expression began
 abbrev pub IsOwned : Known → Type 0
 IsOwned (Static z) = ⊤
-IsOwned (Shown v) = v.own ≡ true
-IsOwned (Lent start size v) = v.own ≡ true
+IsOwned (Shown v) = (v.own ≡ true) × (v.began ≡ 0)
+IsOwned (Lent start size v) = (v.own ≡ true) × (v.began ≡ 0)
 IsOwned Absent = ⊤
 
 pub record Owned (s : Flattening) : Type 0 where

@@ -20,6 +20,8 @@ use Rattle.flat_build.specs.declared.known.Known.{Known}
 use Rattle.flat_build.specs.declared.known.Known.TheVariants.{Static, Shown, Absent}
 
 pub record Caller : Type 0 where
+  -- the number of the next wire when the expression of the call began
+  pub began : ℕ
   pub env : Env Known
   pub values : List Known
 
@@ -34,6 +36,11 @@ pub record Flattening : Type 0 where
   pub values : List Known
   -- what calls under way will go on with
   pub callers : List Caller
+
+-- where the call under way began, n outside all calls
+abbrev pub began_or : ℕ → List Caller → ℕ
+began_or n [] = n
+began_or n (c ∷ cs) = c.began
 
 -- ---- values under way
 

@@ -13,7 +13,7 @@ pub struct TypedBits {
     pub operands: List<Operand>,
     /// Whether these are wires that whoever takes the value may keep: those of a variable that was moved, of a gate or of a call.
     pub own: bool,
-    /// The number of the next wire when its expression began.
+    /// The number of the next wire when its expression began; 0 of a variable.
     pub began: usize,
 }
 

@@ -28,7 +28,7 @@ use Rattle.bit_arith.proofs.Keeps.{copy_x, flip_each_x, sum_x, difference_x, pro
 use Rattle.flat_build.specs.declared.known.TypedBits.{TypedBits}
 use Rattle.flat_build.specs.declared.known.Known.{Known}
 use Rattle.flat_build.specs.declared.known.Known.TheVariants.{Static, Shown, Lent, Absent}
-use Rattle.flat_build.specs.State.{Caller, Flattening, last, drop_last, operands_of, is_signed, typed_as, typed_like, part_shape, part_of, are_wires, are_new, as_they_are, copied, taken, kept, wires_in, only_wire, only_operand}
+use Rattle.flat_build.specs.State.{Caller, Flattening, last, drop_last, wires_so_far, operands_of, is_signed, typed_as, typed_like, part_shape, part_of, are_wires, are_new, as_they_are, copied, taken, kept, wires_in, only_wire, only_operand}
 use Rattle.flat_build.specs.Flat.{by_one, by_two, on_one, on_two_typed, began_at, as_operand, give_copy, give_repeated, on_wire, turn_both, end_all, measure_all, measure_value, shape_for, taken_for, receive_value, known_in, update_by, update_variable, zero_variable, back_to, flat_step, count_statement, on_line, entered, enter_branch, chosen_by, first_branch, second_branch, flat}
 
 -- what went above a limit first did so before
@@ -65,7 +65,7 @@ taken_for_stays Variable at v b = either_way v.classical b (kept at v b) (taken 
 taken_for_stays (Argument need t) at v b =
     either_way (not (is_consumed need) || t.classical) b (kept at v b) (taken at v b) (kept_stays at v b) (taken_stays at v b)
 taken_for_stays (CallResult t) at v b = taken_stays at v b
-taken_for_stays (EntryOutput t) at v b = either_way t.classical b (copied at v.operands b) (taken at v b) (copied_stays at v.operands b) (taken_stays at v b)
+taken_for_stays (EntryOutput t) at v b = either_way (t.classical || v.classical) b (copied at v.operands b) (taken at v b) (copied_stays at v.operands b) (taken_stays at v b)
 
 receive_stays : (r : Receiver) (k : Known) (s : Flattening) → Stays s.built (receive_value r k s).built
 receive_stays r (Static z) s = same s.built
@@ -194,7 +194,7 @@ step_stays (turn_by k l) s =
     (λ at w b. on_to (grown (turn_x at l (negated (made w) ∷ []) b)) (grown (turn_x at k (made w ∷ []) (turn at l (negated (made w) ∷ []) b))))
     (last s) (drop_last s)
 step_stays (turn_all k) s = grown (turn_x s.setting k [] s.built)
-step_stays (receive r) s = receive_stays r (shape_for r (last s)) (drop_last s)
+step_stays (receive r) s = receive_stays r (shape_for r (wires_so_far s) (last s)) (drop_last s)
 step_stays (assign_to x is) s = same s.built
 step_stays (assign_in_turn xs) s = same s.built
 step_stays (update_to x is op) s = update_stays (known_in s x) is op (last s) s

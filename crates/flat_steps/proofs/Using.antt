@@ -7,7 +7,7 @@ use Rattle.silq_mean.specs.Env.{Block, Env, is_in_block, block_with, is_in_reach
 use Rattle.flat_build.specs.declared.known.Known.{Known}
 use Rattle.flat_build.specs.declared.known.Known.TheVariants.{Static, Shown, Lent, Absent}
 use Rattle.flat_build.specs.State.{Flattening, last, drop_last, wires_so_far}
-use Rattle.flat_build.specs.Flat.{known_in, use_part, after_use, use_variable, assigned, bind}
+use Rattle.flat_build.specs.Flat.{known_in, use_part, after_use, use_variable, assigned, as_variable, bind}
 use Rattle.flat_build.specs.Good.{IsKnown, Good}
 use Rattle.flat_build.proofs.Kept.{known_name}
 use Rattle.flat_build.proofs.Both.{block_in}
@@ -85,12 +85,12 @@ pub assigned_is : (x : NameId) (is : List ℤ) (s t : Flattening) (old new value
     → old ≡ found Absent s.env x
     → out ≡ in_its_block s.env x Absent
     → new ≡ assigned is old value
-    → back ≡ bound out x new
+    → back ≡ bound out x (as_variable new)
     → record s { env = back; values = values } ≡ bind x (assigned is (known_in t x) (last t)) (drop_last t)
 assigned_is x is s t old new value out back values same v vs known taken n b =
     ap (λ z. let u : Flattening = record s { env = z; values = values } in u) here
-    ∙ ap (λ z. let u : Flattening = record s { env = bound s.env x (assigned is (known_in s x) (last s)); values = z } in u) vs
+    ∙ ap (λ z. let u : Flattening = record s { env = bound s.env x (as_variable (assigned is (known_in s x) (last s))); values = z } in u) vs
     ∙ ap (λ u. bind x (assigned is (known_in u x) (last u)) (drop_last u)) same
   where
-    here : back ≡ bound s.env x (assigned is (known_in s x) (last s))
-    here = b ∙ ap (λ z. bound z x new) taken ∙ bound_its s.env x Absent new ∙ ap (bound s.env x) (n ∙ ap (λ z. assigned is z value) known ∙ ap (assigned is (known_in s x)) v)
+    here : back ≡ bound s.env x (as_variable (assigned is (known_in s x) (last s)))
+    here = b ∙ ap (λ z. bound z x (as_variable new)) taken ∙ bound_its s.env x Absent (as_variable new) ∙ ap (λ z. bound s.env x (as_variable z)) (n ∙ ap (λ z. assigned is z value) known ∙ ap (assigned is (known_in s x)) v)

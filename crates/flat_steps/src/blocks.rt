@@ -3,15 +3,26 @@
 ghost use Rattle.std.specs.Prelude.{◌≡◌, IfErr, OnOk};
 ghost use Rattle.silq_mean.specs.Effect.{step, enter_block, leave_block, enter_body, leave_body};
 ghost use Rattle.bit_arith.specs.Calls.{Refused};
-ghost use Rattle.flat_build.specs.Flat.{flat};
+ghost use Rattle.flat_build.specs.Flat.{call_began, flat};
 ghost use Rattle.flat_steps.specs.Ready.{Ready};
 
 use crate::stack::{Caller, Values};
 use crate::state::Flattening;
 use crate::variables::Variables;
+use flat_build::Known;
 use silq_io::LimitFault;
 use silq_tree::NameId;
 use std::mem;
+
+/// A call's expression began with its first argument, which is the last value.
+fn call_began(wires: usize, arguments: &Values) -> usize
+    ensures { result ≡ call_began wires arguments.now }
+{
+    match arguments.last() {
+        Some(Known::Shown(value)) => value.began,
+        _ => wires,
+    }
+}
 
 impl Flattening {
     /// Opens a block.
@@ -37,8 +48,10 @@ impl Flattening {
         ensures refused { IfErr result (λ e. Refused e (flat (step (enter_body parameters.now)) self.old).built) }
     {
         let arguments = self.values.turn_over(parameters.len())?;
+        let began = call_began(self.builder.wires(), &arguments);
         let variables = Variables::of_parameters(self.alloc, parameters, arguments)?;
         let caller = Caller {
+            began,
             variables: mem::replace(&mut self.variables, variables),
             values: mem::replace(&mut self.values, Values::new(self.alloc)),
         };
@@ -57,6 +70,7 @@ impl Flattening {
         let Caller {
             variables,
             mut values,
+            ..
         } = caller;
         let results = mem::replace(&mut self.values, Values::new(self.alloc));
         values.extend(results)?;
@@ -69,7 +83,35 @@ impl Flattening {
 #[cfg(test)]
 mod tests {
     use super::*;
+    use crate::stack::Callers;
+    use flat_build::TypedBits;
+    use silq_types::{List, Shape};
     use std::test::Fail;
+
+    #[test]
+    fn a_call_begins_with_its_first_argument(rt: HostRuntime) -> Result<(), Fail> {
+        let mut arguments = Values::new(rt.alloc());
+        assert_eq!(rt; call_began(7, &arguments), 7);
+        arguments.push(Known::Static(1))?;
+        assert_eq!(rt; call_began(7, &arguments), 7);
+        arguments.push(Known::Shown(TypedBits {
+            classical: false,
+            shape: Shape::Bit,
+            operands: List::new(rt.alloc()),
+            own: true,
+            began: 3,
+        }))?;
+        assert_eq!(rt; call_began(7, &arguments), 3);
+        let mut callers = Callers::new(rt.alloc());
+        assert_eq!(rt; callers.began_or(9), 9);
+        callers.push(Caller {
+            began: 3,
+            variables: Variables::new(rt.alloc()),
+            values: arguments,
+        })?;
+        assert_eq!(rt; callers.began_or(9), 3);
+        Ok(())
+    }
 
     #[test]
     fn a_name_that_ends_in_a_block_ends_with_it(rt: HostRuntime) -> Result<(), Fail> {

@@ -8,6 +8,7 @@ ghost use Rattle.flat_steps.specs.Ready.{Ready};
 
 use crate::state::Flattening;
 use crate::uses::{Use, assigned, used};
+use crate::variables::as_variable;
 use check_scope::Need;
 use flat_build::Known;
 use silq_io::LimitFault;
@@ -45,12 +46,12 @@ impl Flattening {
     {
         let value = self.values.take_last();
         if indices.is_empty() {
-            self.variables.bind(name, value)?;
+            self.variables.bind(name, as_variable(value))?;
             return Ok(());
         }
         let lent = self.variables.replace(name, Known::Absent);
         let known = assigned(self.alloc, indices, lent, value)?;
-        self.variables.bind(name, known)?;
+        self.variables.bind(name, as_variable(known))?;
         Ok(())
     }
 

@@ -1,7 +1,7 @@
 //! Values under way, and the calls under way.
 
 ghost use Rattle.std.specs.Prelude.{◌≡◌, [], ◌∷◌, ◌++◌, take, drop, reverse, IfSome, IfNone, IfOk, OnOk};
-ghost use Rattle.flat_build.specs.State.{first};
+ghost use Rattle.flat_build.specs.State.{began_or, first};
 
 use crate::variables::Variables;
 use flat_build::Known;
@@ -59,6 +59,14 @@ impl Values {
         self.pop().unwrap_or(Known::Absent)
     }
 
+    /// The last value, if there is one.
+    pub(crate) fn last(&self) -> Option<&Known>
+        ensures value { IfSome result (λ k. self.now ≡ k.now ∷ drop 1 self.now) }
+        ensures none { IfNone result (self.now ≡ []) }
+    {
+        self.items.last()
+    }
+
     /// The values in order.
     pub(crate) fn as_slice(&self) -> &[Known]
         ensures { result.now ≡ reverse self.now }
@@ -93,6 +101,8 @@ impl Values {
 /// What a call under way will go on with: the variables and values of its caller.
 #[derive(Drop)]
 pub(crate) struct Caller {
+    /// The number of the next wire when the expression of the call began.
+    pub(crate) began: usize,
     pub(crate) variables: Variables,
     pub(crate) values: Values,
 }
@@ -109,7 +119,7 @@ impl Model for Caller {
 
     ghost Value = { KnownCaller };
 
-    ghost view = { λ c. record { env = c.variables; values = c.values } };
+    ghost view = { λ c. record { began = c.began; env = c.variables; values = c.values } };
 }
 
 impl Model for Callers {
@@ -138,6 +148,16 @@ impl Callers {
     {
         self.items.push(caller)?;
         Ok(())
+    }
+
+    /// Where the call under way began, `other` outside all calls.
+    pub(crate) fn began_or(&self, other: usize) -> usize
+        ensures { result ≡ began_or other self.now }
+    {
+        match self.items.last() {
+            Some(caller) => caller.began,
+            None => other,
+        }
     }
 
     /// Takes the nearest caller, if there is one.

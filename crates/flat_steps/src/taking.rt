@@ -21,14 +21,19 @@ use silq_mean::Receiver;
 use std::alloc::{AllocError, Global};
 
 // A static value takes the type for which it is taken over.
-fn shape_for(alloc: Global, taker: Receiver, value: Known) -> Result<Known, AllocError>
-    ensures { IfOk result (λ k. k ≡ shape_for taker value) }
+fn shape_for(
+    alloc: Global,
+    taker: Receiver,
+    began: usize,
+    value: Known,
+) -> Result<Known, AllocError>
+    ensures { IfOk result (λ k. k ≡ shape_for taker began value) }
 {
     match taker {
         Receiver::Variable => Ok(value),
-        Receiver::Argument(_, ty) => typed_as(alloc, 0, ty.shape, value),
-        Receiver::CallResult(ty) => typed_as(alloc, 0, ty.shape, value),
-        Receiver::EntryOutput(ty) => typed_as(alloc, 0, ty.shape, value),
+        Receiver::Argument(_, ty) => typed_as(alloc, began, ty.shape, value),
+        Receiver::CallResult(ty) => typed_as(alloc, began, ty.shape, value),
+        Receiver::EntryOutput(ty) => typed_as(alloc, began, ty.shape, value),
     }
 }
 
@@ -101,7 +106,7 @@ fn taken_for(
         }
         Receiver::CallResult(_) => taken(builder, alloc, value),
         Receiver::EntryOutput(ty) => {
-            if ty.classical {
+            if ty.classical || value.classical {
                 in_copies(builder, alloc, value)
             } else {
                 taken(builder, alloc, value)
@@ -111,15 +116,13 @@ fn taken_for(
 }
 
 impl Flattening {
-    // Behind which wire something may be made of a value that was taken over: of a call's result behind the call.
-    fn began_for(&self, taker: Receiver) -> usize
-        ensures { result ≡ began_for taker self.now }
+    // Where the expression of a value that is taken over began: that of a call's result where the call began.
+    fn began_for(&self, taker: Receiver, value: &TypedBits) -> usize
+        ensures { result ≡ began_for taker value.now self.now.callers }
     {
         match taker {
-            Receiver::Variable => 0,
-            Receiver::Argument(_, _) => 0,
-            Receiver::CallResult(_) => self.builder.wires(),
-            Receiver::EntryOutput(_) => 0,
+            Receiver::CallResult(_) => self.callers.began_or(value.began),
+            _ => value.began,
         }
     }
 
@@ -130,7 +133,7 @@ impl Flattening {
         ensures refused { IfErr result (λ e. Refused e (receive_value taker (Shown value) self.old).built) }
     {
         let classical = class_for(taker, &value);
-        let began = self.began_for(taker);
+        let began = self.began_for(taker, &value);
         let received = taken_for(&mut self.builder, self.alloc, taker, value)?;
         self.values.push(Known::Shown(TypedBits {
             classical,
@@ -147,8 +150,9 @@ impl Flattening {
         ensures ok { OnOk result (self.new ≡ flat (step (receive taker)) self.old) }
         ensures refused { IfErr result (λ e. Refused e (flat (step (receive taker)) self.old).built) }
     {
+        let began = self.builder.wires();
         let value = self.values.take_last();
-        let Known::Shown(value) = shape_for(self.alloc, taker, value)? else {
+        let Known::Shown(value) = shape_for(self.alloc, taker, began, value)? else {
             return Err(LimitFault::Memory);
         };
         self.receive_bits(taker, value)
@@ -159,6 +163,7 @@ impl Flattening {
 mod tests {
     use super::*;
     use bit_arith::Operand;
+    use flat_core::Lit;
     use silq_types::{List, Shape, Ty};
     use std::test::Fail;
 
@@ -181,12 +186,38 @@ mod tests {
     }
 
     #[test]
+    fn the_entry_copies_a_classical_value(rt: HostRuntime) -> Result<(), Fail> {
+        let mut builder = Builder::new(rt.alloc());
+        let wire = builder.wire(true)?;
+        let mut operands = List::new(rt.alloc());
+        operands.push(Operand::Literal(Lit {
+            wire,
+            positive: true,
+        }))?;
+        let value = TypedBits {
+            classical: true,
+            shape: Shape::Bit,
+            operands,
+            own: true,
+            began: 0,
+        };
+        let taker = Receiver::EntryOutput(Ty {
+            classical: false,
+            shape: Shape::Bit,
+        });
+        let output = taken_for(&mut builder, rt.alloc(), taker, value)?;
+        assert_eq!(rt; builder.wires(), 2);
+        assert!(rt; are_wires(output.operands.as_slice()));
+        Ok(())
+    }
+
+    #[test]
     fn results_have_the_type_of_the_call(rt: HostRuntime) -> Result<(), Fail> {
         let taker = Receiver::CallResult(Ty {
             classical: true,
             shape: Shape::Bit,
         });
-        let Known::Shown(bit) = shape_for(rt.alloc(), taker, Known::Static(1))? else {
+        let Known::Shown(bit) = shape_for(rt.alloc(), taker, 0, Known::Static(1))? else {
             panic!(rt; "a number takes the type")
         };
         assert!(rt; !bit.classical);

@@ -5,11 +5,11 @@ ghost use Rattle.std.specs.List.{position};
 ghost use Rattle.silq_types.specs.Types.{same_name};
 ghost use Rattle.silq_mean.specs.Env.{is_in_block, in_block, block_with, is_in_reach, found, in_its_block, in_first_block, bound};
 ghost use Rattle.flat_build.specs.declared.known.Known.TheVariants.{Absent};
-ghost use Rattle.flat_build.specs.Flat.{bind_all, paired};
+ghost use Rattle.flat_build.specs.Flat.{as_variable, bind_all, paired};
 ghost use Rattle.flat_steps.specs.Reach.{IsInnermost};
 
 use crate::stack::Values;
-use flat_build::Known;
+use flat_build::{Known, TypedBits};
 use silq_tree::NameId;
 use std::alloc::{AllocError, Global};
 use std::marker::Model;
@@ -48,6 +48,16 @@ impl Model for Variables {
     ghost view = { λ v. reverse v.blocks.items };
 }
 
+/// A variable does not say where the expression of its value began.
+pub(crate) fn as_variable(known: Known) -> Known
+    ensures { result ≡ as_variable known }
+{
+    match known {
+        Known::Shown(value) => Known::Shown(TypedBits { began: 0, ..value }),
+        other => other,
+    }
+}
+
 impl Block {
     // A block without variables.
     fn new(alloc: Global) -> Block
@@ -67,7 +77,7 @@ impl Block {
             let Some(known) = values.pop() else {
                 return Ok(Block { items });
             };
-            items.push((*name, known))?;
+            items.push((*name, as_variable(known)))?;
         }
         Ok(Block { items })
     }
@@ -219,7 +229,7 @@ impl Variables {
             let Some(known) = values.pop() else {
                 return Ok(());
             };
-            self.bind(*name, known)?;
+            self.bind(*name, as_variable(known))?;
         }
         Ok(())
     }
@@ -244,6 +254,7 @@ impl Variables {
 #[cfg(test)]
 mod tests {
     use super::*;
+    use silq_types::{List, Shape};
     use std::test::Fail;
 
     // The number that a variable shows, 0 where it shows none.
@@ -266,6 +277,23 @@ mod tests {
         variables.close();
         assert_eq!(rt; shown(&variables, 1), 11);
         assert!(rt; variables.find(NameId { number: 2 }).is_none());
+        Ok(())
+    }
+
+    #[test]
+    fn a_variable_does_not_say_where_its_value_began(rt: HostRuntime) -> Result<(), Fail> {
+        let value = TypedBits {
+            classical: false,
+            shape: Shape::Bit,
+            operands: List::new(rt.alloc()),
+            own: true,
+            began: 5,
+        };
+        let Known::Shown(variable) = as_variable(Known::Shown(value)) else {
+            panic!(rt; "a value stays a value")
+        };
+        assert_eq!(rt; variable.began, 0);
+        assert!(rt; variable.own);
         Ok(())
     }
 
