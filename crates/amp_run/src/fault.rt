@@ -9,7 +9,7 @@ use silq_io::{LimitKind, OverLimit};
 use std::alloc::AllocError;
 
 /// Why a circuit has no table.
-#[derive(Clone, Copy, Debug, PartialEq, Eq)]
+#[derive(Clone, Copy, PartialEq, Eq)]
 pub enum RunFault {
     /// No memory.
     Memory,

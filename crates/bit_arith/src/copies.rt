@@ -115,30 +115,3 @@ impl Builder {
         Ok(())
     }
 }
-
-#[cfg(test)]
-mod tests {
-    use super::*;
-    use crate::made::made;
-    use std::test::Fail;
-
-    #[test]
-    fn copies_stand_on_new_wires(rt: HostRuntime) -> Result<(), Fail> {
-        let mut builder = Builder::new(rt.alloc());
-        let a = made(builder.wire(true)?);
-        let copies = builder.copy(&[a, Operand::Const(true), Operand::Const(false)])?;
-        assert_eq!(rt; copies.len(), 3);
-        assert_eq!(rt; builder.wires(), 4);
-        Ok(())
-    }
-
-    #[test]
-    fn each_wire_is_flipped_by_its_operand(rt: HostRuntime) -> Result<(), Fail> {
-        let mut builder = Builder::new(rt.alloc());
-        let x = builder.wire(true)?;
-        let a = made(builder.wire(true)?);
-        builder.flip_each(&[x], &[a])?;
-        assert_eq!(rt; builder.wires(), 2);
-        Ok(())
-    }
-}

@@ -6,7 +6,7 @@ ghost use Rattle.bit_arith.specs.Built.{negated};
 use flat_core::Lit;
 
 /// One bit that is read: a constant, or a wire with a sign.
-#[derive(Clone, Copy, Debug, PartialEq, Eq)]
+#[derive(Clone, Copy, PartialEq, Eq)]
 pub enum Operand {
     Const(bool),
     Literal(Lit),

@@ -47,21 +47,3 @@ impl Builder {
         self.add_into(wires, bits.as_slice())
     }
 }
-
-#[cfg(test)]
-mod tests {
-    use super::*;
-    use crate::made::made;
-    use std::test::Fail;
-
-    #[test]
-    fn products_of_one_place(rt: HostRuntime) -> Result<(), Fail> {
-        let mut builder = Builder::new(rt.alloc());
-        let a = made(builder.wire(true)?);
-        let b = made(builder.wire(true)?);
-        let product = builder.product(&[a], &[b])?;
-        assert_eq!(rt; product.as_slice(), [made(WireId { number: 2 })].as_slice());
-        assert_eq!(rt; builder.wires(), 4);
-        Ok(())
-    }
-}

@@ -4,7 +4,7 @@ use check_scope::need::Need;
 use silq_types::Ty;
 
 /// How a value is used, and its type where one is fixed.
-#[derive(Clone, Copy, Debug, PartialEq, Eq)]
+#[derive(Clone, Copy, PartialEq, Eq)]
 pub struct Ask {
     pub need: Need,
     pub want: Option<Ty>,

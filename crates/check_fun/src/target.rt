@@ -22,7 +22,7 @@ use silq_tree::{NameId, Spot};
 use silq_types::{Part, Ty, Var};
 
 /// A target in reach: its part, its variable and the part's type.
-#[derive(Clone, Copy, Debug, PartialEq, Eq)]
+#[derive(Clone, Copy, PartialEq, Eq)]
 pub(crate) struct Target {
     pub part: Part,
     pub owner: Var,

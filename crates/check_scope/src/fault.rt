@@ -10,7 +10,7 @@ use silq_types::InstanceKey;
 use std::alloc::AllocError;
 
 /// Why a program is refused. Of several faults the first in the order of the walk is told.
-#[derive(Clone, Copy, Debug, PartialEq, Eq)]
+#[derive(Clone, Copy, PartialEq, Eq)]
 pub enum CheckFault {
     /// A rule is broken at this place; its number is 1 to 23.
     Broken { rule: u8, at: Spot },

@@ -26,7 +26,7 @@ use static_num::eval;
 use std::alloc::{AllocError, Global};
 
 /// A part that an expression names, and how it uses it.
-#[derive(Clone, Copy, Debug, PartialEq, Eq)]
+#[derive(Clone, Copy, PartialEq, Eq)]
 pub struct Use {
     pub part: Part,
     pub need: Need,

@@ -1,7 +1,7 @@
 //! The functions that are built in.
 
 /// A built-in function.
-#[derive(Clone, Copy, Debug, PartialEq, Eq)]
+#[derive(Clone, Copy, PartialEq, Eq)]
 pub enum BuiltIn {
     /// `H`
     HGate,

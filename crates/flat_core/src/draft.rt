@@ -165,29 +165,3 @@ fn over(which: LimitKind, count: u64) -> LimitFault
 {
     LimitFault::Limit(OverLimit { which, count })
 }
-
-#[cfg(test)]
-mod tests {
-    use super::*;
-    use std::test::Fail;
-
-    #[test]
-    fn first_wires_and_steps(rt: HostRuntime) -> Result<(), Fail> {
-        let mut draft = Draft::new(rt.alloc());
-        let w = draft.wire(true)?;
-        let flip = Step::X {
-            target: w,
-            first: None,
-            second: None,
-        };
-        let s = draft.step(flip, 7)?;
-        draft.end(w, End::Output);
-        assert_eq!(rt; s.number, 0);
-        assert_eq!(rt; draft.wires(), 1);
-        assert_eq!(rt; draft.label(w), 1);
-        assert!(rt; draft.is_input(w));
-        assert!(rt; !draft.is_measured(w));
-        assert_eq!(rt; draft.outcomes(), 0);
-        Ok(())
-    }
-}

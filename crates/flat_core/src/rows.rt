@@ -8,7 +8,7 @@ use crate::step::{End, Step, WireId};
 
 /// What is kept of a wire: whether it is an input, its end, its label after all steps so far, and whether one of
 /// them measures it.
-#[derive(Clone, Copy, Debug, PartialEq, Eq)]
+#[derive(Clone, Copy, PartialEq, Eq)]
 pub struct WireRow {
     pub input: bool,
     pub ending: End,
@@ -17,7 +17,7 @@ pub struct WireRow {
 }
 
 /// What is kept of a step: beside its line, the labels before it of the wires that it names, 0 where there is none.
-#[derive(Clone, Copy, Debug, PartialEq, Eq)]
+#[derive(Clone, Copy, PartialEq, Eq)]
 pub struct StepRow {
     pub step: Step,
     pub line: u32,

@@ -5,26 +5,26 @@ ghost use Rattle.flat_core.specs.Label.{main_wire, first_wire, second_wire, wire
 ghost use Rattle.flat_core.specs.Sound.{is_m};
 
 /// The number of a wire: wires count from 0 in the order in which they were made.
-#[derive(Clone, Copy, Debug, PartialEq, Eq, PartialOrd, Ord)]
+#[derive(Clone, Copy, PartialEq, Eq, PartialOrd, Ord)]
 pub struct WireId {
     pub number: u32,
 }
 
 /// The number of a step: steps count from 0 in their order.
-#[derive(Clone, Copy, Debug, PartialEq, Eq, PartialOrd, Ord)]
+#[derive(Clone, Copy, PartialEq, Eq, PartialOrd, Ord)]
 pub struct StepId {
     pub number: u32,
 }
 
 /// A control: a wire that has to have the value 1 where it is positive, and 0 where it is not.
-#[derive(Clone, Copy, Debug, PartialEq, Eq)]
+#[derive(Clone, Copy, PartialEq, Eq)]
 pub struct Lit {
     pub wire: WireId,
     pub positive: bool,
 }
 
 /// One step of the flat form.
-#[derive(Clone, Copy, Debug, PartialEq, Eq)]
+#[derive(Clone, Copy, PartialEq, Eq)]
 pub enum Step {
     /// Flips the target where all controls hold.
     X {
@@ -50,7 +50,7 @@ pub enum Step {
 }
 
 /// What becomes of a wire at the end.
-#[derive(Clone, Copy, Debug, PartialEq, Eq)]
+#[derive(Clone, Copy, PartialEq, Eq)]
 pub enum End {
     /// It is a result.
     Output,

@@ -243,31 +243,3 @@ impl Flattening {
         Ok(())
     }
 }
-
-#[cfg(test)]
-mod tests {
-    use super::*;
-    use std::test::Fail;
-
-    #[test]
-    fn phases_on_a_wire_need_no_other(rt: HostRuntime) -> Result<(), Fail> {
-        let mut builder = Builder::new(rt.alloc());
-        let wire = builder.wire(true)?;
-        turn_both(&mut builder, wire, 1, 7)?;
-        assert_eq!(rt; builder.wires(), 1);
-        Ok(())
-    }
-
-    #[test]
-    fn operands_are_repeated_in_order(rt: HostRuntime) -> Result<(), Fail> {
-        let list = repeated(
-            rt.alloc(),
-            2,
-            &[Operand::Const(true), Operand::Const(false)],
-        )?;
-        assert_eq!(rt; list.len(), 4);
-        assert_eq!(rt; list.get(2), Some(&Operand::Const(true)));
-        assert_eq!(rt; list.get(3), Some(&Operand::Const(false)));
-        Ok(())
-    }
-}

@@ -87,26 +87,3 @@ fn scalar_bits(scalar: Scalar) -> u32
         Scalar::Int(width) => width,
     }
 }
-
-#[cfg(test)]
-mod tests {
-    use super::*;
-    use std::test::Fail;
-
-    #[test]
-    fn parts_of_arrays_are_items_and_bits(rt: HostRuntime) -> Result<(), Fail> {
-        let numbers = Shape::Array(Scalar::UInt(2), 2);
-        assert_eq!(rt; part_shape(numbers, &[]), numbers);
-        assert_eq!(rt; part_shape(numbers, &[1]), Shape::UInt(2));
-        assert_eq!(rt; part_shape(numbers, &[1, 0]), Shape::Bit);
-        let bits = [
-            Operand::Const(true),
-            Operand::Const(true),
-            Operand::Const(false),
-            Operand::Const(true),
-        ];
-        assert_eq!(rt; part_of(numbers, &[1], &bits), &bits[2..]);
-        assert_eq!(rt; part_of(numbers, &[1, 1], &bits), &bits[3..]);
-        Ok(())
-    }
-}

@@ -114,22 +114,3 @@ fn input(builder: &mut Builder, alloc: Global, shape: Shape) -> Result<TypedBits
         began: 0,
     })
 }
-
-#[cfg(test)]
-mod tests {
-    use super::*;
-    use flat_core::WireId;
-    use silq_types::Scalar;
-    use std::test::Fail;
-
-    #[test]
-    fn parameters_have_the_first_wires(rt: HostRuntime) -> Result<(), Fail> {
-        let state = Flattening::begin(rt.alloc(), &[Shape::Array(Scalar::UInt(2), 2), Shape::Bit])?;
-        assert_eq!(rt; state.builder.wires(), 5);
-        let lists = state.wire_lists()?;
-        assert_eq!(rt; lists.len(), 2);
-        let last = lists.get(1).and_then(|list| list.get(0));
-        assert_eq!(rt; last.copied(), Some(WireId { number: 4 }));
-        Ok(())
-    }
-}

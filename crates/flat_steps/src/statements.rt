@@ -34,29 +34,3 @@ impl Flattening {
         self.builder.line(outer);
     }
 }
-
-#[cfg(test)]
-mod tests {
-    use super::*;
-    use crate::stack::{Callers, Values};
-    use crate::variables::Variables;
-    use bit_arith::Builder;
-    use std::test::Fail;
-
-    #[test]
-    fn statements_know_the_line_around_them(rt: HostRuntime) -> Result<(), Fail> {
-        let mut state = Flattening {
-            alloc: rt.alloc(),
-            builder: Builder::new(rt.alloc()),
-            statements: 0,
-            variables: Variables::new(rt.alloc()),
-            values: Values::new(rt.alloc()),
-            callers: Callers::new(rt.alloc()),
-        };
-        assert_eq!(rt; state.begin_statement(7)?, 1);
-        assert_eq!(rt; state.begin_statement(8)?, 7);
-        state.end_statement(7);
-        assert_eq!(rt; state.begin_statement(9)?, 7);
-        Ok(())
-    }
-}

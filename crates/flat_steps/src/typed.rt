@@ -134,18 +134,3 @@ fn other_where(other: bool, bit: bool) -> bool
 {
     if other { !bit } else { bit }
 }
-
-#[cfg(test)]
-mod tests {
-    use super::*;
-    use std::test::Fail;
-
-    #[test]
-    fn numbers_are_constants_low_bit_first(rt: HostRuntime) -> Result<(), Fail> {
-        let six = constants(rt.alloc(), 4, 6, false)?;
-        assert_eq!(rt; six.get(0), Some(&Operand::Const(false)));
-        assert_eq!(rt; six.get(1), Some(&Operand::Const(true)));
-        assert_eq!(rt; six.get(3), Some(&Operand::Const(false)));
-        Ok(())
-    }
-}

@@ -131,18 +131,3 @@ impl Flattening {
         Ok(())
     }
 }
-
-#[cfg(test)]
-mod tests {
-    use super::*;
-    use std::test::Fail;
-
-    #[test]
-    fn operands_are_undone_on_wires(rt: HostRuntime) -> Result<(), Fail> {
-        let mut builder = Builder::new(rt.alloc());
-        let x = builder.wire(true)?;
-        zero_wires(&mut builder, &[x], &[Operand::Const(true)])?;
-        assert_eq!(rt; builder.wires(), 1);
-        Ok(())
-    }
-}

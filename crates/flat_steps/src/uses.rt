@@ -194,18 +194,3 @@ fn append(list: &mut List<Operand>, more: &[Operand]) -> Result<(), AllocError>
     }
     Ok(())
 }
-
-#[cfg(test)]
-mod tests {
-    use super::*;
-    use std::test::Fail;
-
-    #[test]
-    fn a_part_is_put_back_where_it_was(rt: HostRuntime) -> Result<(), Fail> {
-        let off = Operand::Const(false);
-        let on = Operand::Const(true);
-        let all = with_part(rt.alloc(), &[off, off, off, off], 1, 3, &[on, on])?;
-        assert_eq!(rt; all.as_slice(), [off, on, on, off].as_slice());
-        Ok(())
-    }
-}

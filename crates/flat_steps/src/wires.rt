@@ -63,21 +63,3 @@ pub(crate) fn only_operand(operands: &[Operand]) -> Operand
         None => Operand::Const(false),
     }
 }
-
-#[cfg(test)]
-mod tests {
-    use super::*;
-    use std::test::Fail;
-
-    #[test]
-    fn operands_and_their_wires(rt: HostRuntime) -> Result<(), Fail> {
-        let ends = [WireId { number: 2 }, WireId { number: 0 }];
-        let operands = all_made(rt.alloc(), &ends)?;
-        assert!(rt; are_wires(operands.as_slice()));
-        let wires = wires_in(rt.alloc(), operands.as_slice())?;
-        assert_eq!(rt; wires.as_slice(), ends.as_slice());
-        assert!(rt; !are_wires(&[Operand::Const(true)]));
-        assert_eq!(rt; only_operand(&[Operand::Const(true)]), Operand::Const(true));
-        Ok(())
-    }
-}

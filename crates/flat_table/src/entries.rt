@@ -7,14 +7,14 @@ ghost use Rattle.flat_core.specs.declared.step.Step.TheVariants.{X, H, P, M};
 use flat_core::{End, Lit, Step, WireId};
 
 /// A wire: whether it is an input, and what becomes of it.
-#[derive(Clone, Copy, Debug, PartialEq, Eq)]
+#[derive(Clone, Copy, PartialEq, Eq)]
 pub struct WireEntry {
     pub input: bool,
     pub end: End,
 }
 
 /// A step and its source line.
-#[derive(Clone, Copy, Debug, PartialEq, Eq)]
+#[derive(Clone, Copy, PartialEq, Eq)]
 pub struct StepEntry {
     pub line: u32,
     pub step: Step,

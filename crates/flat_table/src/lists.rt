@@ -8,7 +8,7 @@ use flat_core::{End, WireId, WireList, WireLists};
 use std::alloc::{AllocError, Global};
 
 /// The input wires or the Output wires.
-#[derive(Clone, Copy, Debug, PartialEq, Eq)]
+#[derive(Clone, Copy, PartialEq, Eq)]
 pub enum Side {
     Ins,
     Outs,

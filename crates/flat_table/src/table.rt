@@ -15,7 +15,7 @@ use silq_io::LimitFault;
 use std::alloc::{AllocError, AllocFailed, Global};
 
 /// Why a table has no flat form.
-#[derive(Debug, Drop)]
+#[derive(Drop)]
 pub enum TableFault {
     /// The draft refused a wire or a step.
     Draft(LimitFault),

@@ -126,30 +126,3 @@ impl QubitLists {
         Ok(())
     }
 }
-
-#[cfg(test)]
-mod tests {
-    use super::*;
-    use std::test::Fail;
-
-    #[test]
-    fn lists_come_back(rt: HostRuntime) -> Result<(), Fail> {
-        let mut first = QubitList::new(rt.alloc());
-        first.push(4)?;
-        first.push(2)?;
-        let mut lists = QubitLists::new(rt.alloc());
-        assert!(rt; lists.is_empty());
-        lists.push(first)?;
-        lists.push(QubitList::new(rt.alloc()))?;
-        assert_eq!(rt; lists.len(), 2);
-        let list = lists.get(0).ok_or("no list")?;
-        assert_eq!(rt; list.as_slice(), [4, 2].as_slice());
-        assert_eq!(rt; list.get(1).copied(), Some(2));
-        assert_eq!(rt; list.get(2).copied(), None);
-        assert_eq!(rt; list.len(), 2);
-        assert!(rt; lists.get(1).ok_or("no list")?.is_empty());
-        assert!(rt; lists.get(2).is_none());
-        assert_eq!(rt; lists.as_slice().len(), 2);
-        Ok(())
-    }
-}

@@ -1,7 +1,7 @@
 //! Moves on qubits.
 
 /// A control: a qubit, and whether it holds where the qubit is 1 or where it is 0.
-#[derive(Clone, Copy, Debug, PartialEq, Eq)]
+#[derive(Clone, Copy, PartialEq, Eq)]
 pub struct Control {
     pub qubit: u32,
     /// Whether it holds at 1.
@@ -9,7 +9,7 @@ pub struct Control {
 }
 
 /// A unitary move. Its qubits differ.
-#[derive(Clone, Copy, Debug, PartialEq, Eq)]
+#[derive(Clone, Copy, PartialEq, Eq)]
 pub enum QubitMove {
     /// Exchanges 0 and 1 of the target.
     Flip {
@@ -43,7 +43,7 @@ pub enum QubitMove {
 }
 
 /// A move of a plan, on the qubits of its wires.
-#[derive(Clone, Copy, Debug, PartialEq, Eq)]
+#[derive(Clone, Copy, PartialEq, Eq)]
 pub enum PlacedMove {
     /// A unitary move.
     Unitary(QubitMove),

@@ -11,19 +11,19 @@ use std::alloc::{AllocError, Global};
 use std::marker::Model;
 
 /// The number of a vertex.
-#[derive(Clone, Copy, Debug, PartialEq, Eq)]
+#[derive(Clone, Copy, PartialEq, Eq)]
 pub struct VertexId {
     pub number: u32,
 }
 
 /// The number of an edge.
-#[derive(Clone, Copy, Debug, PartialEq, Eq)]
+#[derive(Clone, Copy, PartialEq, Eq)]
 pub struct EdgeId {
     pub number: u32,
 }
 
 /// An edge by the ids of its ends.
-#[derive(Clone, Copy, Debug, PartialEq, Eq)]
+#[derive(Clone, Copy, PartialEq, Eq)]
 pub struct Arrow {
     pub from: VertexId,
     pub to: VertexId,

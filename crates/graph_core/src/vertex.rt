@@ -3,7 +3,7 @@
 use flat_core::{StepId, WireId};
 
 /// A vertex of a circuit graph: a step, the undoing of a step, or the freeing of a wire.
-#[derive(Clone, Copy, Debug, PartialEq, Eq)]
+#[derive(Clone, Copy, PartialEq, Eq)]
 pub enum Vertex {
     Forward(StepId),
     Reverse(StepId),
@@ -11,7 +11,7 @@ pub enum Vertex {
 }
 
 /// What an edge is there for.
-#[derive(Clone, Copy, Debug, PartialEq, Eq)]
+#[derive(Clone, Copy, PartialEq, Eq)]
 pub enum EdgeKind {
     Target,
     Control,

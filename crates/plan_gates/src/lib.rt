@@ -6,8 +6,6 @@ pub mod lists;
 pub mod next_gates;
 pub mod placed_gates;
 pub mod plan_ends;
-#[cfg(test)]
-mod tests;
 
 pub use lists::qubit_lists;
 pub use next_gates::emit_next;

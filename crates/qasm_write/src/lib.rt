@@ -9,5 +9,3 @@ pub mod writer;
 pub use piece::{Piece, put_pieces};
 pub use writer::QasmWriter;
 
-#[cfg(test)]
-mod tests;

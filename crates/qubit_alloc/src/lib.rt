@@ -6,8 +6,6 @@ pub mod laws;
 pub mod placed;
 pub mod placer;
 mod seats;
-#[cfg(test)]
-mod tests;
 mod told;
 mod track;
 

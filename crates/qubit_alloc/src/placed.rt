@@ -4,7 +4,7 @@ use flat_core::{End, Step};
 use move_plan::Move;
 
 /// A move with the qubits that its wires stand on.
-#[derive(Clone, Copy, Debug, PartialEq, Eq)]
+#[derive(Clone, Copy, PartialEq, Eq)]
 pub struct Placed {
     /// The move.
     pub mv: Move,

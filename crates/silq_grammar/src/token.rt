@@ -6,7 +6,7 @@ ghost use Rattle.silq_grammar.specs.Tokens.{spot_of};
 use silq_tree::{NameId, Spot};
 
 /// A reserved word or a sign. Two spellings of one word are one terminal.
-#[derive(Clone, Copy, Debug, PartialEq, Eq)]
+#[derive(Clone, Copy, PartialEq, Eq)]
 pub enum Terminal {
     Def,
     Return,
@@ -81,7 +81,7 @@ pub enum Terminal {
 }
 
 /// A token with its place.
-#[derive(Clone, Copy, Debug, PartialEq, Eq)]
+#[derive(Clone, Copy, PartialEq, Eq)]
 pub enum Token {
     /// A name that is no reserved word.
     Name(NameId, Spot),

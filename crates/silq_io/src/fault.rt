@@ -4,11 +4,11 @@ ghost use Rattle.std.specs.Prelude.{◌≡◌};
 ghost use Rattle.silq_io.specs.Names.{cause_name, what_name};
 
 /// A fault of the outside: a device that did not read or did not write.
-#[derive(Clone, Copy, Debug, PartialEq, Eq)]
+#[derive(Clone, Copy, PartialEq, Eq)]
 pub struct Failed;
 
 /// Why a text has no tree.
-#[derive(Clone, Copy, Debug, PartialEq, Eq)]
+#[derive(Clone, Copy, PartialEq, Eq)]
 pub enum SyntaxCause {
     /// The bytes are not UTF-8.
     Utf8,
@@ -53,7 +53,7 @@ impl SyntaxCause {
 }
 
 /// What is refused by name, since it is not supported.
-#[derive(Clone, Copy, Debug, PartialEq, Eq)]
+#[derive(Clone, Copy, PartialEq, Eq)]
 pub enum What {
     /// Silq: the gate `rotX`.
     RotX,

@@ -7,7 +7,7 @@ ghost use Rattle.silq_io.specs.declared.limit.LimitFault.TheVariants.{Memory};
 use std::alloc::{AllocError, AllocFailed};
 
 /// What is counted.
-#[derive(Clone, Copy, Debug, PartialEq, Eq)]
+#[derive(Clone, Copy, PartialEq, Eq)]
 pub enum LimitKind {
     /// Statements walked by the checker, loops unrolled, each instance once.
     Walked,
@@ -58,7 +58,7 @@ impl LimitKind {
 }
 
 /// A count that went above its limit.
-#[derive(Clone, Copy, Debug, PartialEq, Eq)]
+#[derive(Clone, Copy, PartialEq, Eq)]
 pub struct OverLimit {
     /// What was counted.
     pub which: LimitKind,
@@ -67,7 +67,7 @@ pub struct OverLimit {
 }
 
 /// Why a counted call was refused.
-#[derive(Clone, Copy, Debug, PartialEq, Eq)]
+#[derive(Clone, Copy, PartialEq, Eq)]
 pub enum LimitFault {
     /// No memory.
     Memory,

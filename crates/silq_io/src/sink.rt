@@ -39,19 +39,3 @@ pub fn put_all<S: Sink>(out: &mut S, bytes: &[u8]) -> Result<(), Failed>
     }
     Ok(())
 }
-
-#[cfg(test)]
-mod tests {
-    use super::*;
-    use crate::memory::MemSink;
-    use std::test::Fail;
-
-    #[test]
-    fn all_bytes_are_put_or_a_fault_is_told(rt: HostRuntime) -> Result<(), Fail> {
-        let mut out = MemSink::new(rt.alloc(), 5, Vec::new(rt.alloc()))?;
-        assert_eq!(rt; put_all(&mut out, b"abc"), Ok(()));
-        assert_eq!(rt; put_all(&mut out, b"defg"), Err(Failed), "no room");
-        assert_eq!(rt; out.bytes(), b"abcde".as_slice());
-        Ok(())
-    }
-}

@@ -148,23 +148,3 @@ impl Sink for SureSink<'_> {
         Ok(bytes.len())
     }
 }
-
-#[cfg(test)]
-mod tests {
-    use super::*;
-
-    #[test]
-    fn no_call_fails(rt: HostRuntime) {
-        let mut files = SureFiles::new(b"abc");
-        let mut buf = [0u8; 2];
-        let begun = files.begin("a");
-        let taken = [files.take("a", &mut buf), files.take("b", &mut buf)];
-        let mut out = SureSink::new(&mut buf);
-        let put = [out.put(b"x"), out.put(b"yz")];
-        assert_eq!(rt; begun, Ok(()));
-        assert_eq!(rt; taken, [Ok(2), Ok(1)]);
-        assert_eq!(rt; put, [Ok(1), Ok(2)]);
-        assert_eq!(rt; out.bytes(), b"xy".as_slice());
-        assert_eq!(rt; out.rest(), 1);
-    }
-}

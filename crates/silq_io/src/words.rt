@@ -63,22 +63,3 @@ impl Words {
         Ok(())
     }
 }
-
-#[cfg(test)]
-mod tests {
-    use super::*;
-    use std::test::Fail;
-
-    #[test]
-    fn words_are_kept_in_order(rt: HostRuntime) -> Result<(), Fail> {
-        let mut words = Words::new(rt.alloc());
-        assert!(rt; words.is_empty());
-        words.push("compile")?;
-        words.push("")?;
-        assert_eq!(rt; words.len(), 2);
-        assert_eq!(rt; words.get(0), Some("compile"));
-        assert_eq!(rt; words.get(1), Some(""));
-        assert_eq!(rt; words.get(2), None);
-        Ok(())
-    }
-}

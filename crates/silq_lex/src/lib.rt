@@ -9,8 +9,6 @@ mod cursor;
 mod digits;
 pub mod laws;
 pub mod lexer;
-#[cfg(test)]
-mod tests;
 pub mod token;
 mod words;
 

@@ -1,7 +1,7 @@
 //! Tokens and lexical faults.
 
 /// What a token is.
-#[derive(Clone, Copy, Debug, PartialEq, Eq)]
+#[derive(Clone, Copy, PartialEq, Eq)]
 pub enum TokenKind {
     /// A name that is no reserved word.
     Name,
@@ -14,7 +14,7 @@ pub enum TokenKind {
 }
 
 /// A place in a text.
-#[derive(Clone, Copy, Debug, PartialEq, Eq)]
+#[derive(Clone, Copy, PartialEq, Eq)]
 pub struct Place {
     /// The bytes before it.
     pub start: usize,
@@ -25,7 +25,7 @@ pub struct Place {
 }
 
 /// A token, which borrows the source.
-#[derive(Clone, Copy, Debug, PartialEq, Eq)]
+#[derive(Clone, Copy, PartialEq, Eq)]
 pub struct Token<'s> {
     /// What it is.
     pub kind: TokenKind,

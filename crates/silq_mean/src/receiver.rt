@@ -4,7 +4,7 @@ use check_scope::need::Need;
 use silq_types::Ty;
 
 /// What takes a value over.
-#[derive(Clone, Copy, Debug, PartialEq, Eq)]
+#[derive(Clone, Copy, PartialEq, Eq)]
 pub enum Receiver {
     /// A variable, by `:=`.
     Variable,

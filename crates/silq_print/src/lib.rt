@@ -11,5 +11,3 @@ pub mod print;
 mod printer;
 mod style;
 mod terminal;
-#[cfg(test)]
-mod tests;

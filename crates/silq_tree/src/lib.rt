@@ -8,8 +8,6 @@ pub mod items;
 pub mod names;
 pub mod node;
 pub mod program;
-#[cfg(test)]
-mod tests;
 pub mod tree;
 
 pub use items::{ExprIds, FunIds, Items, NameIds, ParamNodes, StmtIds, TypeNodes};

@@ -3,38 +3,38 @@
 use crate::items::{ExprIds, NameIds, ParamNodes, StmtIds, TypeNodes};
 
 /// The number of a name.
-#[derive(Clone, Copy, Debug, PartialEq, Eq, Hash)]
+#[derive(Clone, Copy, PartialEq, Eq, Hash)]
 pub struct NameId {
     pub number: u32,
 }
 
 /// The number of an expression.
-#[derive(Clone, Copy, Debug, PartialEq, Eq, Hash)]
+#[derive(Clone, Copy, PartialEq, Eq, Hash)]
 pub struct ExprId {
     pub number: u32,
 }
 
 /// The number of a statement.
-#[derive(Clone, Copy, Debug, PartialEq, Eq, Hash)]
+#[derive(Clone, Copy, PartialEq, Eq, Hash)]
 pub struct StmtId {
     pub number: u32,
 }
 
 /// The number of a function.
-#[derive(Clone, Copy, Debug, PartialEq, Eq, Hash)]
+#[derive(Clone, Copy, PartialEq, Eq, Hash)]
 pub struct FunId {
     pub number: u32,
 }
 
 /// A place in the text: line and column, both from 1; a column counts characters.
-#[derive(Clone, Copy, Debug, PartialEq, Eq)]
+#[derive(Clone, Copy, PartialEq, Eq)]
 pub struct Spot {
     pub line: u32,
     pub col: u32,
 }
 
 /// What a function may do.
-#[derive(Clone, Copy, Debug, PartialEq, Eq)]
+#[derive(Clone, Copy, PartialEq, Eq)]
 pub enum Mark {
     /// No mark.
     Plain,
@@ -47,7 +47,7 @@ pub enum Mark {
 }
 
 /// How an update changes its target.
-#[derive(Clone, Copy, Debug, PartialEq, Eq)]
+#[derive(Clone, Copy, PartialEq, Eq)]
 pub enum UpdateOp {
     /// `+=`
     Add,
@@ -58,7 +58,7 @@ pub enum UpdateOp {
 }
 
 /// A sign before its operand.
-#[derive(Clone, Copy, Debug, PartialEq, Eq)]
+#[derive(Clone, Copy, PartialEq, Eq)]
 pub enum UnaryOp {
     /// `!`
     Not,
@@ -67,7 +67,7 @@ pub enum UnaryOp {
 }
 
 /// A sign between its operands.
-#[derive(Clone, Copy, Debug, PartialEq, Eq)]
+#[derive(Clone, Copy, PartialEq, Eq)]
 pub enum BinaryOp {
     /// `||`
     Or,
@@ -96,7 +96,7 @@ pub enum BinaryOp {
 }
 
 /// A scalar type as it is written.
-#[derive(Clone, Copy, Debug, PartialEq, Eq)]
+#[derive(Clone, Copy, PartialEq, Eq)]
 pub enum ScalarNode {
     /// `B`
     Bit,
@@ -107,7 +107,7 @@ pub enum ScalarNode {
 }
 
 /// A variable with up to two indexes; a second one only behind a first.
-#[derive(Clone, Copy, Debug, PartialEq, Eq)]
+#[derive(Clone, Copy, PartialEq, Eq)]
 pub struct PlaceNode {
     pub name: NameId,
     pub first: Option<ExprId>,
@@ -115,7 +115,7 @@ pub struct PlaceNode {
 }
 
 /// A type as it is written.
-#[derive(Clone, Copy, Debug, PartialEq, Eq)]
+#[derive(Clone, Copy, PartialEq, Eq)]
 pub struct TypeNode {
     /// Whether it has the sign `!`.
     pub classical: bool,
@@ -126,7 +126,7 @@ pub struct TypeNode {
 }
 
 /// A parameter of a function.
-#[derive(Clone, Copy, Debug, PartialEq, Eq)]
+#[derive(Clone, Copy, PartialEq, Eq)]
 pub struct ParamNode {
     /// Whether it is `const`.
     pub held: bool,

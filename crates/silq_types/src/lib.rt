@@ -4,8 +4,6 @@
 pub mod known;
 pub mod lists;
 pub mod signature;
-#[cfg(test)]
-mod tests;
 pub mod types;
 pub mod values;
 

@@ -5,7 +5,7 @@ use crate::types::Ty;
 use silq_tree::node::{FunId, Mark};
 
 /// A parameter.
-#[derive(Clone, Copy, Debug, PartialEq, Eq)]
+#[derive(Clone, Copy, PartialEq, Eq)]
 pub struct Param {
     pub ty: Ty,
     /// Whether it is const, or the function is `lifted`.
@@ -13,7 +13,7 @@ pub struct Param {
 }
 
 /// A result.
-#[derive(Clone, Copy, Debug, PartialEq, Eq)]
+#[derive(Clone, Copy, PartialEq, Eq)]
 pub struct Returned {
     pub ty: Ty,
     /// The consumed parameter whose place it has, counted from 0.

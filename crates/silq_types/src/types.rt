@@ -4,7 +4,7 @@ ghost use Rattle.std.specs.Prelude.{◌≡◌, ◌<◌, ◌^◌};
 ghost use Rattle.silq_types.specs.Types.{scalar_bits, shape_bits};
 
 /// The type of one bit or one number.
-#[derive(Clone, Copy, Debug, PartialEq, Eq)]
+#[derive(Clone, Copy, PartialEq, Eq)]
 pub enum Scalar {
     Bit,
     /// `uint` with its width in bits, 1 to 64.
@@ -14,7 +14,7 @@ pub enum Scalar {
 }
 
 /// What a value is made of. No value is of a tuple or of the unit type: a call or a tuple gives several values, or none.
-#[derive(Clone, Copy, Debug, PartialEq, Eq)]
+#[derive(Clone, Copy, PartialEq, Eq)]
 pub enum Shape {
     Bit,
     /// `uint` with its width in bits, 1 to 64.
@@ -26,7 +26,7 @@ pub enum Shape {
 }
 
 /// The type of a value.
-#[derive(Clone, Copy, Debug, PartialEq, Eq)]
+#[derive(Clone, Copy, PartialEq, Eq)]
 pub struct Ty {
     /// Whether it has the sign `!`.
     pub classical: bool,

@@ -4,7 +4,7 @@ use crate::types::Ty;
 use silq_tree::node::NameId;
 
 /// Where a value comes from.
-#[derive(Clone, Copy, Debug, PartialEq, Eq)]
+#[derive(Clone, Copy, PartialEq, Eq)]
 pub enum Origin {
     /// A const parameter.
     Held,
@@ -16,7 +16,7 @@ pub enum Origin {
 }
 
 /// A checked value.
-#[derive(Clone, Copy, Debug, PartialEq, Eq)]
+#[derive(Clone, Copy, PartialEq, Eq)]
 pub struct Value {
     pub ty: Ty,
     pub origin: Origin,
@@ -25,7 +25,7 @@ pub struct Value {
 }
 
 /// A variable with up to two index values; a second one only behind a first.
-#[derive(Clone, Copy, Debug, PartialEq, Eq)]
+#[derive(Clone, Copy, PartialEq, Eq)]
 pub struct Part {
     pub name: NameId,
     pub first: Option<i64>,
@@ -33,7 +33,7 @@ pub struct Part {
 }
 
 /// A variable, or a part that an element assignment has taken out.
-#[derive(Clone, Copy, Debug, PartialEq, Eq)]
+#[derive(Clone, Copy, PartialEq, Eq)]
 pub struct Var {
     pub part: Part,
     pub ty: Ty,

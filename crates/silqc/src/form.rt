@@ -18,7 +18,7 @@ use silq_tree::{
 use std::alloc::{AllocError, Global};
 
 /// What a statement does to a bit.
-#[derive(Clone, Copy, Debug, PartialEq, Eq)]
+#[derive(Clone, Copy, PartialEq, Eq)]
 pub enum Operation {
     /// The Hadamard gate: `x := H(x);`.
     Hadamard,
@@ -27,7 +27,7 @@ pub enum Operation {
 }
 
 /// A statement: an operation, and the bit that it is done to, by the number of its parameter.
-#[derive(Clone, Copy, Debug, PartialEq, Eq)]
+#[derive(Clone, Copy, PartialEq, Eq)]
 pub struct Step {
     pub operation: Operation,
     pub bit: u32,

@@ -10,7 +10,7 @@ use silq_io::{Failed, Files};
 use std::alloc::{AllocError, Global};
 
 /// Why a file was not read.
-#[derive(Clone, Copy, Debug, PartialEq, Eq)]
+#[derive(Clone, Copy, PartialEq, Eq)]
 pub enum ReadError {
     /// No memory.
     Memory,

@@ -179,5 +179,3 @@ fn compile<F: Files, S: Sink>(
     }
 }
 
-#[cfg(test)]
-mod tests;

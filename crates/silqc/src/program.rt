@@ -12,7 +12,7 @@ use silq_parse::{ParseFault, parse};
 use std::alloc::Global;
 
 /// Why a text is not read as a program of the form.
-#[derive(Clone, Copy, Debug, PartialEq, Eq)]
+#[derive(Clone, Copy, PartialEq, Eq)]
 pub enum Refusal {
     /// There is no memory.
     Memory,

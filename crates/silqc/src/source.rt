@@ -13,7 +13,7 @@ use std::str;
 pub const SOURCE_LIMIT: usize = 1_048_576;
 
 /// Why and where a file is no program. Lines and columns count from 1, a column in characters.
-#[derive(Clone, Copy, Debug, PartialEq, Eq)]
+#[derive(Clone, Copy, PartialEq, Eq)]
 pub struct FileFault {
     pub cause: SyntaxCause,
     pub line: u32,

@@ -9,7 +9,7 @@ use qasm_write::{Piece, put_pieces};
 use silq_io::{Failed, LimitKind, Sink, SyntaxCause, What, put_all};
 
 /// How a command ends.
-#[derive(Debug, PartialEq, Eq, Drop)]
+#[derive(PartialEq, Eq, Drop)]
 pub enum Status {
     /// The input was read to its end, and the whole text was put.
     Done,

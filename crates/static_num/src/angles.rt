@@ -14,7 +14,7 @@ use silq_tree::node::{BinaryOp, Expr, ExprId, UnaryOp};
 use silq_tree::tree::Tree;
 
 /// Why an angle has no eighths of a turn.
-#[derive(Clone, Copy, Debug, PartialEq, Eq)]
+#[derive(Clone, Copy, PartialEq, Eq)]
 pub enum AngleFault {
     /// It is no multiple of pi/4.
     NotEighth,

@@ -8,7 +8,7 @@ use crate::angles::AngleFault;
 use crate::values::StaticFault;
 
 /// A fraction of pi in lowest terms: its sign, its numerator and its denominator, which is above 0.
-#[derive(Clone, Copy, Debug, PartialEq, Eq)]
+#[derive(Clone, Copy, PartialEq, Eq)]
 pub struct Fraction {
     pub negative: bool,
     pub top: u64,

@@ -5,8 +5,6 @@ pub mod angles;
 mod fraction;
 pub mod laws;
 pub mod statics;
-#[cfg(test)]
-mod tests;
 pub mod values;
 
 pub use angles::{AngleFault, angle};

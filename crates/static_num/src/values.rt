@@ -10,7 +10,7 @@ use silq_tree::node::{BinaryOp, Expr, ExprId, NameId, UnaryOp};
 use silq_tree::tree::Tree;
 
 /// Why a static expression has no value.
-#[derive(Clone, Copy, Debug, PartialEq, Eq)]
+#[derive(Clone, Copy, PartialEq, Eq)]
 pub enum StaticFault {
     /// A name has no value; or there is a call, an index, a tuple, `pi` or a number with a type.
     NotStatic,

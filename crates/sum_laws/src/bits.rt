@@ -15,7 +15,7 @@ use std::cmp::Ordering;
 use std::marker::Model;
 
 /// A list of bits, as the value of a term.
-#[derive(Clone, Debug, Drop)]
+#[derive(Clone, Drop)]
 pub struct BitList {
     items: Vec<bool>,
 }

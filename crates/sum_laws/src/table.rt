@@ -11,7 +11,7 @@ use std::marker::Model;
 
 /// A table with a row for each value whose amplitude is not zero: the value and its reduced amplitude. The rows are
 /// in text order of the values, 0 before 1 and the first bit first. `Terms::merged` makes them.
-#[derive(Debug, Drop)]
+#[derive(Drop)]
 pub struct Table {
     rows: Vec<(BitList, Amp)>,
 }

@@ -66,7 +66,7 @@ impl VertexOrder {
 }
 
 /// A cycle of a graph.
-#[derive(Debug, Drop)]
+#[derive(Drop)]
 pub struct Cycle {
     vertices: Vec<Vertex>,
 }
@@ -90,7 +90,7 @@ impl Cycle {
 }
 
 /// Why a graph has no order.
-#[derive(Debug, Drop)]
+#[derive(Drop)]
 pub enum OrderFault {
     /// No memory.
     Memory,

@@ -12,7 +12,7 @@ use graph_core::Vertex;
 use std::alloc::{AllocError, Global};
 
 /// A user needs a wire at a label.
-#[derive(Clone, Copy, Debug, PartialEq, Eq)]
+#[derive(Clone, Copy, PartialEq, Eq)]
 pub struct Use {
     pub user: Vertex,
     pub wire: WireId,
