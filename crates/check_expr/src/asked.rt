@@ -1,6 +1,6 @@
 //! What is asked of an argument or of a returned value.
 
-use check_scope::need::Need;
+use silq_types::Need;
 use silq_types::Ty;
 
 /// How a value is used, and its type where one is fixed.

@@ -12,7 +12,7 @@ use check_expr::expr::{ValueList, expr};
 use check_scope::context::Context;
 use check_scope::fault::{CheckFault, ExprFault};
 use check_scope::library::Library;
-use check_scope::need::Need;
+use silq_types::Need;
 use silq_tree::ExprId;
 use silq_types::Ty;
 

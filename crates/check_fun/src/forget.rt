@@ -25,7 +25,7 @@ use check_expr::values::{is_same_shape, is_tuple};
 use check_scope::context::Context;
 use check_scope::fault::CheckFault;
 use check_scope::library::Library;
-use check_scope::need::Need;
+use silq_types::Need;
 use check_scope::rule;
 use check_scope::spots::spot_of;
 use silq_io::What;

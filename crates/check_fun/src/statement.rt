@@ -20,7 +20,7 @@ use crate::update::update_part;
 use check_scope::context::Context;
 use check_scope::fault::CheckFault;
 use check_scope::library::Library;
-use check_scope::need::Need;
+use silq_types::Need;
 use check_scope::rule;
 use silq_tree::node::PlaceNode;
 use silq_tree::{ExprId, NameId, Spot, Stmt, StmtId};

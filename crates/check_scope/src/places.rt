@@ -14,7 +14,7 @@ ghost use Rattle.check_scope.specs.Steps.{Reads, Stops};
 use crate::context::Context;
 use crate::fault::{CheckFault, ExprFault};
 use crate::library::Library;
-use crate::need::Need;
+use silq_types::Need;
 use crate::obey::obey;
 pub use crate::part_types::part_type;
 use crate::part_uses::use_found;

@@ -1,6 +1,6 @@
 //! What takes values over.
 
-use check_scope::need::Need;
+use silq_types::Need;
 use silq_types::Ty;
 
 /// What takes a value over.
