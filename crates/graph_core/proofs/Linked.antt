@@ -1,12 +1,12 @@
 -- Lists of edges by links.
-use Rattle.std.proofs.Common.{◌≡◌, ℕ, zero, suc, ◌+◌, ◌<◌, ◌≤◌, ◌⊎◌, Bool, true, false, cond, List, [], ◌∷◌, ◌++◌, length, map, reverse, take, slice_get, slice_set, get_or, Option, Some, None, refl, sym, ap, ◌∙◌, subst, inl, inr, arith, length-append, length-set}
+use Rattle.std.proofs.Common.{◌≡◌, ℕ, suc, ◌+◌, ◌<◌, ◌≤◌, Bool, true, false, cond, List, [], ◌∷◌, ◌++◌, length, reverse, take, slice_get, slice_set, get_or, Option, Some, None, refl, sym, ap, ◌∙◌, subst, inl, inr, arith, length-append, length-set}
 use Rattle.std.proofs.Math.Seq.{map-set_same}
 use Rattle.std.proofs.lemmas.Bool.{cases_Bool, cases_lt, cond_both, eq-eqb, eqb-true}
 use Rattle.std.proofs.lemmas.Option.{slice_get_within, slice_get-get_or, get_or_from_slice_get}
 use Rattle.std.proofs.lemmas.List.{append-nil, length-map, map-append, reverse-append, take_all, take_more, take-append-le}
 use Rattle.std.specs.List.Sorted.{IsPermutation}
 use Rattle.std.proofs.lemmas.List.Sorted.{IsPermutation-reverse}
-use Rattle.flat_core.proofs.Places.{at_push, at_set_same, at_set_other}
+use Rattle.flat_core.proofs.Places.{at_set_same, at_set_other}
 use Rattle.graph_core.specs.declared.vertex.EdgeKind.{EdgeKind}
 use Rattle.graph_core.specs.declared.graph.VertexId.{VertexId}
 use Rattle.graph_core.specs.declared.graph.EdgeId.{EdgeId}
@@ -14,8 +14,8 @@ use Rattle.graph_core.specs.declared.graph.Arrow.{Arrow}
 use Rattle.graph_core.specs.declared.links.VertexRow.{VertexRow}
 use Rattle.graph_core.specs.declared.links.EdgeRow.{EdgeRow}
 use Rattle.graph_core.specs.EdgesAt.{meets, other_end, edges_at}
-use Rattle.graph_core.specs.Links.{link, end_at, vertices_in, arrows_in, IsLast, IsLastEdge, AreNexts, AreFirsts, AreLinked, bound, edges_from, IsNamed, CanFollow}
-use Rattle.graph_core.specs.Linking.{WasPut, IsFirstPut}
+use Rattle.graph_core.specs.Links.{link, end_at, vertices_in, arrows_in, IsLast, IsLastEdge, AreFirsts, AreLinked, bound, edges_from, IsNamed, CanFollow}
+use Rattle.graph_core.specs.Linking.{IsFirstPut}
 use Rattle.graph_core.proofs.Places.{at_left, at_append, at_map, from_map}
 
 -- the edges at a vertex, list by list
@@ -143,17 +143,17 @@ module _ (vs mid new : List VertexRow) (es : List EdgeRow) (id : EdgeId) (old no
       let here = arrow_at es id.number old at in
       subst (IsLast d u (arrows_in es) (id.number + 1)) (sym j.2)
       (cond_both (meets d u old.arrow) (Some id) (link d j.0.first) (IsLast d u (arrows_in es) (id.number + 1))
-        (λ m. last_here d u (arrows_in es) id.number old.arrow id here m refl)
-        (λ m. last_more d u (arrows_in es) id.number old.arrow (link d j.0.first) here m (ok.firsts d u j.0 j.1)))
+      (λ m. last_here d u (arrows_in es) id.number old.arrow id here m refl)
+      (λ m. last_more d u (arrows_in es) id.number old.arrow (link d j.0.first) here m (ok.firsts d u j.0 j.1)))
 
   next : (d : Bool) (i : ℕ) (row : EdgeRow) → i < id.number + 1 → slice_get (slice_set es id.number now) i ≡ Some row → IsLast d (end_at d row.arrow) (arrows_in es) i (link d row.next)
   next d i row w h = elim (cases_lt i id.number) [
     | inl l ↦ ok.nexts d i row l (at_set_other es id.number i now row (λ e. omega arith) h)
     | inr l ↦ let e : i ≡ id.number = omega arith in
-      let is : now ≡ row = at_set_same es id.number now row (slice_get_within es id.number old at) (subst (λ (k : ℕ). slice_get (slice_set es id.number now) k ≡ Some row) e h) in
-      let begin : IsLast d (end_at d now.arrow) (arrows_in es) id.number (link d now.next) = subst (λ (x : Arrow). IsLast d (end_at d x) (arrows_in es) id.number (link d now.next)) (sym same) (ready d) in
-      subst (λ (k : ℕ). IsLast d (end_at d row.arrow) (arrows_in es) k (link d row.next)) (sym e)
-      (subst (λ (x : EdgeRow). IsLast d (end_at d x.arrow) (arrows_in es) id.number (link d x.next)) is begin)
+        let is : now ≡ row = at_set_same es id.number now row (slice_get_within es id.number old at) (subst (λ (k : ℕ). slice_get (slice_set es id.number now) k ≡ Some row) e h) in
+        let begin : IsLast d (end_at d now.arrow) (arrows_in es) id.number (link d now.next) = subst (λ (x : Arrow). IsLast d (end_at d x) (arrows_in es) id.number (link d now.next)) (sym same) (ready d) in
+        subst (λ (k : ℕ). IsLast d (end_at d row.arrow) (arrows_in es) k (link d row.next)) (sym e)
+        (subst (λ (x : EdgeRow). IsLast d (end_at d x.arrow) (arrows_in es) id.number (link d x.next)) is begin)
   ]
 
   pub linked_next : AreLinked new (slice_set es id.number now) (id.number + 1)

@@ -7,7 +7,7 @@ ghost use Rattle.graph_core.specs.Arena.{IsArena, IsFreeFor, with_vertex, with_a
 ghost use Rattle.graph_core.specs.EdgesAt.{edges_at};
 
 use crate::edges::{Edges, edges_linked};
-use crate::links::{EdgeRow, VertexRow, link_edge};
+use crate::links::{EdgeRow, VertexRow, link_both, link_edge};
 use crate::vertex::{EdgeKind, Vertex};
 use std::alloc::{AllocError, Global};
 use std::marker::Model;
@@ -104,7 +104,8 @@ impl Graph {
         ensures refused { OnErr result (self.new ≡ self.old) }
     {
         let number = self.vertices.len() as u32;
-        self.vertices.push(VertexRow::new(v))?;
+        let row = VertexRow::new(v);
+        self.vertices.push(row)?;
         Ok(VertexId { number })
     }
 
@@ -121,7 +122,8 @@ impl Graph {
         ensures refused { OnErr result (self.new ≡ self.old) }
     {
         let number = self.edges.len() as u32;
-        self.edges.push(EdgeRow::new(Arrow { from, to, kind }))?;
+        let edge = EdgeRow::new(Arrow { from, to, kind });
+        self.edges.push(edge)?;
         link_edge(&mut self.vertices, &mut self.edges, EdgeId { number });
         Ok(EdgeId { number })
     }
@@ -140,29 +142,38 @@ impl Graph {
         ensures added { IfOk result (λ id. (id.number ≡ length self.old.arrows) × (self.new ≡ with_arrows self.old (use_arrows holder user next))) }
         ensures refused { OnErr result (self.new ≡ self.old) }
     {
+        match next {
+            None => self.add_edge(holder, user, EdgeKind::Control),
+            Some(next) => self.add_both(holder, user, next),
+        }
+    }
+
+    // Adds both edges of a use, or neither.
+    fn add_both(
+        &mut self,
+        holder: VertexId,
+        user: VertexId,
+        next: VertexId,
+    ) -> Result<EdgeId, AllocError>
+        requires free { IsFreeFor self.old (control holder user) }
+        requires next_free { IsFreeFor self.old (availability user next) }
+        requires room { length self.old.arrows + 2 < 2 ^ 32 }
+        ensures added { IfOk result (λ id. (id.number ≡ length self.old.arrows) × (self.new ≡ with_arrows self.old (control holder user ∷ availability user next ∷ []))) }
+        ensures refused { OnErr result (self.new ≡ self.old) }
+    {
         let number = self.edges.len() as u32;
         let control = EdgeRow::new(Arrow {
             from: holder,
             to: user,
             kind: EdgeKind::Control,
         });
-        match next {
-            None => {
-                self.edges.push(control)?;
-                link_edge(&mut self.vertices, &mut self.edges, EdgeId { number });
-            }
-            Some(next) => {
-                let availability = EdgeRow::new(Arrow {
-                    from: user,
-                    to: next,
-                    kind: EdgeKind::Availability,
-                });
-                self.edges.extend_from_slice(&[control, availability])?;
-                link_edge(&mut self.vertices, &mut self.edges, EdgeId { number });
-                let second = number + 1;
-                link_edge(&mut self.vertices, &mut self.edges, EdgeId { number: second });
-            }
-        }
+        let availability = EdgeRow::new(Arrow {
+            from: user,
+            to: next,
+            kind: EdgeKind::Availability,
+        });
+        self.edges.extend_from_slice(&[control, availability])?;
+        link_both(&mut self.vertices, &mut self.edges, EdgeId { number });
         Ok(EdgeId { number })
     }
 }

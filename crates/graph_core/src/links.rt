@@ -1,10 +1,11 @@
 //! Vertices and edges in rows, with the lists of the edges at each vertex.
 
-ghost use Rattle.std.specs.Prelude.{◌≡◌, ◌+◌, ◌<◌, length, Some, None, slice_get};
+ghost use Rattle.std.specs.Prelude.{◌≡◌, ℕ, ◌+◌, ◌<◌, ◌^◌, length, Some, None, slice_get};
 ghost use Rattle.graph_core.specs.declared.links.EdgeRow.{EdgeRow};
 ghost use Rattle.graph_core.specs.declared.links.VertexRow.{VertexRow};
 ghost use Rattle.graph_core.specs.Links.{AreLinked, arrows_in, link, vertices_in, with_link};
 ghost use Rattle.graph_core.specs.Linking.{IsFirstPut};
+ghost use Rattle.graph_core.specs.EdgesAt.{other_end};
 
 use crate::graph::{Arrow, EdgeId, VertexId};
 use crate::vertex::Vertex;
@@ -45,7 +46,11 @@ impl Links {
     pub fn get(self, entering: bool) -> Option<EdgeId>
         ensures { result ≡ link entering self }
     {
-        if entering { self.entering } else { self.leaving }
+        if entering {
+            self.entering
+        } else {
+            self.leaving
+        }
     }
 
     /// The links with another edge in one direction.
@@ -81,11 +86,22 @@ impl VertexRow {
 impl EdgeRow {
     /// An edge that stands in no list.
     pub fn new(arrow: Arrow) -> EdgeRow
-        ensures { result ≡ record { arrow = arrow; next = record { leaving = None; entering = None } } }
+        ensures { result.arrow ≡ arrow }
     {
         EdgeRow {
             arrow,
             next: Links::none(),
+        }
+    }
+
+    /// The vertex at the edge's other end: the one that it leaves where it enters a vertex.
+    pub fn other_end(self, entering: bool) -> VertexId
+        ensures { result ≡ other_end entering self.arrow }
+    {
+        if entering {
+            self.arrow.from
+        } else {
+            self.arrow.to
         }
     }
 }
@@ -121,4 +137,19 @@ pub fn link_edge(vertices: &mut [VertexRow], edges: &mut [EdgeRow], id: EdgeId)
     };
     put_first(vertices, arrow.from, false, id);
     put_first(vertices, arrow.to, true, id);
+}
+
+/// Puts an edge and the one after it at the head of the lists of their ends.
+pub fn link_both(vertices: &mut [VertexRow], edges: &mut [EdgeRow], id: EdgeId)
+    requires there { id.number + 1 < length edges.old }
+    requires room { id.number + 1 < 2 ^ 32 }
+    requires ends { (i : ℕ) (row : EdgeRow) → slice_get edges.old i ≡ Some row → (row.arrow.from.number < length vertices.old) × (row.arrow.to.number < length vertices.old) }
+    requires linked { AreLinked vertices.old edges.old id.number }
+    ensures linked { AreLinked vertices.new edges.new (id.number + 1 + 1) }
+    ensures vertices { vertices_in vertices.new ≡ vertices_in vertices.old }
+    ensures arrows { arrows_in edges.new ≡ arrows_in edges.old }
+{
+    link_edge(vertices, edges, id);
+    let number = id.number + 1;
+    link_edge(vertices, edges, EdgeId { number });
 }
