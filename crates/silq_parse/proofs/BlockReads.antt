@@ -19,12 +19,12 @@ use Rattle.silq_grammar.specs.declared.token.Terminal.TheVariants as t
 use Rattle.silq_grammar.specs.Grammar as g
 use Rattle.silq_grammar.specs.Spelled.{expr_text, stmt_text, stmts_text, block_text, choice_text}
 use Rattle.silq_grammar.specs.Trees.{expr_tree, stmt_tree, stmts_tree, block_tree, block_end, choice_tree}
-use Rattle.silq_parse.specs.Grown.{Grew}
-use Rattle.silq_parse.specs.Reads.{IsBounded, ReadsExpr, ReadsStmt, ReadsPart}
+use Rattle.expr_parse.specs.Grown.{Grew}
+use Rattle.expr_parse.specs.Reads.{IsBounded, ReadsExpr, ReadsStmt, ReadsPart}
 use Rattle.silq_parse.specs.Parts.{Rest, missing, with_block, with_choice, rest_text, rest_tree, Between, between, between_text, between_tree, Range}
 use Rattle.silq_parse.specs.AddedStatement.{IsAddedStmt, AreFreeStmts}
-use Rattle.silq_parse.specs.Added.{AreFree}
-use Rattle.silq_parse.proofs.Growing.{grew_nothing, grew_then, statements_kept}
+use Rattle.expr_parse.specs.Added.{AreFree}
+use Rattle.expr_parse.proofs.Growing.{grew_nothing, grew_then, statements_kept}
 use Rattle.silq_parse.proofs.AddedStatements.{added_stands, added_grew, added_bounded, free, free_stmts}
 use Rattle.silq_parse.proofs.SimpleReads.{one_more, behind_text}
 

@@ -1,8 +1,8 @@
 -- What a `?` hands on.
 use Rattle.std.proofs.Common.{◌≡◌, Result, Ok, Err, MatchResult, IsErrAnd, sym, subst, ◌∙◌, refl}
 use Rattle.silq_grammar.specs.Outcome.{Outcome}
-use Rattle.silq_parse.specs.Stops.{StopsAt}
-use Rattle.silq_parse.specs.declared.stop.Stop.{Stop}
+use Rattle.expr_parse.specs.Stops.{StopsAt}
+use Rattle.expr_parse.specs.declared.stop.Stop.{Stop}
 
 pub stops : {T : Type 0} (r : Result T Stop) (s : Stop) (a b : Outcome) (P : T → Type 0) → IsErrAnd r (λ y. y ≡ s) → a ≡ b → StopsAt b s → MatchResult r P (λ s. StopsAt a s)
 stops (Ok x) s a b P e p h = absurd e

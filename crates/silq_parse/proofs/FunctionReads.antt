@@ -22,13 +22,13 @@ use Rattle.silq_grammar.specs.declared.token.Terminal.TheVariants as t
 use Rattle.silq_grammar.specs.Grammar as g
 use Rattle.silq_grammar.specs.Spelled.{block_text, static_part_text, param_part_text, mark_text, result_part_text, function_text}
 use Rattle.silq_grammar.specs.Trees.{block_tree, static_part_tree, param_part_tree, mark_tree, result_part_tree, function_tree}
-use Rattle.silq_parse.specs.Grown.{Grew}
-use Rattle.silq_parse.specs.Reads.{IsBounded, ReadsPart}
+use Rattle.expr_parse.specs.Grown.{Grew}
+use Rattle.expr_parse.specs.Reads.{IsBounded, ReadsPart}
 use Rattle.silq_parse.specs.Parts.{SpellsStaticPart, SpellsMark}
-use Rattle.silq_parse.specs.Added.{AreFree}
+use Rattle.expr_parse.specs.Added.{AreFree}
 use Rattle.silq_parse.specs.AddedStatement.{AreFreeStmts}
 use Rattle.silq_parse.specs.Functions.{AreOwned, IsAddedFun, HasRoom, ReadsFunction}
-use Rattle.silq_parse.proofs.Growing.{grew_nothing, grew_then, kept_then}
+use Rattle.expr_parse.proofs.Growing.{grew_nothing, grew_then, kept_then}
 use Rattle.silq_parse.proofs.AddedStatements.{free, free_stmts}
 use Rattle.silq_parse.proofs.SimpleReads.{one_more}
 use Rattle.silq_parse.proofs.TypeReads.{types_kept}

@@ -18,10 +18,10 @@ use Rattle.silq_grammar.specs.declared.token.Terminal.TheVariants as t
 use Rattle.silq_grammar.specs.Grammar as g
 use Rattle.silq_grammar.specs.Spelled.{type_text, result_text, param_text, params_text, statics_text, static_part_text, param_part_text, result_part_text}
 use Rattle.silq_grammar.specs.Trees.{type_tree, result_tree, param_tree, params_tree, statics_tree, static_part_tree, param_part_tree, result_part_tree}
-use Rattle.silq_parse.specs.Grown.{Grew}
-use Rattle.silq_parse.specs.Reads.{IsBounded, ReadsPart}
+use Rattle.expr_parse.specs.Grown.{Grew}
+use Rattle.expr_parse.specs.Reads.{IsBounded, ReadsPart}
 use Rattle.silq_parse.specs.Parts.{SpellsStatic, SpellsStatics, SpellsStaticPart, Typed, typed_text, typed_tree}
-use Rattle.silq_parse.proofs.Growing.{grew_nothing, grew_then}
+use Rattle.expr_parse.proofs.Growing.{grew_nothing, grew_then}
 use Rattle.silq_parse.proofs.SimpleReads.{one_more, behind_text}
 use Rattle.silq_parse.proofs.TypeReads.{type_kept}
 

@@ -22,12 +22,12 @@ use Rattle.silq_grammar.specs.declared.token.Terminal.TheVariants as t
 use Rattle.silq_grammar.specs.Grammar as g
 use Rattle.silq_grammar.specs.Spelled.{expr_text, scalar_text, size_text, type_text, result_text}
 use Rattle.silq_grammar.specs.Trees.{expr_tree, scalar_tree, sized_tree, type_tree, result_tree}
-use Rattle.silq_parse.specs.Grown.{Grew}
-use Rattle.silq_parse.specs.Reads.{IsBounded, ReadsExpr, ReadsPart}
+use Rattle.expr_parse.specs.Grown.{Grew}
+use Rattle.expr_parse.specs.Reads.{IsBounded, ReadsExpr, ReadsPart}
 use Rattle.silq_parse.specs.Parts.{maybe, size_tree, Sized, sized_text, sized_node_tree}
-use Rattle.silq_parse.specs.Added.{IsAdded}
-use Rattle.silq_parse.proofs.Growing.{grew_nothing, grew_then}
-use Rattle.silq_parse.proofs.Reading.{made, grew_by, same_stmts}
+use Rattle.expr_parse.specs.Added.{IsAdded}
+use Rattle.expr_parse.proofs.Growing.{grew_nothing, grew_then}
+use Rattle.expr_parse.proofs.Reading.{made, grew_by, same_stmts}
 use Rattle.silq_parse.proofs.Reading as reading
 use Rattle.silq_parse.proofs.SimpleReads.{one_more, behind_text}
 

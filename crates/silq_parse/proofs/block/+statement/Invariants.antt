@@ -5,7 +5,7 @@ use Rattle.silq_grammar.specs.Machine.{Symbol, Statements, nest}
 use Rattle.silq_grammar.specs.Outcome.{outcome}
 use Rattle.silq_grammar.specs.Spelled.{stmts_text}
 use Rattle.silq_grammar.specs.Trees.{stmts_tree}
-use Rattle.silq_parse.specs.Reads.{ReadsPart}
+use Rattle.expr_parse.specs.Reads.{ReadsPart}
 use Rattle.silq_parse.proofs.block.+statement.Given as goal
 
 -- the tokens that are left, and then the level in the grammar

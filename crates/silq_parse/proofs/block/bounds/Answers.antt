@@ -10,8 +10,8 @@ use Rattle.silq_parse.proofs.Exits.{stops, stops_behind, behind}
 use Rattle.silq_parse.proofs.BlockReads.{no_statement, no_items, next_statement, one_statement, closed_block, part_of, stmt_of, no_else, else_block, else_choice, chosen, choice_free, choice_reads, between_reads, loop_reads}
 use Rattle.silq_parse.proofs.Opened.{bounds_open, block_open, else_block_open, else_choice_open, name_begins, spread_begins, forget_begins, phase_begins, choice_begins, loop_begins, return_begins}
 use Rattle.silq_parse.proofs.AddedStatements.{free_stmts}
-use Rattle.silq_parse.proofs.Growing.{grew_then}
-use Rattle.silq_parse.proofs.Passed.{ends_passed}
+use Rattle.expr_parse.proofs.Growing.{grew_then}
+use Rattle.expr_parse.proofs.Passed.{ends_passed}
 use Rattle.silq_parse.proofs.block.bounds.Goals as goal
 
 pub returns-in_err-low-clause-machine : goal.returns-in_err-low-clause-machine

@@ -14,14 +14,17 @@ use Rattle.silq_parse.proofs.Opened.{params_open, statics_open, more_statics_ope
 use Rattle.silq_parse.proofs.Skips.{params_there}
 use Rattle.silq_parse.proofs.header.mark.Goals as goal
 
-pub returns-in-Fixed-clause-reads : goal.returns-in-Fixed-clause-reads
-returns-in-Fixed-clause-reads c = record { derivation = lifted c.in-Fixed._at; spelled = grind (arith, common_steps); named = refl }
+pub returns-in-Lifted-clause-reads : goal.returns-in-Lifted-clause-reads
+returns-in-Lifted-clause-reads c = record { derivation = lifted c.in-Fixed._at; spelled = grind (arith, common_steps); named = refl }
 
-pub returns-in-Fixed-2-clause-reads : goal.returns-in-Fixed-2-clause-reads
-returns-in-Fixed-2-clause-reads c = record { derivation = qfree c.in-Fixed-2._at; spelled = grind (arith, common_steps); named = refl }
+pub returns-in-Qfree-clause-reads : goal.returns-in-Qfree-clause-reads
+returns-in-Qfree-clause-reads c = record { derivation = qfree c.in-Fixed._at; spelled = grind (arith, common_steps); named = refl }
 
-pub returns-in-Fixed-3-clause-reads : goal.returns-in-Fixed-3-clause-reads
-returns-in-Fixed-3-clause-reads c = record { derivation = mfree c.in-Fixed-3._at; spelled = grind (arith, common_steps); named = refl }
+pub returns-in-Mfree-clause-reads : goal.returns-in-Mfree-clause-reads
+returns-in-Mfree-clause-reads c = record { derivation = mfree c.in-Fixed._at; spelled = grind (arith, common_steps); named = refl }
 
 pub returns-in_default-clause-reads : goal.returns-in_default-clause-reads
 returns-in_default-clause-reads c = record { derivation = no_mark; spelled = refl; named = refl }
+
+pub returns-in_default-2-clause-reads : goal.returns-in_default-2-clause-reads
+returns-in_default-2-clause-reads c = record { derivation = no_mark; spelled = refl; named = refl }

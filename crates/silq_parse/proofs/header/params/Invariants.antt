@@ -7,7 +7,7 @@ use Rattle.silq_grammar.specs.Machine.{Symbol, Expect, AnyName, OneParam, MorePa
 use Rattle.silq_grammar.specs.Outcome.{outcome}
 use Rattle.silq_grammar.specs.Spelled.{params_text}
 use Rattle.silq_grammar.specs.Trees.{params_tree}
-use Rattle.silq_parse.specs.Reads.{ReadsPart}
+use Rattle.expr_parse.specs.Reads.{ReadsPart}
 use Rattle.silq_parse.specs.Parts.{SpellsStatics}
 use Rattle.silq_parse.proofs.header.params.Given as goal
 

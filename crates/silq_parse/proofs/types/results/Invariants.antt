@@ -6,7 +6,7 @@ use Rattle.silq_grammar.specs.Machine.{Symbol, AType, MoreResults, nest}
 use Rattle.silq_grammar.specs.Outcome.{outcome}
 use Rattle.silq_grammar.specs.Spelled.{result_text}
 use Rattle.silq_grammar.specs.Trees.{result_tree}
-use Rattle.silq_parse.specs.Reads.{ReadsPart}
+use Rattle.expr_parse.specs.Reads.{ReadsPart}
 use Rattle.silq_parse.proofs.types.results.Given as goal
 
 -- the types so far, and what is left decides
