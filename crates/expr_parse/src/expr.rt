@@ -21,7 +21,6 @@ use std::alloc::Global;
 
 /// An expression, where the nest may still grow by `room`.
 #[cycle(expression)]
-#[tactic(auto, unfolding(silq_grammar::specs::Outcome::outcome))]
 pub fn expr<'t>(
     alloc: Global,
     tree: &mut Tree,
@@ -49,7 +48,6 @@ pub fn expr<'t>(
 
 /// What may stand on each side of `||`, where the nest may still grow by `room`.
 #[cycle(expression)]
-#[tactic(auto, unfolding(silq_grammar::specs::Outcome::outcome))]
 fn and<'t>(
     alloc: Global,
     tree: &mut Tree,
@@ -77,7 +75,6 @@ fn and<'t>(
 
 /// What may stand on each side of `&&`: a sum, or two that are compared; where the nest may still grow by `room`.
 #[cycle(expression)]
-#[tactic(auto, unfolding(silq_grammar::specs::Outcome::outcome))]
 fn comparison<'t>(
     alloc: Global,
     tree: &mut Tree,
@@ -103,7 +100,6 @@ fn comparison<'t>(
 
 /// A sum, where the nest may still grow by `room`.
 #[cycle(expression)]
-#[tactic(auto, unfolding(silq_grammar::specs::Outcome::outcome))]
 fn sum<'t>(
     alloc: Global,
     tree: &mut Tree,
@@ -131,7 +127,6 @@ fn sum<'t>(
 
 /// A product, where the nest may still grow by `room`.
 #[cycle(expression)]
-#[tactic(auto, unfolding(silq_grammar::specs::Outcome::outcome))]
 fn prod<'t>(
     alloc: Global,
     tree: &mut Tree,

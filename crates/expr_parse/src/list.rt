@@ -10,10 +10,10 @@ ghost use Rattle.silq_grammar.specs.declared.token.Token.TheVariants.{Fixed};
 ghost use Rattle.silq_grammar.specs.declared.token.Terminal.TheVariants as t;
 ghost use Rattle.silq_grammar.specs.Machine.{Symbol, Closing, Expect, CallPart, MoreExprs, InBracket, InIndex, StartBracket, StartIndex, Arguments, an_expr, exprs, nest};
 ghost use Rattle.silq_grammar.specs.Outcome.{outcome};
-ghost use Rattle.silq_grammar.specs.Spelled.{exprs_text, args_text};
-ghost use Rattle.silq_grammar.specs.Trees.{exprs_tree, args_tree};
+ghost use Rattle.silq_grammar.specs.Spelled.{expr_text, exprs_text, args_text};
+ghost use Rattle.silq_grammar.specs.Trees.{expr_tree, exprs_tree, args_tree};
 ghost use Rattle.expr_parse.specs.Stops.{StopsAt};
-ghost use Rattle.expr_parse.specs.Reads.{ReadsPart};
+ghost use Rattle.expr_parse.specs.Reads.{ReadsExpr, ReadsPart};
 ghost use Rattle.expr_parse.specs.Groups.{group_ids, ReadsGroup, behind_bracket, start_bracket};
 ghost use Rattle.expr_parse.specs.declared.stop.Stop.TheVariants as stops;
 
@@ -65,7 +65,6 @@ fn comma<'t>(tokens: &'t [Token]) -> Option<&'t [Token]>
 
 /// Expressions between commas, behind the comma that follows those of the list; where the nest may still grow by `room`.
 #[cycle(expression)]
-#[tactic(auto, unfolding(silq_grammar::specs::Outcome::outcome))]
 fn exprs<'t>(
     alloc: Global,
     tree: &mut Tree,
@@ -97,7 +96,6 @@ fn exprs<'t>(
 
 /// An expression, or several between commas, and the sign that closes them; where the nest may still grow by `room`.
 #[cycle(expression)]
-#[tactic(auto, unfolding(silq_grammar::specs::Outcome::outcome))]
 pub(crate) fn closed_group<'t>(
     alloc: Global,
     tree: &mut Tree,
@@ -125,11 +123,36 @@ pub(crate) fn closed_group<'t>(
         let (_, rest) = sign(rest, closing)?;
         return Ok((Group::One(first), rest));
     };
+    let (ids, rest) = group_rest(alloc, tree, closing, first, more, room)?;
+    Ok((Group::Several(ids), rest))
+}
+
+/// Several expressions and the sign that closes them, from behind the first one and its comma; where the nest may still grow
+/// by `room`.
+#[cycle(expression)]
+fn group_rest<'t>(
+    alloc: Global,
+    tree: &mut Tree,
+    closing: Terminal,
+    first: ExprId,
+    tokens: &'t [Token],
+    room: u32,
+) -> Result<(ExprIds, &'t [Token]), Stop<'t>>
+    requires arena { IsArena tree.old }
+    requires nodes { length tree.old.exprs + length tokens.now < 2 ^ 32 - 1 }
+    ensures machine { (k : List Symbol) → nest (Closing closing ∷ k) + room ≡ 64 → MatchResult result (λ p. outcome (exprs (Closing closing ∷ k)) tokens.now ≡ outcome k p.1.now)
+        (λ stop. StopsAt (outcome (exprs (Closing closing ∷ k)) tokens.now) stop) }
+    ensures reads { IfOk result (λ p. (old : Forest) (ts : List Token) (s : Spot) → ReadsExpr expr_text expr_tree old tree.old ts first (Fixed t.Comma s ∷ tokens.now)
+        → (r : Spot) × ReadsPart exprs_text exprs_tree old tree.new ts (expressions_of (expr_at tree.new) p.0) p.0 [] (Fixed closing r ∷ p.1.now)) }
+    ensures several { IfOk result (λ p. 2 ≤ length p.0) }
+    ensures arena { OnOk result (IsArena tree.new) }
+    ensures shorter { IfOk result (λ p. length p.1.now < length tokens.now) }
+{
     let mut ids = ExprIds::new(alloc);
     ids.push(first)?;
-    let rest = exprs(alloc, tree, &mut ids, more, room)?;
+    let rest = exprs(alloc, tree, &mut ids, tokens, room)?;
     let (_, rest) = sign(rest, closing)?;
-    Ok((Group::Several(ids), rest))
+    Ok((ids, rest))
 }
 
 /// The tokens behind the parenthesis that closes no arguments.
@@ -147,7 +170,6 @@ fn no_arguments<'t>(tokens: &'t [Token]) -> Option<&'t [Token]>
 
 /// Arguments and the parenthesis behind them, where the nest may still grow by `room`.
 #[cycle(expression)]
-#[tactic(auto, unfolding(silq_grammar::specs::Outcome::outcome))]
 pub(crate) fn arguments<'t>(
     alloc: Global,
     tree: &mut Tree,

@@ -73,7 +73,6 @@ fn width<'t>(tokens: &'t [Token]) -> Result<&'t [Token], Stop<'t>>
 
 /// A scalar type, where the nest may still grow by `room`.
 #[cycle(expression)]
-#[tactic(auto, unfolding(silq_grammar::specs::Outcome::outcome))]
 pub fn scalar<'t>(
     alloc: Global,
     tree: &mut Tree,

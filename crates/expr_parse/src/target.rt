@@ -34,7 +34,6 @@ pub enum Target {
 
 /// A place or a call behind its name and its first index, where the nest may still grow by `room` inside a bracket.
 #[cycle(expression)]
-#[tactic(auto, unfolding(silq_grammar::specs::Outcome::outcome))]
 fn indexed<'t>(
     alloc: Global,
     tree: &mut Tree,
@@ -87,7 +86,6 @@ fn indexed<'t>(
 
 /// A place or a call behind its name and a bracket, where the nest may still grow by `room` inside the bracket.
 #[cycle(expression)]
-#[tactic(auto, unfolding(silq_grammar::specs::Outcome::outcome))]
 fn bracketed<'t>(
     alloc: Global,
     tree: &mut Tree,
@@ -121,7 +119,6 @@ fn bracketed<'t>(
 
 /// A place or a call whose name stands before these tokens, where the nest may still grow by `room`.
 #[cycle(expression)]
-#[tactic(auto, unfolding(silq_grammar::specs::Outcome::outcome))]
 pub fn behind_name<'t>(
     alloc: Global,
     tree: &mut Tree,

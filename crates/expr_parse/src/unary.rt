@@ -24,7 +24,6 @@ use std::alloc::Global;
 
 /// An operand with its signs, where the nest may still grow by `room`.
 #[cycle(expression)]
-#[tactic(auto, unfolding(silq_grammar::specs::Outcome::outcome))]
 pub(crate) fn unary<'t>(
     alloc: Global,
     tree: &mut Tree,
@@ -52,7 +51,6 @@ pub(crate) fn unary<'t>(
 
 /// A place or a call behind its name, where the nest may still grow by `room`.
 #[cycle(expression)]
-#[tactic(auto, unfolding(silq_grammar::specs::Outcome::outcome))]
 fn named<'t>(
     alloc: Global,
     tree: &mut Tree,
@@ -75,7 +73,6 @@ fn named<'t>(
 
 /// The type of a number behind it, or none, where the nest may still grow by `room`.
 #[cycle(expression)]
-#[tactic(auto, unfolding(silq_grammar::specs::Outcome::outcome))]
 fn number<'t>(
     alloc: Global,
     tree: &mut Tree,
@@ -101,7 +98,6 @@ fn number<'t>(
 
 /// Expressions behind the parenthesis that opens them, where the nest may still grow by `room` inside.
 #[cycle(expression)]
-#[tactic(auto, unfolding(silq_grammar::specs::Outcome::outcome))]
 fn enclosed<'t>(
     alloc: Global,
     tree: &mut Tree,
@@ -123,7 +119,6 @@ fn enclosed<'t>(
 
 /// An operand behind one of its signs, where the nest may still grow by `room` inside.
 #[cycle(expression)]
-#[tactic(auto, unfolding(silq_grammar::specs::Outcome::outcome))]
 fn signed<'t>(
     alloc: Global,
     tree: &mut Tree,

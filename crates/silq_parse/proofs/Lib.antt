@@ -2,7 +2,6 @@ pub mod Naming
 pub mod Spelt
 pub mod Few
 pub mod UnderWay
-pub mod Exits
 pub mod AddedStatements
 pub mod SimpleReads
 pub mod TupleNames

@@ -1,8 +1,10 @@
 use Rattle.std.proofs.Common.{rules, ◌≡◌, ◌+◌, ◌-◌, [], ◌∷◌, length, ap, arith, ◌++◌, ◌∙◌, refl, to_z-of_z, SFits, w64, length-append}
 use Rattle.std.proofs.lemmas.Grind.{common_steps}
-use Rattle.silq_grammar.specs.Machine.{Prods, Sums, Compare, Ands, Ors, Ends, Closing, MoreExprs, Expect, InBracket, InIndex, StartBracket, StartIndex, CallPart, Assigns}
+use Rattle.silq_grammar.specs.Machine.{AUnary, Prods, Sums, Compare, Ands, Ors, Ends, Closing, MoreExprs, Expect, InBracket, InIndex, StartBracket, StartIndex, CallPart, Assigns, Arguments, an_expr}
+use Rattle.silq_grammar.specs.Outcome.{outcome}
 use Rattle.expr_parse.proofs.Reading.{one_and, read_or, one_cmp, read_and, one_sum, read_comparison, one_prod, read_sum, one_unary, read_prod}
-use Rattle.expr_parse.proofs.Passed.{ends_passed}
+use Rattle.expr_parse.proofs.Passed.{ends_passed, taken, none_gone}
+use Rattle.expr_parse.proofs.Exits.{stops}
 use Rattle.expr_parse.proofs.Atoms.{read_number, read_typed, read_truth, read_pi, read_sign, read_paren, read_bit, read_wide, list_read, last_read, group_read}
 use Rattle.expr_parse.proofs.Named.{read_target, group_free, no_args_read, args_read, read_part, read_part_of_part, read_static_call, read_whole, read_plain}
 use Rattle.expr_parse.proofs.Growing.{free_then, free}
@@ -11,11 +13,11 @@ use Rattle.expr_parse.proofs.+expression.Goals as goal
 
 -- expr
 pub expr::expr-returns-in_err-left-clause-machine : goal.expr::expr-returns-in_err-left-clause-machine
-expr::expr-returns-in_err-left-clause-machine _ c = λ k h. let m = c.in_err-left.ensures.machine (Ors 0 ∷ k) (omega arith) in search rules
+expr::expr-returns-in_err-left-clause-machine _ c = λ k h. stops _ _ _ _ _ c.from_residual.ensures.1 refl (c.in_err-left.ensures.machine (Ors 0 ∷ k) (omega arith))
 
 pub expr::expr-loop-op-init : goal.expr::expr-loop-op-init
 expr::expr-loop-op-init _ c = record {
-  machine = λ k h. let m = c.in_ok-left.ensures.machine (Ors 0 ∷ k) (omega arith) in grind (arith, common_steps);
+  machine = λ k h. c.in_ok-left.ensures.machine (Ors 0 ∷ k) (omega arith) ∙ ap (λ n. outcome (Ors n ∷ k) _) (none_gone c.args.room);
   reads = one_and c.in_ok-left.ensures.reads;
   arena = c.in_ok-left.ensures.arena;
   room = omega arith;
@@ -28,7 +30,7 @@ expr::expr-returns-in_err-right-clause-machine _ c = λ k h.
     let m = c.in_err-right.ensures.machine (Ors (n + 1) ∷ k) (omega arith) in
     let o = c.in-Some.ensures.machine k n in
     let i = c.loop-op.invariant.machine k h in
-    search rules
+    stops _ _ _ _ _ c.from_residual-in_err-right.ensures.1 (i ∙ o ∙ taken (AUnary ∷ Prods 0 ∷ Sums 0 ∷ Compare ∷ Ands 0 ∷ Ors (n + 1) ∷ k) _ _ (omega arith)) m
 
 pub expr::expr-loop-op-preserved : goal.expr::expr-loop-op-preserved
 expr::expr-loop-op-preserved _ c =
@@ -47,11 +49,11 @@ expr::expr-loop-op-preserved _ c =
 
 -- and
 pub expr::and-returns-in_err-left-clause-machine : goal.expr::and-returns-in_err-left-clause-machine
-expr::and-returns-in_err-left-clause-machine _ c = λ k h. let m = c.in_err-left.ensures.machine (Ands 0 ∷ k) (omega arith) in search rules
+expr::and-returns-in_err-left-clause-machine _ c = λ k h. stops _ _ _ _ _ c.from_residual.ensures.1 refl (c.in_err-left.ensures.machine (Ands 0 ∷ k) (omega arith))
 
 pub expr::and-loop-op-init : goal.expr::and-loop-op-init
 expr::and-loop-op-init _ c = record {
-  machine = λ k h. let m = c.in_ok-left.ensures.machine (Ands 0 ∷ k) (omega arith) in grind (arith, common_steps);
+  machine = λ k h. c.in_ok-left.ensures.machine (Ands 0 ∷ k) (omega arith) ∙ ap (λ n. outcome (Ands n ∷ k) _) (none_gone c.args.room);
   reads = one_cmp c.in_ok-left.ensures.reads;
   arena = c.in_ok-left.ensures.arena;
   room = omega arith;
@@ -64,7 +66,7 @@ expr::and-returns-in_err-right-clause-machine _ c = λ k h.
     let m = c.in_err-right.ensures.machine (Ands (n + 1) ∷ k) (omega arith) in
     let o = c.in-Some.ensures.machine k n in
     let i = c.loop-op.invariant.machine k h in
-    search rules
+    stops _ _ _ _ _ c.from_residual-in_err-right.ensures.1 (i ∙ o ∙ taken (AUnary ∷ Prods 0 ∷ Sums 0 ∷ Compare ∷ Ands (n + 1) ∷ k) _ _ (omega arith)) m
 
 pub expr::and-loop-op-preserved : goal.expr::and-loop-op-preserved
 expr::and-loop-op-preserved _ c =
@@ -83,7 +85,7 @@ expr::and-loop-op-preserved _ c =
 
 -- comparison
 pub expr::comparison-returns-in_err-left-clause-machine : goal.expr::comparison-returns-in_err-left-clause-machine
-expr::comparison-returns-in_err-left-clause-machine _ c = λ k h. let m = c.in_err-left.ensures.machine (Compare ∷ k) (omega arith) in search rules
+expr::comparison-returns-in_err-left-clause-machine _ c = λ k h. stops _ _ _ _ _ c.from_residual.ensures.1 refl (c.in_err-left.ensures.machine (Compare ∷ k) (omega arith))
 
 pub expr::comparison-returns-in_default-clause-reads : goal.expr::comparison-returns-in_default-clause-reads
 expr::comparison-returns-in_default-clause-reads _ c = one_sum c.in_ok-left.ensures.reads
@@ -93,7 +95,7 @@ expr::comparison-returns-in_err-right-clause-machine _ c = λ k h.
     let l = c.in_ok-left.ensures.machine (Compare ∷ k) (omega arith) in
     let m = c.in_err-right.ensures.machine (Ends ∷ k) (omega arith) in
     let o = c.in-Some.ensures.machine k in
-    search rules
+    stops _ _ _ _ _ c.from_residual-in_err-right.ensures.1 (l ∙ o ∙ taken (AUnary ∷ Prods 0 ∷ Sums 0 ∷ Ends ∷ k) _ _ (omega arith)) m
 
 pub expr::comparison-returns-clause-machine : goal.expr::comparison-returns-clause-machine
 expr::comparison-returns-clause-machine _ c = λ k h.
@@ -101,7 +103,7 @@ expr::comparison-returns-clause-machine _ c = λ k h.
     let m = c.in_ok-right.ensures.machine (Ends ∷ k) (omega arith) in
     let o = c.in-Some.ensures.machine k in
     let e = ends_passed k c.in_ok-right.after.now in
-    grind (arith, common_steps)
+    l ∙ o ∙ taken (AUnary ∷ Prods 0 ∷ Sums 0 ∷ Ends ∷ k) _ _ (omega arith) ∙ m ∙ e
 
 pub expr::comparison-returns-clause-reads : goal.expr::comparison-returns-clause-reads
 expr::comparison-returns-clause-reads _ c =
@@ -109,11 +111,11 @@ expr::comparison-returns-clause-reads _ c =
 
 -- sum
 pub expr::sum-returns-in_err-left-clause-machine : goal.expr::sum-returns-in_err-left-clause-machine
-expr::sum-returns-in_err-left-clause-machine _ c = λ k h. let m = c.in_err-left.ensures.machine (Sums 0 ∷ k) (omega arith) in search rules
+expr::sum-returns-in_err-left-clause-machine _ c = λ k h. stops _ _ _ _ _ c.from_residual.ensures.1 refl (c.in_err-left.ensures.machine (Sums 0 ∷ k) (omega arith))
 
 pub expr::sum-loop-op-init : goal.expr::sum-loop-op-init
 expr::sum-loop-op-init _ c = record {
-  machine = λ k h. let m = c.in_ok-left.ensures.machine (Sums 0 ∷ k) (omega arith) in grind (arith, common_steps);
+  machine = λ k h. c.in_ok-left.ensures.machine (Sums 0 ∷ k) (omega arith) ∙ ap (λ n. outcome (Sums n ∷ k) _) (none_gone c.args.room);
   reads = one_prod c.in_ok-left.ensures.reads;
   arena = c.in_ok-left.ensures.arena;
   room = omega arith;
@@ -126,7 +128,7 @@ expr::sum-returns-in_err-right-clause-machine _ c = λ k h.
     let m = c.in_err-right.ensures.machine (Sums (n + 1) ∷ k) (omega arith) in
     let o = c.in-Some.ensures.machine k n in
     let i = c.loop-op.invariant.machine k h in
-    search rules
+    stops _ _ _ _ _ c.from_residual-in_err-right.ensures.1 (i ∙ o ∙ taken (AUnary ∷ Prods 0 ∷ Sums (n + 1) ∷ k) _ _ (omega arith)) m
 
 pub expr::sum-loop-op-preserved : goal.expr::sum-loop-op-preserved
 expr::sum-loop-op-preserved _ c =
@@ -145,11 +147,11 @@ expr::sum-loop-op-preserved _ c =
 
 -- prod
 pub expr::prod-returns-in_err-left-clause-machine : goal.expr::prod-returns-in_err-left-clause-machine
-expr::prod-returns-in_err-left-clause-machine _ c = λ k h. let m = c.in_err-left.ensures.machine (Prods 0 ∷ k) (omega arith) in search rules
+expr::prod-returns-in_err-left-clause-machine _ c = λ k h. stops _ _ _ _ _ c.from_residual.ensures.1 refl (c.in_err-left.ensures.machine (Prods 0 ∷ k) (omega arith))
 
 pub expr::prod-loop-op-init : goal.expr::prod-loop-op-init
 expr::prod-loop-op-init _ c = record {
-  machine = λ k h. let m = c.in_ok-left.ensures.machine (Prods 0 ∷ k) (omega arith) in grind (arith, common_steps);
+  machine = λ k h. c.in_ok-left.ensures.machine (Prods 0 ∷ k) (omega arith) ∙ ap (λ n. outcome (Prods n ∷ k) _) (none_gone c.args.room);
   reads = one_unary c.in_ok-left.ensures.reads;
   arena = c.in_ok-left.ensures.arena;
   room = omega arith;
@@ -162,7 +164,7 @@ expr::prod-returns-in_err-right-clause-machine _ c = λ k h.
     let m = c.in_err-right.ensures.machine (Prods (n + 1) ∷ k) (omega arith) in
     let o = c.in-Some.ensures.machine k n in
     let i = c.loop-op.invariant.machine k h in
-    search rules
+    stops _ _ _ _ _ c.from_residual-in_err-right.ensures.1 (i ∙ o ∙ taken (AUnary ∷ Prods (n + 1) ∷ k) _ _ (omega arith)) m
 
 pub expr::prod-loop-op-preserved : goal.expr::prod-loop-op-preserved
 expr::prod-loop-op-preserved _ c =
@@ -214,8 +216,7 @@ unary::enclosed-returns-clause-reads _ c =
 -- the operand of a sign stands above its end
 pub unary::signed-returns-in_err-arg-clause-machine : goal.unary::signed-returns-in_err-arg-clause-machine
 unary::signed-returns-in_err-arg-clause-machine _ c = λ k h.
-    let m = c.in_err-arg.ensures.machine (Ends ∷ k) h in
-    search rules
+    stops _ _ _ _ _ c.from_residual.ensures.1 refl (c.in_err-arg.ensures.machine (Ends ∷ k) h)
 
 pub unary::signed-returns-clause-machine : goal.unary::signed-returns-clause-machine
 unary::signed-returns-clause-machine _ c = λ k h.
@@ -233,15 +234,14 @@ scalar::scalar-returns-in_default-clause-reads _ c =
 pub scalar::scalar-returns-in_err-inner_tokens-clause-machine : goal.scalar::scalar-returns-in_err-inner_tokens-clause-machine
 scalar::scalar-returns-in_err-inner_tokens-clause-machine _ c = λ k h.
     let w = rw c.in-Some.is at (c.in_ok-wide.ensures.machine k (omega arith)) in
-    let m = c.in_err-inner_tokens.ensures.machine k in
-    search rules
+    stops _ _ _ _ _ c.from_residual-in_err-inner_tokens.ensures.1 w (c.in_err-inner_tokens.ensures.machine k)
 
 pub scalar::scalar-returns-in_err-id-clause-machine : goal.scalar::scalar-returns-in_err-id-clause-machine
 scalar::scalar-returns-in_err-id-clause-machine _ c = λ k h.
     let w = rw c.in-Some.is at (c.in_ok-wide.ensures.machine k (omega arith)) in
     let m = c.in_ok-inner_tokens.ensures.machine k in
     let e = c.in_err-id.ensures.machine (Closing t.RightBracket ∷ k) (omega arith) in
-    search rules
+    stops _ _ _ _ _ c.from_residual-in_err-id.ensures.1 (w ∙ m ∙ taken (an_expr (Closing t.RightBracket ∷ k)) _ _ (omega arith)) e
 
 pub scalar::scalar-returns-clause-reads : goal.scalar::scalar-returns-clause-reads
 scalar::scalar-returns-clause-reads _ c =
@@ -252,15 +252,13 @@ scalar::scalar-returns-clause-reads _ c =
 pub list::exprs-returns-in_err-id-clause-machine : goal.list::exprs-returns-in_err-id-clause-machine
 list::exprs-returns-in_err-id-clause-machine _ c = λ k h.
     let i = c.loop-id.invariant.machine k h in
-    let m = c.in_err-id.ensures.machine (MoreExprs ∷ k) (omega arith) in
-    search rules
+    stops _ _ _ _ _ c.from_residual.ensures.1 i (c.in_err-id.ensures.machine (MoreExprs ∷ k) (omega arith))
 
 pub list::exprs-returns-in-None-clause-machine : goal.list::exprs-returns-in-None-clause-machine
 list::exprs-returns-in-None-clause-machine _ c = λ k h.
     let i = c.loop-id.invariant.machine k h in
     let m = c.in_ok-id.ensures.machine (MoreExprs ∷ k) (omega arith) in
-    let o = c.in-None.ensures.more k in
-    grind (arith, common_steps)
+    i ∙ m ∙ c.in-None.ensures.more k
 
 pub list::exprs-returns-in-None-clause-reads : goal.list::exprs-returns-in-None-clause-reads
 list::exprs-returns-in-None-clause-reads _ c = λ old ts s r.
@@ -277,8 +275,7 @@ list::exprs-loop-id-preserved _ c =
       machine = λ k h.
           let j = i.machine k h in
           let o = c.in-Some.ensures.more k (omega arith) in
-          let m = e.machine (MoreExprs ∷ k) (omega arith) in
-          grind (arith, common_steps);
+          j ∙ e.machine (MoreExprs ∷ k) (omega arith) ∙ o;
       reads = λ old ts s r. let j = i.reads old ts s r in (c.in-Some.ensures.token.0, rw (p, ← is) (list_read j.1 refl e.reads));
       arena = e.arena;
       nodes = omega (arith, i.nodes, e.reads.bounded.exprs, s);
@@ -288,106 +285,94 @@ list::exprs-loop-id-preserved _ c =
 
 -- closed_group
 pub list::closed_group-returns-in_err-first-clause-machine : goal.list::closed_group-returns-in_err-first-clause-machine
-list::closed_group-returns-in_err-first-clause-machine _ c = λ k h. let f = c.in_err-first.ensures.machine (MoreExprs ∷ Closing c.args.closing ∷ k) (omega arith) in search rules
+list::closed_group-returns-in_err-first-clause-machine _ c = λ k h.
+    stops _ _ _ _ _ c.from_residual.ensures.1 refl (c.in_err-first.ensures.machine (MoreExprs ∷ Closing c.args.closing ∷ k) (omega arith))
 
 pub list::closed_group-returns-in_err-first-clause-bracket : goal.list::closed_group-returns-in_err-first-clause-bracket
-list::closed_group-returns-in_err-first-clause-bracket _ c = λ e k h. let f = c.in_err-first.ensures.machine (InBracket ∷ k) h in search rules
+list::closed_group-returns-in_err-first-clause-bracket _ c = λ e k h. stops _ _ _ _ _ c.from_residual.ensures.1 refl (c.in_err-first.ensures.machine (InBracket ∷ k) h)
 
 pub list::closed_group-returns-in_err-first-clause-start : goal.list::closed_group-returns-in_err-first-clause-start
-list::closed_group-returns-in_err-first-clause-start _ c = λ e k h. let f = c.in_err-first.ensures.machine (StartBracket ∷ k) h in search rules
+list::closed_group-returns-in_err-first-clause-start _ c = λ e k h. stops _ _ _ _ _ c.from_residual.ensures.1 refl (c.in_err-first.ensures.machine (StartBracket ∷ k) h)
 
 pub list::closed_group-returns-in_err-rest-clause-bracket : goal.list::closed_group-returns-in_err-rest-clause-bracket
 list::closed_group-returns-in_err-rest-clause-bracket _ c = λ e k h.
     let f = c.in_ok-first.ensures.machine (InBracket ∷ k) h in
-    let b = c.in_default.ensures.bracket k in
     let m = rw e at (c.in_err-rest.ensures.closing (InIndex ∷ k) (omega arith)) in
-    search rules
+    stops _ _ _ _ _ c.from_residual-in_err-rest.ensures.1 (f ∙ c.in_default.ensures.bracket k) m
 
 pub list::closed_group-returns-in_err-rest-clause-start : goal.list::closed_group-returns-in_err-rest-clause-start
 list::closed_group-returns-in_err-rest-clause-start _ c = λ e k h.
     let f = c.in_ok-first.ensures.machine (StartBracket ∷ k) h in
-    let b = c.in_default.ensures.start k in
     let m = rw e at (c.in_err-rest.ensures.closing (StartIndex ∷ k) (omega arith)) in
-    search rules
+    stops _ _ _ _ _ c.from_residual-in_err-rest.ensures.1 (f ∙ c.in_default.ensures.start k) m
 
-pub list::closed_group-returns-in_err-rest-2-clause-machine : goal.list::closed_group-returns-in_err-rest-2-clause-machine
-list::closed_group-returns-in_err-rest-2-clause-machine _ c = λ k h.
+pub list::closed_group-returns-in_err-ids-clause-machine : goal.list::closed_group-returns-in_err-ids-clause-machine
+list::closed_group-returns-in_err-ids-clause-machine _ c = λ k h.
     let f = c.in_ok-first.ensures.machine (MoreExprs ∷ Closing c.args.closing ∷ k) (omega arith) in
     let b = c.in-Some.ensures.more (Closing c.args.closing ∷ k) (omega arith) in
-    let m = c.in_err-rest-2.ensures.machine (Closing c.args.closing ∷ k) (omega arith) in
-    search rules
-
-pub list::closed_group-returns-in_err-rest-3-clause-machine : goal.list::closed_group-returns-in_err-rest-3-clause-machine
-list::closed_group-returns-in_err-rest-3-clause-machine _ c = λ k h.
-    let f = c.in_ok-first.ensures.machine (MoreExprs ∷ Closing c.args.closing ∷ k) (omega arith) in
-    let b = c.in-Some.ensures.more (Closing c.args.closing ∷ k) (omega arith) in
-    let m = c.in_ok-rest-2.ensures.machine (Closing c.args.closing ∷ k) (omega arith) in
-    let n = c.in_err-rest-3.ensures.closing (k) (omega arith) in
-    search rules
+    stops _ _ _ _ _ c.from_residual-in_err-ids.ensures.1 (f ∙ b) (c.in_err-ids.ensures.machine k h)
 
 pub list::closed_group-returns-clause-machine : goal.list::closed_group-returns-clause-machine
 list::closed_group-returns-clause-machine _ c = λ k h.
     let f = c.in_ok-first.ensures.machine (MoreExprs ∷ Closing c.args.closing ∷ k) (omega arith) in
     let b = c.in-Some.ensures.more (Closing c.args.closing ∷ k) (omega arith) in
-    let m = c.in_ok-rest-2.ensures.machine (Closing c.args.closing ∷ k) (omega arith) in
-    let n = c.in_ok-rest-3.ensures.closing (k) (omega arith) in
-    f ∙ b ∙ m ∙ n
+    f ∙ b ∙ c.in_ok-ids.ensures.machine k h
 
-pub list::closed_group-returns-in_err-rest-2-clause-bracket : goal.list::closed_group-returns-in_err-rest-2-clause-bracket
-list::closed_group-returns-in_err-rest-2-clause-bracket _ c = λ e k h.
+pub list::closed_group-returns-in_err-ids-clause-bracket : goal.list::closed_group-returns-in_err-ids-clause-bracket
+list::closed_group-returns-in_err-ids-clause-bracket _ c = λ e k h.
     let f = c.in_ok-first.ensures.machine (InBracket ∷ k) h in
     let b = c.in-Some.ensures.bracket k (omega arith) in
-    let m = c.in_err-rest-2.ensures.machine (Closing t.RightBracket ∷ CallPart ∷ k) (omega arith) in
-    search rules
-
-pub list::closed_group-returns-in_err-rest-3-clause-bracket : goal.list::closed_group-returns-in_err-rest-3-clause-bracket
-list::closed_group-returns-in_err-rest-3-clause-bracket _ c = λ e k h.
-    let f = c.in_ok-first.ensures.machine (InBracket ∷ k) h in
-    let b = c.in-Some.ensures.bracket k (omega arith) in
-    let m = c.in_ok-rest-2.ensures.machine (Closing t.RightBracket ∷ CallPart ∷ k) (omega arith) in
-    let n = rw e at (c.in_err-rest-3.ensures.closing (CallPart ∷ k) (omega arith)) in
-    search rules
+    let m = rw e at (c.in_err-ids.ensures.machine (CallPart ∷ k) (omega arith)) in
+    stops _ _ _ _ _ c.from_residual-in_err-ids.ensures.1 (f ∙ b) m
 
 pub list::closed_group-returns-clause-bracket : goal.list::closed_group-returns-clause-bracket
 list::closed_group-returns-clause-bracket _ c = λ e k h.
     let f = c.in_ok-first.ensures.machine (InBracket ∷ k) h in
     let b = c.in-Some.ensures.bracket k (omega arith) in
-    let m = c.in_ok-rest-2.ensures.machine (Closing t.RightBracket ∷ CallPart ∷ k) (omega arith) in
-    let n = rw e at (c.in_ok-rest-3.ensures.closing (CallPart ∷ k) (omega arith)) in
-    f ∙ b ∙ m ∙ n
+    let m = rw e at (c.in_ok-ids.ensures.machine (CallPart ∷ k) (omega arith)) in
+    f ∙ b ∙ m
 
-pub list::closed_group-returns-in_err-rest-2-clause-start : goal.list::closed_group-returns-in_err-rest-2-clause-start
-list::closed_group-returns-in_err-rest-2-clause-start _ c = λ e k h.
+pub list::closed_group-returns-in_err-ids-clause-start : goal.list::closed_group-returns-in_err-ids-clause-start
+list::closed_group-returns-in_err-ids-clause-start _ c = λ e k h.
     let f = c.in_ok-first.ensures.machine (StartBracket ∷ k) h in
     let b = c.in-Some.ensures.start k (omega arith) in
-    let m = c.in_err-rest-2.ensures.machine (Closing t.RightBracket ∷ CallPart ∷ Expect t.Semicolon ∷ k) (omega arith) in
-    search rules
-
-pub list::closed_group-returns-in_err-rest-3-clause-start : goal.list::closed_group-returns-in_err-rest-3-clause-start
-list::closed_group-returns-in_err-rest-3-clause-start _ c = λ e k h.
-    let f = c.in_ok-first.ensures.machine (StartBracket ∷ k) h in
-    let b = c.in-Some.ensures.start k (omega arith) in
-    let m = c.in_ok-rest-2.ensures.machine (Closing t.RightBracket ∷ CallPart ∷ Expect t.Semicolon ∷ k) (omega arith) in
-    let n = rw e at (c.in_err-rest-3.ensures.closing (CallPart ∷ Expect t.Semicolon ∷ k) (omega arith)) in
-    search rules
+    let m = rw e at (c.in_err-ids.ensures.machine (CallPart ∷ Expect t.Semicolon ∷ k) (omega arith)) in
+    stops _ _ _ _ _ c.from_residual-in_err-ids.ensures.1 (f ∙ b) m
 
 pub list::closed_group-returns-clause-start : goal.list::closed_group-returns-clause-start
 list::closed_group-returns-clause-start _ c = λ e k h.
     let f = c.in_ok-first.ensures.machine (StartBracket ∷ k) h in
     let b = c.in-Some.ensures.start k (omega arith) in
-    let m = c.in_ok-rest-2.ensures.machine (Closing t.RightBracket ∷ CallPart ∷ Expect t.Semicolon ∷ k) (omega arith) in
-    let n = rw e at (c.in_ok-rest-3.ensures.closing (CallPart ∷ Expect t.Semicolon ∷ k) (omega arith)) in
-    f ∙ b ∙ m ∙ n
+    let m = rw e at (c.in_ok-ids.ensures.machine (CallPart ∷ Expect t.Semicolon ∷ k) (omega arith)) in
+    f ∙ b ∙ m
 
 pub list::closed_group-returns-clause-reads : goal.list::closed_group-returns-clause-reads
 list::closed_group-returns-clause-reads _ c =
-    let one : c.push.new.self ≡ c.in_ok-first.first ∷ [] = c.in_ok-push.ensures.ok ∙ ap (λ xs. xs ++ c.in_ok-first.first ∷ []) c.new-ids.ensures in
     let s = c.in-Some.ensures.token in
-    let more = c.in_ok-rest-2.ensures in
-    let r = c.in_ok-rest-3.ensures.token in
-    let l = more.longer in
-    let n = ap length one in
-    (c.in_ok-rest-3.field-0-0, (rw (← r) (more.reads c.args.tree.now c.args.tokens.now s.0 (rw (one, ← s.1) (last_read c.in_ok-first.ensures.reads))), omega (arith, l, n)))
+    let r = c.in_ok-ids.ensures.reads c.args.tree.now c.args.tokens.now s.0 (rw (← s.1) c.in_ok-first.ensures.reads) in
+    (r.0, r.1, c.in_ok-ids.ensures.several)
+
+-- group_rest
+pub list::group_rest-returns-in_err-rest-clause-machine : goal.list::group_rest-returns-in_err-rest-clause-machine
+list::group_rest-returns-in_err-rest-clause-machine _ c = λ k h.
+    stops _ _ _ _ _ c.from_residual-in_err-rest.ensures.1 refl (c.in_err-rest.ensures.machine (Closing c.args.closing ∷ k) h)
+
+pub list::group_rest-returns-in_err-rest-2-clause-machine : goal.list::group_rest-returns-in_err-rest-2-clause-machine
+list::group_rest-returns-in_err-rest-2-clause-machine _ c = λ k h.
+    stops _ _ _ _ _ c.from_residual-in_err-rest-2.ensures.1 (c.in_ok-rest.ensures.machine (Closing c.args.closing ∷ k) h) (c.in_err-rest-2.ensures.closing k (omega arith))
+
+pub list::group_rest-returns-clause-machine : goal.list::group_rest-returns-clause-machine
+list::group_rest-returns-clause-machine _ c = λ k h. c.in_ok-rest.ensures.machine (Closing c.args.closing ∷ k) h ∙ c.in_ok-rest-2.ensures.closing k (omega arith)
+
+pub list::group_rest-returns-clause-reads : goal.list::group_rest-returns-clause-reads
+list::group_rest-returns-clause-reads _ c = λ old ts s q.
+    let one : c.push.new.self ≡ c.args.first ∷ [] = c.in_ok-push.ensures.ok ∙ ap (λ xs. xs ++ c.args.first ∷ []) c.new-ids.ensures in
+    (c.in_ok-rest-2.field-0-0, rw (← c.in_ok-rest-2.ensures.token) (c.in_ok-rest.ensures.reads old ts s (rw one (last_read q))))
+
+pub list::group_rest-returns-clause-several : goal.list::group_rest-returns-clause-several
+list::group_rest-returns-clause-several _ c =
+    let one : c.push.new.self ≡ c.args.first ∷ [] = c.in_ok-push.ensures.ok ∙ ap (λ xs. xs ++ c.args.first ∷ []) c.new-ids.ensures in
+    omega (arith, c.in_ok-rest.ensures.longer, ap length one)
 
 -- arguments
 pub list::arguments-returns-in-Some-clause-reads : goal.list::arguments-returns-in-Some-clause-reads
@@ -406,27 +391,27 @@ pub target::indexed-returns-in_err-second-in-Bracket-clause-machine : goal.targe
 target::indexed-returns-in_err-second-in-Bracket-clause-machine _ c = λ k h.
     let o = c.in-Bracket.ensures.index k (omega arith) in
     let m = c.in_err-second-in-Bracket.ensures.machine (Closing t.RightBracket ∷ k) (omega arith) in
-    search rules
+    stops _ _ _ _ _ c.from_residual.ensures.1 o m
 
 pub target::indexed-returns-in_err-second-in-Bracket-clause-start : goal.target::indexed-returns-in_err-second-in-Bracket-clause-start
 target::indexed-returns-in_err-second-in-Bracket-clause-start _ c = λ k h.
     let o = c.in-Bracket.ensures.start_index k (omega arith) in
     let m = c.in_err-second-in-Bracket.ensures.machine (Closing t.RightBracket ∷ Assigns ∷ k) (omega arith) in
-    search rules
+    stops _ _ _ _ _ c.from_residual.ensures.1 o m
 
 pub target::indexed-returns-in_err-rest-in-Bracket-clause-machine : goal.target::indexed-returns-in_err-rest-in-Bracket-clause-machine
 target::indexed-returns-in_err-rest-in-Bracket-clause-machine _ c = λ k h.
     let o = c.in-Bracket.ensures.index k (omega arith) in
     let m = c.in_ok-second-in-Bracket.ensures.machine (Closing t.RightBracket ∷ k) (omega arith) in
     let n = c.in_err-rest-in-Bracket.ensures.closing k (omega arith) in
-    search rules
+    stops _ _ _ _ _ c.from_residual-in_err-rest-in-Bracket.ensures.1 (o ∙ m) n
 
 pub target::indexed-returns-in_err-rest-in-Bracket-clause-start : goal.target::indexed-returns-in_err-rest-in-Bracket-clause-start
 target::indexed-returns-in_err-rest-in-Bracket-clause-start _ c = λ k h.
     let o = c.in-Bracket.ensures.start_index k (omega arith) in
     let m = c.in_ok-second-in-Bracket.ensures.machine (Closing t.RightBracket ∷ Assigns ∷ k) (omega arith) in
     let n = c.in_err-rest-in-Bracket.ensures.closing (Assigns ∷ k) (omega arith) in
-    search rules
+    stops _ _ _ _ _ c.from_residual-in_err-rest-in-Bracket.ensures.1 (o ∙ m) n
 
 pub target::indexed-returns-in_ok-rest-in-Bracket-clause-machine : goal.target::indexed-returns-in_ok-rest-in-Bracket-clause-machine
 target::indexed-returns-in_ok-rest-in-Bracket-clause-machine _ c = λ k h.
@@ -455,7 +440,7 @@ pub target::indexed-returns-in_err-args-in-Paren-clause-start : goal.target::ind
 target::indexed-returns-in_err-args-in-Paren-clause-start _ c = λ k h.
     let o = c.in-Paren.ensures.start_index k (omega arith) in
     let m = c.in_err-args-in-Paren.ensures.machine (Expect t.Semicolon ∷ k) (omega arith) in
-    search rules
+    stops _ _ _ _ _ c.from_residual-in_err-args-in-Paren.ensures.1 o m
 
 pub target::indexed-returns-in_ok-id-in-Paren-clause-start : goal.target::indexed-returns-in_ok-id-in-Paren-clause-start
 target::indexed-returns-in_ok-id-in-Paren-clause-start _ c = λ k h.
@@ -491,14 +476,14 @@ pub target::bracketed-returns-in_err-rest-in-Several-clause-start : goal.target:
 target::bracketed-returns-in_err-rest-in-Several-clause-start _ c = λ k h.
     let g = rw c.in-Several.is at (c.in_ok-group.ensures.start refl k (omega arith)) in
     let m = c.in_err-rest-in-Several.ensures.machine (Expect t.Semicolon ∷ k) (omega arith) in
-    search rules
+    stops _ _ _ _ _ c.from_residual-in_err-rest-in-Several.ensures.1 g m
 
 pub target::bracketed-returns-in_err-args-in-Several-clause-start : goal.target::bracketed-returns-in_err-args-in-Several-clause-start
 target::bracketed-returns-in_err-args-in-Several-clause-start _ c = λ k h.
     let g = rw c.in-Several.is at (c.in_ok-group.ensures.start refl k (omega arith)) in
     let m = c.in_ok-rest-in-Several.ensures.machine (Expect t.Semicolon ∷ k) (omega arith) in
     let n = c.in_err-args-in-Several.ensures.machine (Expect t.Semicolon ∷ k) (omega arith) in
-    search rules
+    stops _ _ _ _ _ c.from_residual-in_err-args-in-Several.ensures.1 (g ∙ m) n
 
 pub target::bracketed-returns-in_ok-id-in-Several-clause-machine : goal.target::bracketed-returns-in_ok-id-in-Several-clause-machine
 target::bracketed-returns-in_ok-id-in-Several-clause-machine _ c = λ k h.
@@ -534,13 +519,13 @@ pub target::behind_name-returns-in_err-args-in-Paren-clause-start : goal.target:
 target::behind_name-returns-in_err-args-in-Paren-clause-start _ c = λ k h.
     let o = c.in-Paren.ensures.start k in
     let m = c.in_err-args-in-Paren.ensures.machine (Expect t.Semicolon ∷ k) (omega arith) in
-    search rules
+    stops _ _ _ _ _ c.from_residual-in_err-args-in-Paren.ensures.1 (o ∙ taken (Arguments ∷ Closing t.RightParen ∷ Expect t.Semicolon ∷ k) _ _ (omega arith)) m
 
 pub target::behind_name-returns-in_ok-id-in-Paren-clause-start : goal.target::behind_name-returns-in_ok-id-in-Paren-clause-start
 target::behind_name-returns-in_ok-id-in-Paren-clause-start _ c = λ k h.
     let o = c.in-Paren.ensures.start k in
     let m = c.in_ok-args-in-Paren.ensures.machine (Expect t.Semicolon ∷ k) (omega arith) in
-    grind (arith, common_steps)
+    o ∙ taken (Arguments ∷ Closing t.RightParen ∷ Expect t.Semicolon ∷ k) _ _ (omega arith) ∙ m
 
 pub target::behind_name-add_call-requires-clause-free : goal.target::behind_name-add_call-requires-clause-free
 target::behind_name-add_call-requires-clause-free _ c =

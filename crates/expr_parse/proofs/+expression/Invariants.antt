@@ -53,6 +53,9 @@ decreases-list::exprs l = 16 * length l.tokens.now + 6
 abbrev pub decreases-list::closed_group : goal.decreases-list::closed_group
 decreases-list::closed_group l = 16 * length l.tokens.now + 7
 
+abbrev pub decreases-list::group_rest : goal.decreases-list::group_rest
+decreases-list::group_rest l = 16 * length l.tokens.now + 7
+
 abbrev pub decreases-list::arguments : goal.decreases-list::arguments
 decreases-list::arguments l = 16 * length l.tokens.now + 8
 

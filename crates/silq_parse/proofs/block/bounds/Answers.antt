@@ -6,7 +6,7 @@ use Rattle.silq_grammar.specs.Outcome.{outcome}
 use Rattle.silq_grammar.specs.Machine.{Symbol, Expect, AnyName, Closing, Ends, Functions, StaticPart, MoreStatics, ParamPart, Params, OneParam, MoreParams, MarkPart, ResultPart, MoreResults, AType, AScalar, Width, SizePart, ASize, ABlock, Statements, MoreNames, ForgetPart, PhasePart, ForgetValue, Bounds, ReturnValue, ElseRest, ElseBody, StartName, StartBracket, StartIndex, Assigns, MoreExprs, CallPart, Arguments, value, an_expr, exprs, nest}
 use Rattle.silq_grammar.specs.declared.token.Terminal.TheVariants as t
 use Rattle.silq_grammar.specs.declared.token.Token.TheVariants.{Name, Number, Fixed}
-use Rattle.silq_parse.proofs.Exits.{stops, stops_behind, behind}
+use Rattle.expr_parse.proofs.Exits.{stops, stops_behind, behind}
 use Rattle.silq_parse.proofs.BlockReads.{no_statement, no_items, next_statement, one_statement, closed_block, part_of, stmt_of, no_else, else_block, else_choice, chosen, choice_free, choice_reads, between_reads, loop_reads}
 use Rattle.silq_parse.proofs.Opened.{bounds_open, block_open, else_block_open, else_choice_open, name_begins, spread_begins, forget_begins, phase_begins, choice_begins, loop_begins, return_begins}
 use Rattle.silq_parse.proofs.AddedStatements.{free_stmts}

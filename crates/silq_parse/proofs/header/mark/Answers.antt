@@ -6,7 +6,7 @@ use Rattle.silq_grammar.specs.Outcome.{outcome}
 use Rattle.silq_grammar.specs.Machine.{Symbol, Expect, AnyName, Closing, Ends, Functions, StaticPart, MoreStatics, ParamPart, Params, OneParam, MoreParams, MarkPart, ResultPart, MoreResults, AType, AScalar, Width, SizePart, ASize, ABlock, Statements, MoreNames, ForgetPart, PhasePart, ForgetValue, Bounds, ReturnValue, ElseRest, ElseBody, StartName, StartBracket, StartIndex, Assigns, MoreExprs, CallPart, Arguments, value, an_expr, exprs, nest}
 use Rattle.silq_grammar.specs.declared.token.Terminal.TheVariants as t
 use Rattle.silq_grammar.specs.declared.token.Token.TheVariants.{Name, Number, Fixed}
-use Rattle.silq_parse.proofs.Exits.{stops, stops_behind, behind}
+use Rattle.expr_parse.proofs.Exits.{stops, stops_behind, behind}
 use Rattle.silq_grammar.specs.Grammar.{no_mark, lifted, qfree, mfree}
 use Rattle.silq_parse.proofs.HeaderReads.{one_static, first_static, next_static, static_part, no_statics, typed_reads, moved_reads, held_reads, first_params, next_params, param_part, no_params, result_part, no_result}
 use Rattle.silq_parse.proofs.BlockReads.{part_of}

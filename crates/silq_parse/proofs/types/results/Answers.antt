@@ -6,7 +6,7 @@ use Rattle.silq_grammar.specs.Outcome.{outcome}
 use Rattle.silq_grammar.specs.Machine.{Symbol, Expect, AnyName, Closing, Ends, Functions, StaticPart, MoreStatics, ParamPart, Params, OneParam, MoreParams, MarkPart, ResultPart, MoreResults, AType, AScalar, Width, SizePart, ASize, ABlock, Statements, MoreNames, ForgetPart, PhasePart, ForgetValue, Bounds, ReturnValue, ElseRest, ElseBody, StartName, StartBracket, StartIndex, Assigns, MoreExprs, CallPart, Arguments, value, an_expr, exprs, nest}
 use Rattle.silq_grammar.specs.declared.token.Terminal.TheVariants as t
 use Rattle.silq_grammar.specs.declared.token.Token.TheVariants.{Name, Number, Fixed}
-use Rattle.silq_parse.proofs.Exits.{stops, stops_behind, behind}
+use Rattle.expr_parse.proofs.Exits.{stops, stops_behind, behind}
 use Rattle.std.proofs.Common.{to_z-of_z, SFits, w64}
 use Rattle.silq_parse.proofs.TypeReads.{number_size, named_size, paren_size, no_size, sized_reads, quantum_reads, classical_reads, first_types, next_types}
 use Rattle.silq_parse.proofs.BlockReads.{part_of}
