@@ -6,18 +6,23 @@ use Rattle.expr_parse.proofs.Reading.{one_and, read_or, one_cmp, read_and, one_s
 use Rattle.expr_parse.proofs.Passed.{ends_passed, taken, none_gone}
 use Rattle.expr_parse.proofs.Exits.{stops}
 use Rattle.expr_parse.proofs.Atoms.{read_number, read_typed, read_truth, read_pi, read_sign, read_paren, read_bit, read_wide, list_read, last_read, group_read}
-use Rattle.expr_parse.proofs.Named.{read_target, group_free, no_args_read, args_read, read_part, read_part_of_part, read_static_call, read_whole, read_plain}
+use Rattle.expr_parse.proofs.Named.{read_target, target_free, group_free, no_args_read, args_read, read_part, read_part_of_part, read_static_call, read_whole, read_plain}
 use Rattle.expr_parse.proofs.Growing.{free_then, free}
 use Rattle.silq_grammar.specs.declared.token.Terminal.TheVariants as t
 use Rattle.expr_parse.proofs.+expression.Goals as goal
 
 -- expr
+pub expr::expr-add_binary-requires-clause-free : goal.expr::expr-add_binary-requires-clause-free
+expr::expr-add_binary-requires-clause-free _ c =
+    let i = c.loop-op.invariant in
+    free_then c.in_ok-right.ensures.arena (free i.arena i.reads.grew) c.in_ok-right.ensures.reads.grew
+
 pub expr::expr-returns-in_err-left-clause-machine : goal.expr::expr-returns-in_err-left-clause-machine
 expr::expr-returns-in_err-left-clause-machine _ c = λ k h. stops _ _ _ _ _ c.from_residual.ensures.1 refl (c.in_err-left.ensures.machine (Ors 0 ∷ k) (omega arith))
 
 pub expr::expr-loop-op-init : goal.expr::expr-loop-op-init
 expr::expr-loop-op-init _ c = record {
-  machine = λ k h. c.in_ok-left.ensures.machine (Ors 0 ∷ k) (omega arith) ∙ ap (λ n. outcome (Ors n ∷ k) _) (none_gone c.args.room);
+  machine = λ k h. c.in_ok-left.ensures.machine (Ors 0 ∷ k) (omega arith) ∙ ap (λ n. outcome (Ors n ∷ k) c.in_ok-left.rest.now) (none_gone c.args.room);
   reads = one_and c.in_ok-left.ensures.reads;
   arena = c.in_ok-left.ensures.arena;
   room = omega arith;
@@ -48,12 +53,17 @@ expr::expr-loop-op-preserved _ c =
     }
 
 -- and
+pub expr::and-add_binary-requires-clause-free : goal.expr::and-add_binary-requires-clause-free
+expr::and-add_binary-requires-clause-free _ c =
+    let i = c.loop-op.invariant in
+    free_then c.in_ok-right.ensures.arena (free i.arena i.reads.grew) c.in_ok-right.ensures.reads.grew
+
 pub expr::and-returns-in_err-left-clause-machine : goal.expr::and-returns-in_err-left-clause-machine
 expr::and-returns-in_err-left-clause-machine _ c = λ k h. stops _ _ _ _ _ c.from_residual.ensures.1 refl (c.in_err-left.ensures.machine (Ands 0 ∷ k) (omega arith))
 
 pub expr::and-loop-op-init : goal.expr::and-loop-op-init
 expr::and-loop-op-init _ c = record {
-  machine = λ k h. c.in_ok-left.ensures.machine (Ands 0 ∷ k) (omega arith) ∙ ap (λ n. outcome (Ands n ∷ k) _) (none_gone c.args.room);
+  machine = λ k h. c.in_ok-left.ensures.machine (Ands 0 ∷ k) (omega arith) ∙ ap (λ n. outcome (Ands n ∷ k) c.in_ok-left.rest.now) (none_gone c.args.room);
   reads = one_cmp c.in_ok-left.ensures.reads;
   arena = c.in_ok-left.ensures.arena;
   room = omega arith;
@@ -84,6 +94,10 @@ expr::and-loop-op-preserved _ c =
     }
 
 -- comparison
+pub expr::comparison-add_binary-requires-clause-free : goal.expr::comparison-add_binary-requires-clause-free
+expr::comparison-add_binary-requires-clause-free _ c =
+    free_then c.in_ok-right.ensures.arena (free c.in_ok-left.ensures.arena c.in_ok-left.ensures.reads.grew) c.in_ok-right.ensures.reads.grew
+
 pub expr::comparison-returns-in_err-left-clause-machine : goal.expr::comparison-returns-in_err-left-clause-machine
 expr::comparison-returns-in_err-left-clause-machine _ c = λ k h. stops _ _ _ _ _ c.from_residual.ensures.1 refl (c.in_err-left.ensures.machine (Compare ∷ k) (omega arith))
 
@@ -95,7 +109,7 @@ expr::comparison-returns-in_err-right-clause-machine _ c = λ k h.
     let l = c.in_ok-left.ensures.machine (Compare ∷ k) (omega arith) in
     let m = c.in_err-right.ensures.machine (Ends ∷ k) (omega arith) in
     let o = c.in-Some.ensures.machine k in
-    stops _ _ _ _ _ c.from_residual-in_err-right.ensures.1 (l ∙ o ∙ taken (AUnary ∷ Prods 0 ∷ Sums 0 ∷ Ends ∷ k) _ _ (omega arith)) m
+    search rules
 
 pub expr::comparison-returns-clause-machine : goal.expr::comparison-returns-clause-machine
 expr::comparison-returns-clause-machine _ c = λ k h.
@@ -103,19 +117,24 @@ expr::comparison-returns-clause-machine _ c = λ k h.
     let m = c.in_ok-right.ensures.machine (Ends ∷ k) (omega arith) in
     let o = c.in-Some.ensures.machine k in
     let e = ends_passed k c.in_ok-right.after.now in
-    l ∙ o ∙ taken (AUnary ∷ Prods 0 ∷ Sums 0 ∷ Ends ∷ k) _ _ (omega arith) ∙ m ∙ e
+    grind (arith, common_steps)
 
 pub expr::comparison-returns-clause-reads : goal.expr::comparison-returns-clause-reads
 expr::comparison-returns-clause-reads _ c =
     read_comparison c.in-Some.ensures.level c.in_ok-left.ensures.reads c.in-Some.ensures.token.1 c.in_ok-right.ensures.reads (rw c.first_spot.ensures at c.in_ok-id.ensures.added)
 
 -- sum
+pub expr::sum-add_binary-requires-clause-free : goal.expr::sum-add_binary-requires-clause-free
+expr::sum-add_binary-requires-clause-free _ c =
+    let i = c.loop-op.invariant in
+    free_then c.in_ok-right.ensures.arena (free i.arena i.reads.grew) c.in_ok-right.ensures.reads.grew
+
 pub expr::sum-returns-in_err-left-clause-machine : goal.expr::sum-returns-in_err-left-clause-machine
 expr::sum-returns-in_err-left-clause-machine _ c = λ k h. stops _ _ _ _ _ c.from_residual.ensures.1 refl (c.in_err-left.ensures.machine (Sums 0 ∷ k) (omega arith))
 
 pub expr::sum-loop-op-init : goal.expr::sum-loop-op-init
 expr::sum-loop-op-init _ c = record {
-  machine = λ k h. c.in_ok-left.ensures.machine (Sums 0 ∷ k) (omega arith) ∙ ap (λ n. outcome (Sums n ∷ k) _) (none_gone c.args.room);
+  machine = λ k h. c.in_ok-left.ensures.machine (Sums 0 ∷ k) (omega arith) ∙ ap (λ n. outcome (Sums n ∷ k) c.in_ok-left.rest.now) (none_gone c.args.room);
   reads = one_prod c.in_ok-left.ensures.reads;
   arena = c.in_ok-left.ensures.arena;
   room = omega arith;
@@ -146,12 +165,17 @@ expr::sum-loop-op-preserved _ c =
     }
 
 -- prod
+pub expr::prod-add_binary-requires-clause-free : goal.expr::prod-add_binary-requires-clause-free
+expr::prod-add_binary-requires-clause-free _ c =
+    let i = c.loop-op.invariant in
+    free_then c.in_ok-right.ensures.arena (free i.arena i.reads.grew) c.in_ok-right.ensures.reads.grew
+
 pub expr::prod-returns-in_err-left-clause-machine : goal.expr::prod-returns-in_err-left-clause-machine
 expr::prod-returns-in_err-left-clause-machine _ c = λ k h. stops _ _ _ _ _ c.from_residual.ensures.1 refl (c.in_err-left.ensures.machine (Prods 0 ∷ k) (omega arith))
 
 pub expr::prod-loop-op-init : goal.expr::prod-loop-op-init
 expr::prod-loop-op-init _ c = record {
-  machine = λ k h. c.in_ok-left.ensures.machine (Prods 0 ∷ k) (omega arith) ∙ ap (λ n. outcome (Prods n ∷ k) _) (none_gone c.args.room);
+  machine = λ k h. c.in_ok-left.ensures.machine (Prods 0 ∷ k) (omega arith) ∙ ap (λ n. outcome (Prods n ∷ k) c.in_ok-left.rest.now) (none_gone c.args.room);
   reads = one_unary c.in_ok-left.ensures.reads;
   arena = c.in_ok-left.ensures.arena;
   room = omega arith;
@@ -194,12 +218,16 @@ unary::number-returns-in_default-clause-reads _ c =
     let f : SFits w64 c.args.value = search rules in
     read_number (simp to_z-of_z at c.in_ok-add_number.ensures.added)
 
-pub unary::number-returns-in_ok-add_number-2-clause-reads : goal.unary::number-returns-in_ok-add_number-2-clause-reads
-unary::number-returns-in_ok-add_number-2-clause-reads _ c =
+pub unary::number-returns-clause-reads : goal.unary::number-returns-clause-reads
+unary::number-returns-clause-reads _ c =
     let f : SFits w64 c.args.value = search rules in
     rw c.in-Some.ensures.token.1 (read_typed c.in_ok-ty.ensures.reads (simp to_z-of_z at c.in_ok-add_number-2.ensures.added))
 
 -- named
+pub unary::named-add_target-requires-clause-free : goal.unary::named-add_target-requires-clause-free
+unary::named-add_target-requires-clause-free _ c =
+    target_free c.args.tree.now c.behind_name.new.tree _ _ _ c.in_ok-target.target c.in_ok-target.ensures.arena c.in_ok-target.ensures.reads
+
 pub unary::named-returns-clause-reads : goal.unary::named-returns-clause-reads
 unary::named-returns-clause-reads _ c = read_target c.behind_name.new.tree c.in_ok-target.target c.in_ok-target.ensures.reads c.in_ok-add_target.ensures.made
 
@@ -241,7 +269,7 @@ scalar::scalar-returns-in_err-id-clause-machine _ c = λ k h.
     let w = rw c.in-Some.is at (c.in_ok-wide.ensures.machine k (omega arith)) in
     let m = c.in_ok-inner_tokens.ensures.machine k in
     let e = c.in_err-id.ensures.machine (Closing t.RightBracket ∷ k) (omega arith) in
-    stops _ _ _ _ _ c.from_residual-in_err-id.ensures.1 (w ∙ m ∙ taken (an_expr (Closing t.RightBracket ∷ k)) _ _ (omega arith)) e
+    search rules
 
 pub scalar::scalar-returns-clause-reads : goal.scalar::scalar-returns-clause-reads
 scalar::scalar-returns-clause-reads _ c =
@@ -350,7 +378,7 @@ pub list::closed_group-returns-clause-reads : goal.list::closed_group-returns-cl
 list::closed_group-returns-clause-reads _ c =
     let s = c.in-Some.ensures.token in
     let r = c.in_ok-ids.ensures.reads c.args.tree.now c.args.tokens.now s.0 (rw (← s.1) c.in_ok-first.ensures.reads) in
-    (r.0, r.1, c.in_ok-ids.ensures.several)
+    (r.0, (r.1, c.in_ok-ids.ensures.several))
 
 -- group_rest
 pub list::group_rest-returns-in_err-rest-clause-machine : goal.list::group_rest-returns-in_err-rest-clause-machine
@@ -519,13 +547,13 @@ pub target::behind_name-returns-in_err-args-in-Paren-clause-start : goal.target:
 target::behind_name-returns-in_err-args-in-Paren-clause-start _ c = λ k h.
     let o = c.in-Paren.ensures.start k in
     let m = c.in_err-args-in-Paren.ensures.machine (Expect t.Semicolon ∷ k) (omega arith) in
-    stops _ _ _ _ _ c.from_residual-in_err-args-in-Paren.ensures.1 (o ∙ taken (Arguments ∷ Closing t.RightParen ∷ Expect t.Semicolon ∷ k) _ _ (omega arith)) m
+    search rules
 
 pub target::behind_name-returns-in_ok-id-in-Paren-clause-start : goal.target::behind_name-returns-in_ok-id-in-Paren-clause-start
 target::behind_name-returns-in_ok-id-in-Paren-clause-start _ c = λ k h.
     let o = c.in-Paren.ensures.start k in
     let m = c.in_ok-args-in-Paren.ensures.machine (Expect t.Semicolon ∷ k) (omega arith) in
-    o ∙ taken (Arguments ∷ Closing t.RightParen ∷ Expect t.Semicolon ∷ k) _ _ (omega arith) ∙ m
+    grind (arith, common_steps)
 
 pub target::behind_name-add_call-requires-clause-free : goal.target::behind_name-add_call-requires-clause-free
 target::behind_name-add_call-requires-clause-free _ c =
