@@ -43,7 +43,6 @@ fn change_sign<'t>(tokens: &'t [Token]) -> Result<(Option<UpdateOp>, Spot, &'t [
 }
 
 /// An assignment or an update up to its semicolon.
-#[tactic(auto, unfolding(silq_grammar::specs::Outcome::outcome))]
 fn change<'t>(
     alloc: Global,
     tree: &mut Tree,
@@ -80,7 +79,6 @@ fn changed(target: PlaceNode, op: Option<UpdateOp>, value: ExprId, at: Spot) -> 
 }
 
 /// A statement that begins with a name, from behind it.
-#[tactic(auto, unfolding(silq_grammar::specs::Outcome::outcome))]
 pub(crate) fn named<'t>(
     alloc: Global,
     tree: &mut Tree,

@@ -27,7 +27,6 @@ use std::alloc::Global;
 
 /// Statements up to a token with which none begins.
 #[cycle(statement)]
-#[tactic(auto, unfolding(silq_grammar::specs::Outcome::outcome))]
 fn statements<'t>(
     alloc: Global,
     tree: &mut Tree,
@@ -103,13 +102,12 @@ fn statement<'t>(
             }
             _ => Ok(None),
         },
-        [] => Ok(None),
+        _ => Ok(None),
     }
 }
 
 /// Statements and the brace that closes them.
 #[cycle(statement)]
-#[tactic(auto, unfolding(silq_grammar::specs::Outcome::outcome))]
 fn inner<'t>(
     alloc: Global,
     tree: &mut Tree,
@@ -157,7 +155,6 @@ pub(crate) fn block<'t>(
 
 /// A choice, from behind its `if`.
 #[cycle(statement)]
-#[tactic(auto, unfolding(silq_grammar::specs::Outcome::outcome))]
 fn choice<'t>(
     alloc: Global,
     tree: &mut Tree,
@@ -286,7 +283,6 @@ fn bounds<'t>(
 
 /// A loop, from behind its `for`.
 #[cycle(statement)]
-#[tactic(auto, unfolding(silq_grammar::specs::Outcome::outcome))]
 fn loop_rest<'t>(
     alloc: Global,
     tree: &mut Tree,

@@ -35,7 +35,6 @@ fn add_function<'t>(tree: &mut Tree, f: Fun) -> Result<FunId, Stop<'t>>
 }
 
 /// A function, from behind its `def`.
-#[tactic(auto, unfolding(silq_grammar::specs::Outcome::outcome))]
 pub(crate) fn function<'t>(
     alloc: Global,
     tree: &mut Tree,

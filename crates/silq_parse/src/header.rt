@@ -23,7 +23,6 @@ use silq_tree::{Mark, NameId, NameIds, ParamNode, ParamNodes, Spot, Tree, TypeNo
 use std::alloc::Global;
 
 /// A static parameter.
-#[tactic(auto, unfolding(silq_grammar::specs::Outcome::outcome))]
 fn static_param<'t>(tokens: &'t [Token]) -> Result<(NameId, &'t [Token]), Stop<'t>>
     ensures machine { (k : List Symbol) → nest k ≤ 64 → MatchResult result (λ p. outcome (AnyName ∷ Expect t.Colon ∷ Expect t.Bang ∷ Expect t.Natural ∷ k) tokens.now ≡ outcome k p.1.now)
         (λ stop. StopsAt (outcome (AnyName ∷ Expect t.Colon ∷ Expect t.Bang ∷ Expect t.Natural ∷ k) tokens.now) stop) }
@@ -84,7 +83,6 @@ pub(crate) fn static_part<'t>(
 }
 
 /// The type of a parameter, with the sign before it.
-#[tactic(auto, unfolding(silq_grammar::specs::Outcome::outcome))]
 fn typed<'t>(
     alloc: Global,
     tree: &mut Tree,

@@ -46,7 +46,6 @@ fn tuple_names<'t>(alloc: Global, tokens: &'t [Token]) -> Result<(NameIds, &'t [
 }
 
 /// An assignment to a tuple, from behind its parenthesis.
-#[tactic(auto, unfolding(silq_grammar::specs::Outcome::outcome))]
 pub(crate) fn spread<'t>(
     alloc: Global,
     tree: &mut Tree,
@@ -180,7 +179,6 @@ fn return_value<'t>(
 }
 
 /// A return, from behind its word.
-#[tactic(auto, unfolding(silq_grammar::specs::Outcome::outcome))]
 pub(crate) fn return_rest<'t>(
     alloc: Global,
     tree: &mut Tree,

@@ -98,7 +98,6 @@ fn size<'t>(
 }
 
 /// A type behind its sign `!`, or without one; `at` is where it begins.
-#[tactic(auto, unfolding(silq_grammar::specs::Outcome::outcome))]
 fn sized<'t>(
     alloc: Global,
     tree: &mut Tree,

@@ -9,7 +9,7 @@ use Rattle.silq_grammar.specs.declared.token.Token.TheVariants.{Name, Number, Fi
 use Rattle.expr_parse.proofs.Exits.{stops, stops_behind, behind}
 use Rattle.silq_parse.proofs.BlockReads.{no_statement, no_items, next_statement, one_statement, closed_block, part_of, stmt_of, no_else, else_block, else_choice, chosen, choice_free, choice_reads, between_reads, loop_reads}
 use Rattle.silq_parse.proofs.Opened.{bounds_open, block_open, else_block_open, else_choice_open, name_begins, spread_begins, forget_begins, phase_begins, choice_begins, loop_begins, return_begins}
-use Rattle.silq_parse.proofs.AddedStatements.{free_stmts}
+use Rattle.silq_parse.proofs.AddedStatements.{free, free_stmts}
 use Rattle.expr_parse.proofs.Growing.{grew_then}
 use Rattle.expr_parse.proofs.Passed.{ends_passed}
 use Rattle.silq_parse.proofs.block.+statement.Goals as goal
@@ -76,6 +76,9 @@ loop_rest-returns-clause-machine n c = λ k h.
 
 pub loop_rest-returns-clause-reads : goal.loop_rest-returns-clause-reads
 loop_rest-returns-clause-reads n c = loop_reads c.args.at _ _ c.in_ok-name.ensures.token c.in_ok-rest.ensures.token c.in_ok-low.ensures.reads c.in_ok-body.ensures.reads c.in_ok-id.ensures.added
+
+pub loop_rest-add_statement-requires-clause-exprs : goal.loop_rest-add_statement-requires-clause-exprs
+loop_rest-add_statement-requires-clause-exprs n c = free c.in_ok-body.ensures.arena (grew_then c.in_ok-low.ensures.reads.grew c.in_ok-body.ensures.reads.grew)
 
 pub loop_rest-add_statement-requires-clause-stmts : goal.loop_rest-add_statement-requires-clause-stmts
 loop_rest-add_statement-requires-clause-stmts n c = free_stmts c.in_ok-body.ensures.arena (grew_then c.in_ok-low.ensures.reads.grew c.in_ok-body.ensures.reads.grew)

@@ -8,6 +8,7 @@ use Rattle.silq_grammar.specs.declared.token.Terminal.TheVariants as t
 use Rattle.silq_grammar.specs.declared.token.Token.TheVariants.{Name, Number, Fixed}
 use Rattle.expr_parse.proofs.Exits.{stops, stops_behind, behind}
 use Rattle.silq_parse.proofs.SimpleReads.{change_reads, forget_value_reads, no_value_reads, phase_reads, something_reads, nothing_reads, return_reads, spread_reads, forget_reads}
+use Rattle.silq_parse.proofs.AddedStatements.{free, free_stmts}
 use Rattle.silq_parse.proofs.simple.forget.Goals as goal
 
 pub returns-in_err-name-clause-machine : goal.returns-in_err-name-clause-machine
@@ -37,3 +38,9 @@ returns-clause-machine c = λ k h.
 
 pub returns-clause-reads : goal.returns-clause-reads
 returns-clause-reads c = forget_reads c.args.at c.in-Fixed._open _ _ _ c.in_ok-name.ensures.token c.in_ok-value.ensures.reads c.in_ok-id.ensures.added c.in_ok-rest.ensures.token c.in_ok-rest-2.ensures.token (grind (arith, common_steps))
+
+pub add_statement-requires-clause-exprs : goal.add_statement-requires-clause-exprs
+add_statement-requires-clause-exprs c = free c.in_ok-value.ensures.arena c.in_ok-value.ensures.reads.grew
+
+pub add_statement-requires-clause-stmts : goal.add_statement-requires-clause-stmts
+add_statement-requires-clause-stmts c = free_stmts c.in_ok-value.ensures.arena c.in_ok-value.ensures.reads.grew
