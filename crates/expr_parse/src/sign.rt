@@ -45,10 +45,7 @@ pub fn optional<'t>(tokens: &'t [Token], wanted: Terminal) -> Option<(Spot, &'t 
 
 /// Takes a word or a sign.
 #[tactic(auto, unfolding(silq_grammar::specs::Outcome::outcome))]
-pub fn sign<'t>(
-    tokens: &'t [Token],
-    wanted: Terminal,
-) -> Result<(Spot, &'t [Token]), Stop<'t>>
+pub fn sign<'t>(tokens: &'t [Token], wanted: Terminal) -> Result<(Spot, &'t [Token]), Stop<'t>>
     ensures machine { (k : List Symbol) → nest k ≤ 64 → MatchResult result (λ p. outcome (Expect wanted ∷ k) tokens.now ≡ outcome k p.1.now)
         (λ stop. StopsAt (outcome (Expect wanted ∷ k) tokens.now) stop) }
     ensures closing { (k : List Symbol) → nest k ≤ 64 → MatchResult result (λ p. outcome (Closing wanted ∷ k) tokens.now ≡ outcome k p.1.now)

@@ -28,7 +28,7 @@ use Rattle.silq_parse.specs.Parts.{maybe, size_tree, Sized, sized_text, sized_no
 use Rattle.expr_parse.specs.Added.{IsAdded}
 use Rattle.expr_parse.proofs.Growing.{grew_nothing, grew_then}
 use Rattle.expr_parse.proofs.Reading.{made, grew_by, same_stmts}
-use Rattle.silq_parse.proofs.Reading as reading
+use Rattle.expr_parse.proofs.Reading as reading
 use Rattle.silq_parse.proofs.SimpleReads.{one_more, behind_text}
 
 pub number_size : {old new : Forest} {rest : List Token} {id : ExprId} (v : ℤ) (at c : Spot) → IsAdded old new (exprs.Number v None at) id
