@@ -25,6 +25,3 @@ returns-in-Mfree-clause-reads c = record { derivation = mfree c.in-Fixed._at; sp
 
 pub returns-in_default-clause-reads : goal.returns-in_default-clause-reads
 returns-in_default-clause-reads c = record { derivation = no_mark; spelled = refl; named = refl }
-
-pub returns-in_default-2-clause-reads : goal.returns-in_default-2-clause-reads
-returns-in_default-2-clause-reads c = record { derivation = no_mark; spelled = refl; named = refl }
