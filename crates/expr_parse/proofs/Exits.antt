@@ -1,5 +1,5 @@
 -- What a `?` hands on.
-use Rattle.std.proofs.Common.{◌≡◌, Result, Ok, Err, MatchResult, IsErrAnd, sym, subst, ◌∙◌, refl}
+use Rattle.std.proofs.Common.{◌≡◌, Result, Ok, Err, MatchResult, IsErrAnd, sym, subst, ◌∙◌}
 use Rattle.silq_grammar.specs.Outcome.{Outcome}
 use Rattle.expr_parse.specs.Stops.{StopsAt}
 use Rattle.expr_parse.specs.declared.stop.Stop.{Stop}

@@ -1,6 +1,6 @@
 use Rattle.std.proofs.Common.{rules, ◌≡◌, ◌+◌, ◌-◌, [], ◌∷◌, length, ap, arith, ◌++◌, ◌∙◌, refl, to_z-of_z, SFits, w64, length-append}
 use Rattle.std.proofs.lemmas.Grind.{common_steps}
-use Rattle.silq_grammar.specs.Machine.{AUnary, Prods, Sums, Compare, Ands, Ors, Ends, Closing, MoreExprs, Expect, InBracket, InIndex, StartBracket, StartIndex, CallPart, Assigns, Arguments, an_expr}
+use Rattle.silq_grammar.specs.Machine.{AUnary, Prods, Sums, Compare, Ands, Ors, Ends, Closing, MoreExprs, Expect, InBracket, InIndex, StartBracket, StartIndex, CallPart, Assigns}
 use Rattle.silq_grammar.specs.Outcome.{outcome}
 use Rattle.expr_parse.proofs.Reading.{one_and, read_or, one_cmp, read_and, one_sum, read_comparison, one_prod, read_sum, one_unary, read_prod}
 use Rattle.expr_parse.proofs.Passed.{ends_passed, taken, none_gone}
