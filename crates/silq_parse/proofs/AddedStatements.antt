@@ -1,9 +1,9 @@
 -- What one more statement does to an arena.
-use Rattle.std.proofs.Common.{◌≡◌, ℕ, ◌+◌, ◌<◌, ◌≤◌, List, [], ◌∷◌, ◌++◌, length, length-append, refl, sym, ◌∙◌, ap, subst, append_assoc, arith}
+use Rattle.std.proofs.Common.{◌≡◌, ◌+◌, ◌≤◌, List, [], ◌∷◌, length, length-append, sym, ◌∙◌, ap, subst, arith}
 use Rattle.silq_tree.specs.declared.node.ExprId.{ExprId}
 use Rattle.silq_tree.specs.declared.node.StmtId.{StmtId}
 use Rattle.silq_tree.specs.declared.node.Stmt.{Stmt}
-use Rattle.silq_tree.specs.Arena.{Forest, IsArena, KeepsTrees, expr_at, stmt_at, with_stmt}
+use Rattle.silq_tree.specs.Arena.{Forest, IsArena, expr_at, stmt_at}
 use Rattle.silq_tree.specs.Standing.{stmt_grown}
 use Rattle.silq_tree.specs.Children.{stmt_exprs, stmt_stmts}
 use Rattle.silq_tree.proofs.Arenas.{stmt_made}

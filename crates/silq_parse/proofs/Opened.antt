@@ -1,11 +1,11 @@
 -- What is expected behind a sign that opens.
-use Rattle.std.proofs.Common.{◌≡◌, ◌+◌, ◌<◌, ◌≤◌, List, [], ◌∷◌, ◌∙◌, ap, refl, arith}
+use Rattle.std.proofs.Common.{◌≡◌, ◌<◌, ◌≤◌, List, ◌∷◌, ◌∙◌, ap, arith}
 use Rattle.silq_tree.specs.declared.node.Spot.{Spot}
 use Rattle.silq_tree.specs.declared.node.NameId.{NameId}
 use Rattle.silq_grammar.specs.declared.token.Token.{Token}
 use Rattle.silq_grammar.specs.declared.token.Token.TheVariants.{Name, Fixed}
 use Rattle.silq_grammar.specs.declared.token.Terminal.TheVariants as t
-use Rattle.silq_grammar.specs.Machine.{Symbol, Expect, Closing, Ends, Statements, ABlock, ElseBody, ElseRest, ForgetPart, ForgetValue, AnyName, PhasePart, Bounds, ASize, ParamPart, Params, StaticPart, MoreStatics, an_expr, value, MoreNames, StartName, ReturnValue, AType, AScalar, SizePart, MoreResults, ResultPart, OneParam, MoreParams, MarkPart, Functions, nest}
+use Rattle.silq_grammar.specs.Machine.{Symbol, Expect, Closing, Ends, Statements, ABlock, ElseBody, ElseRest, ForgetPart, AnyName, PhasePart, Bounds, ASize, ParamPart, Params, StaticPart, MoreStatics, an_expr, value, MoreNames, StartName, ReturnValue, AType, AScalar, SizePart, MoreResults, ResultPart, OneParam, MoreParams, MarkPart, Functions, nest}
 use Rattle.silq_grammar.specs.Outcome.{outcome}
 use Rattle.expr_parse.proofs.Passed.{taken}
 

@@ -14,9 +14,9 @@ ghost use Rattle.expr_parse.specs.Stops.{StopsAt};
 ghost use Rattle.silq_parse.specs.Parts.{change_sign, change_text, change_tree, changed_node};
 ghost use Rattle.expr_parse.specs.Reads.{ReadsExpr, ReadsStmt, ReadsPart};
 
+use crate::statement::add_statement;
 use expr_parse::expr::expr;
 use expr_parse::sign::sign;
-use crate::statement::add_statement;
 use expr_parse::stop::Stop;
 use expr_parse::target::{Target, behind_name};
 use silq_grammar::{Terminal, Token};

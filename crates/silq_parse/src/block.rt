@@ -16,10 +16,10 @@ ghost use Rattle.silq_parse.specs.Parts.{Between, between_text, between_tree, re
 ghost use Rattle.expr_parse.specs.Reads.{ReadsExpr, ReadsStmt, ReadsPart};
 
 use crate::assign::named;
-use expr_parse::expr::expr;
-use expr_parse::sign::{name, sign};
 use crate::simple::{forget, phase, return_rest, spread};
 use crate::statement::add_statement;
+use expr_parse::expr::expr;
+use expr_parse::sign::{name, sign};
 use expr_parse::stop::{Stop, deeper};
 use silq_grammar::{Terminal, Token};
 use silq_tree::{Block, Else, ExprId, Spot, Stmt, StmtId, StmtIds, Tree};

@@ -15,9 +15,9 @@ ghost use Rattle.expr_parse.specs.Stops.{StopsAt};
 ghost use Rattle.silq_parse.specs.Parts.{SpellsStatic, SpellsStatics, SpellsStaticPart, SpellsMark, typed_text, typed_tree};
 ghost use Rattle.expr_parse.specs.Reads.{ReadsPart};
 
+use crate::types::{results, written_type};
 use expr_parse::sign::{name, optional, sign};
 use expr_parse::stop::{Stop, deeper};
-use crate::types::{results, written_type};
 use silq_grammar::{Terminal, Token};
 use silq_tree::{Mark, NameId, NameIds, ParamNode, ParamNodes, Spot, Tree, TypeNodes};
 use std::alloc::Global;

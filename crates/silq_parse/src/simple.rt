@@ -13,9 +13,9 @@ ghost use Rattle.expr_parse.specs.Stops.{StopsAt};
 ghost use Rattle.silq_parse.specs.Parts.{SpellsTuple, forget_part_text, forget_part_tree, return_part_text, return_part_tree, maybe};
 ghost use Rattle.expr_parse.specs.Reads.{ReadsExpr, ReadsStmt, ReadsPart};
 
+use crate::statement::add_statement;
 use expr_parse::expr::expr;
 use expr_parse::sign::{begins, name, sign};
-use crate::statement::add_statement;
 use expr_parse::stop::{Stop, deeper};
 use silq_grammar::{Terminal, Token};
 use silq_tree::{ExprId, NameId, NameIds, Spot, Stmt, StmtId, Tree};

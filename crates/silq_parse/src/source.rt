@@ -10,8 +10,8 @@ ghost use Rattle.expr_parse.specs.Stops.{StopsAt};
 
 use crate::fault::ParseFault;
 use crate::lexed::{Lexed, lex};
-use expr_parse::stop::Stop;
 use crate::tokens::parse_tokens;
+use expr_parse::stop::Stop;
 use silq_grammar::Token;
 use silq_lex::{LexFault, Place};
 use silq_tree::{Program, Spot};

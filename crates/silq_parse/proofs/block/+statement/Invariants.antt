@@ -1,4 +1,4 @@
-use Rattle.std.proofs.Common.{◌≡◌, ◌+◌, ◌*◌, ◌<◌, ◌≤◌, List, [], ◌∷◌, length}
+use Rattle.std.proofs.Common.{◌≡◌, ◌+◌, ◌*◌, ◌≤◌, List, [], ◌∷◌, length}
 use Rattle.silq_tree.specs.Arena.{IsArena, expr_at, stmt_at}
 use Rattle.silq_tree.specs.Standing.{statements_of}
 use Rattle.silq_grammar.specs.Machine.{Symbol, Statements, nest}

@@ -1,4 +1,4 @@
-use Rattle.std.proofs.Common.{◌≡◌, ◌+◌, ◌<◌, ◌≤◌, List, [], ◌∷◌, length, map, flat_map}
+use Rattle.std.proofs.Common.{◌≡◌, ◌+◌, ◌<◌, List, [], ◌∷◌, length, map, flat_map}
 use Rattle.silq_tree.specs.Arena.{IsArena, expr_at}
 use Rattle.silq_tree.specs.Standing.{type_of}
 use Rattle.silq_tree.specs.Children.{type_exprs}
