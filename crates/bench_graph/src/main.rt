@@ -6,10 +6,10 @@ ghost use Rattle.std.specs.Prelude.{◌≤◌};
 
 use flat_core::End::{Dropped, Output};
 use flat_core::Flat;
-use test_forms::{StepEntry, TableFault, WireEntry, at, flat_of, flip, input, new, on};
 use std::alloc::{AllocError, Global};
 use std::process::ExitCode;
 use std::{env, io};
+use test_forms::{StepEntry, TableFault, WireEntry, at, flat_of, flip, input, new, on};
 use topo_order::order;
 use unqomp::graph_of;
 

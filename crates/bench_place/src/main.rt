@@ -9,7 +9,6 @@ ghost use Rattle.move_plan.specs.Live.{width as spec_width};
 
 use flat_core::End::{Dropped, Output};
 use flat_core::{Flat, StepId};
-use test_forms::{StepEntry, TableFault, WireEntry, at, flat_of, flip, input, new, on};
 use gate_emit::GateRow;
 use move_plan::{Move, MoveList, Rows};
 use plan_gates::{emit_next, qubit_lists};
@@ -19,6 +18,7 @@ use silq_io::{Failed, Sink, SureSink};
 use std::alloc::{AllocError, Global};
 use std::process::ExitCode;
 use std::{env, io};
+use test_forms::{StepEntry, TableFault, WireEntry, at, flat_of, flip, input, new, on};
 
 // The greatest N: a flat form has at most 100,000 wires, and three are inputs.
 const MOST: u32 = 99_997;

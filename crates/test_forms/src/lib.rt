@@ -6,7 +6,9 @@ pub mod counts;
 pub mod entries;
 mod lists;
 pub mod table;
+pub mod worked;
 
 pub use counts::{count_hadamards, count_inputs};
 pub use entries::{StepEntry, WireEntry, at, flip, hadamard, input, measure, new, off, on, phase};
 pub use table::{TableFault, flat_of};
+pub use worked::{Worked, worked_form};

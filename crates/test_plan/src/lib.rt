@@ -1,16 +1,10 @@
 #![tactic(auto)]
-//! Tests of flat forms, their circuit graphs, orders and moves on worked rows.
+//! Tests of circuit graphs, orders, moves and texts on worked forms.
 
-#[cfg(test)]
-mod forms;
 #[cfg(test)]
 mod graphs;
 #[cfg(test)]
-mod paths;
-#[cfg(test)]
 mod plans;
-#[cfg(test)]
-mod reads;
 #[cfg(test)]
 mod rows;
 #[cfg(test)]

@@ -4,43 +4,32 @@ ghost use Rattle.std.specs.Prelude.{◌≡◌, ◌≤◌, ℕ, List};
 ghost use Rattle.move_plan.specs.Progress.{IsPlan};
 ghost use Rattle.move_plan.specs.Live.{width as spec_width};
 
-use crate::{forms, words};
+use crate::words;
 use flat_core::{Flat, WireId};
-use test_forms::TableFault;
 use gate_core::gate::Gate;
 use gate_core::{QubitList, QubitLists};
 use move_plan::{Move, Rows};
-use plan_gates::emit_next;
+use plan_gates::{emit_next, plan_lists};
 use qasm_write::QasmWriter;
 use qubit_alloc::Placer;
 use silq_io::{Failed, MemSink, Sink};
 use std::alloc::{AllocError, Global};
-use std::test::Fail;
-
-// The forms of which a text is written.
-#[derive(Clone, Copy)]
-enum Form {
-    XorOfAnds,
-    HadamardAfterUncopy,
-    TwoAnds,
-    Teleportation,
-    ControlledHadamards,
-}
+use test_forms::{TableFault, Worked, worked_form};
 
 // A form, its moves, their width, the wires of the parameters and of the results, each in a list of its own, and the text
 // that is wanted.
 #[derive(Clone, Copy)]
-struct Row<'a> {
-    form: Form,
-    moves: &'a str,
+struct Row {
+    form: Worked,
+    moves: &'static str,
     width: u32,
-    ins: &'a [u32],
-    outs: &'a [u32],
-    text: &'a str,
+    ins: &'static [u32],
+    outs: &'static [u32],
+    text: &'static str,
 }
 
-const XOR_OF_ANDS: Row<'static> = Row {
-    form: Form::XorOfAnds,
+const XOR_OF_ANDS: Row = Row {
+    form: Worked::XorOfAnds,
     moves: "up0 up1 do2 down1 down0",
     width: 6,
     ins: &[0, 1, 2, 3],
@@ -64,8 +53,8 @@ ccx q[0],q[1],q[4];
 ",
 };
 
-const HADAMARD_AFTER_UNCOPY: Row<'static> = Row {
-    form: Form::HadamardAfterUncopy,
+const HADAMARD_AFTER_UNCOPY: Row = Row {
+    form: Worked::HadamardAfterUncopy,
     moves: "up0 do2 down0 do1",
     width: 3,
     ins: &[0, 1],
@@ -84,8 +73,8 @@ h q[0];
 ",
 };
 
-const TWO_ANDS: Row<'static> = Row {
-    form: Form::TwoAnds,
+const TWO_ANDS: Row = Row {
+    form: Worked::TwoAnds,
     moves: "up0 up1 do2 do3 down1 do4 down0",
     width: 7,
     ins: &[0, 1, 2, 3, 4],
@@ -113,8 +102,8 @@ ccx q[0],q[1],q[5];
 ",
 };
 
-const RECOMPUTED: Row<'static> = Row {
-    form: Form::TwoAnds,
+const RECOMPUTED: Row = Row {
+    form: Worked::TwoAnds,
     moves: "up0 do2 down0 up1 do3 down1 up0 do4 down0",
     width: 6,
     ins: &[0, 1, 2, 3, 4],
@@ -144,8 +133,8 @@ ccx q[0],q[1],q[5];
 ",
 };
 
-const TELEPORTATION: Row<'static> = Row {
-    form: Form::Teleportation,
+const TELEPORTATION: Row = Row {
+    form: Worked::Teleportation,
     moves: "do0 do1 do2 do3 do4 do5 do6 free1 up7 do8 down7 free0",
     width: 3,
     ins: &[0],
@@ -172,8 +161,8 @@ if (m0==1) x q[0];
 ",
 };
 
-const CONTROLLED_HADAMARDS: Row<'static> = Row {
-    form: Form::ControlledHadamards,
+const CONTROLLED_HADAMARDS: Row = Row {
+    form: Worked::ControlledHadamards,
     moves: "do0 do1",
     width: 2,
     ins: &[0, 1],
@@ -202,6 +191,53 @@ sdg q[1];
 ",
 };
 
+const BOTH_SIGNS: Row = Row {
+    form: Worked::BothSigns,
+    moves: "do0 do1",
+    width: 3,
+    ins: &[0, 1, 2],
+    outs: &[0, 1, 2],
+    text: "OPENQASM 2.0;
+include \"qelib1.inc\";
+qreg q[3];
+// silqc in 0 q[0]
+// silqc in 1 q[1]
+// silqc in 2 q[2]
+x q[0];
+s q[1];
+h q[1];
+t q[1];
+cx q[0],q[1];
+tdg q[1];
+h q[1];
+sdg q[1];
+x q[0];
+x q[1];
+ccx q[0],q[1],q[2];
+x q[1];
+// silqc out 0 q[0]
+// silqc out 1 q[1]
+// silqc out 2 q[2]
+",
+};
+
+// The input stands on the first qubit, and the outputs that nothing touches on the next ones in their order.
+const UNTOUCHED: Row = Row {
+    form: Worked::Untouched,
+    moves: "free3",
+    width: 3,
+    ins: &[1],
+    outs: &[0, 1, 2],
+    text: "OPENQASM 2.0;
+include \"qelib1.inc\";
+qreg q[3];
+// silqc in 0 q[0]
+// silqc out 0 q[1]
+// silqc out 1 q[0]
+// silqc out 2 q[2]
+",
+};
+
 // What a text is written from.
 #[derive(Drop)]
 struct PlacedForm {
@@ -226,12 +262,7 @@ fn qubits_of(alloc: Global, placer: &Placer, wires: &[u32]) -> Result<QubitLists
 }
 
 // A form with the valid list of moves of a row, placed.
-fn placed(
-    alloc: Global,
-    flat: &Flat,
-    moves: &[Move],
-    row: &Row<'_>,
-) -> Result<PlacedForm, AllocError>
+fn placed(alloc: Global, flat: &Flat, moves: &[Move], row: &Row) -> Result<PlacedForm, AllocError>
     requires plan { IsPlan flat.now moves.now }
     requires fits { spec_width flat.now moves.now ≤ row.now.width }
     requires few { row.now.width ≤ 100000 }
@@ -254,19 +285,9 @@ fn placed(
     })
 }
 
-fn form_of(alloc: Global, form: Form) -> Result<Flat, TableFault> {
-    match form {
-        Form::XorOfAnds => forms::xor_of_ands(alloc),
-        Form::HadamardAfterUncopy => forms::hadamard_after_uncopy(alloc),
-        Form::TwoAnds => forms::two_ands(alloc),
-        Form::Teleportation => forms::teleportation(alloc),
-        Form::ControlledHadamards => forms::controlled_hadamards(alloc),
-    }
-}
-
 // The placed form of a row, or nothing where the moves are not valid or have another width.
-fn placed_by(alloc: Global, row: &Row<'_>) -> Result<Option<PlacedForm>, TableFault> {
-    let flat = form_of(alloc, row.form)?;
+fn placed_by(alloc: Global, row: &Row) -> Result<Option<PlacedForm>, TableFault> {
+    let flat = worked_form(alloc, row.form)?;
     let list = words::moves(alloc, row.moves)?;
     let moves = list.as_slice();
     let mut rows = Rows::new(alloc, &flat)?;
@@ -289,8 +310,33 @@ fn write<S: Sink>(out: &mut S, placed: &PlacedForm) -> Result<(), Failed> {
     writer.finish(&placed.outs)
 }
 
+// The first qubit of the first list.
+fn first_of(lists: &QubitLists) -> Option<u32> {
+    let list = lists.get(0)?;
+    list.get(0).copied()
+}
+
+// The first qubits of the lists of parameters and of results that are told for the valid moves of a row.
+fn first_told(alloc: Global, row: &Row) -> Result<(Option<u32>, Option<u32>), TableFault> {
+    let flat = worked_form(alloc, row.form)?;
+    let list = words::moves(alloc, row.moves)?;
+    let mut rows = Rows::new(alloc, &flat)?;
+    if !rows.valid(&flat, list.as_slice()) || rows.width(&flat, list.as_slice()) > 100_000 {
+        return Ok((None, None));
+    }
+    let width = rows.width(&flat, list.as_slice());
+    let lists = plan_lists(alloc, &flat, list.as_slice(), width)?;
+    Ok((first_of(&lists.ins), first_of(&lists.outs)))
+}
+
+#[test]
+fn lists_of_teleportation(rt: HostRuntime) {
+    let told = first_told(rt.alloc(), &TELEPORTATION);
+    assert!(rt; matches!(told, Ok((Some(0), Some(2)))));
+}
+
 // Whether the whole text of a row is written.
-fn is_written(alloc: Global, row: &Row<'_>) -> Result<bool, TableFault> {
+fn is_written(alloc: Global, row: &Row) -> Result<bool, TableFault> {
     let mut out = MemSink::new(alloc, 1_000, Vec::new(alloc))?;
     let Some(placed) = placed_by(alloc, row)? else {
         return Ok(false);
@@ -299,39 +345,21 @@ fn is_written(alloc: Global, row: &Row<'_>) -> Result<bool, TableFault> {
 }
 
 #[test]
-fn xor_of_ands(rt: HostRuntime) -> Result<(), Fail> {
-    assert!(rt; is_written(rt.alloc(), &XOR_OF_ANDS)?);
-    Ok(())
-}
-
-#[test]
-fn hadamard_after_uncopy(rt: HostRuntime) -> Result<(), Fail> {
-    assert!(rt; is_written(rt.alloc(), &HADAMARD_AFTER_UNCOPY)?);
-    Ok(())
-}
-
-#[test]
-fn two_ands(rt: HostRuntime) -> Result<(), Fail> {
-    assert!(rt; is_written(rt.alloc(), &TWO_ANDS)?);
-    Ok(())
-}
-
-#[test]
-fn recomputed(rt: HostRuntime) -> Result<(), Fail> {
-    assert!(rt; is_written(rt.alloc(), &RECOMPUTED)?);
-    Ok(())
-}
-
-#[test]
-fn teleportation(rt: HostRuntime) -> Result<(), Fail> {
-    assert!(rt; is_written(rt.alloc(), &TELEPORTATION)?);
-    Ok(())
-}
-
-#[test]
-fn controlled_hadamards(rt: HostRuntime) -> Result<(), Fail> {
-    assert!(rt; is_written(rt.alloc(), &CONTROLLED_HADAMARDS)?);
-    Ok(())
+fn whole_texts(rt: HostRuntime) {
+    let rows = [
+        XOR_OF_ANDS,
+        HADAMARD_AFTER_UNCOPY,
+        TWO_ANDS,
+        RECOMPUTED,
+        TELEPORTATION,
+        CONTROLLED_HADAMARDS,
+        BOTH_SIGNS,
+        UNTOUCHED,
+    ];
+    for row in &rows {
+        let written = is_written(rt.alloc(), row).unwrap_or(false);
+        assert!(rt; written, "{}", row.text);
+    }
 }
 
 /// A sink that takes one byte at a time.
@@ -360,20 +388,22 @@ fn breaks_behind(alloc: Global, placed: &PlacedForm, front: &[u8]) -> Result<boo
     Ok(wrote == Err(Failed) && out.inner.bytes() == front)
 }
 
-// Each put is of one byte, and each of them fails once.
-#[test]
-fn each_put_may_fail(rt: HostRuntime) -> Result<(), Fail> {
-    let row = HADAMARD_AFTER_UNCOPY;
+// Whether the fault of each put of a row's text is told: each put is of one byte.
+fn break_everywhere(alloc: Global, row: &Row) -> Result<bool, TableFault> {
     let text = row.text.as_bytes();
-    let placed = placed_by(rt.alloc(), &row)?;
-    assert!(rt; placed.is_some());
-    if let Some(placed) = placed {
-        for put in 0..text.len() {
-            assert!(rt;
-                breaks_behind(rt.alloc(), &placed, &text[..put])?,
-                "put {put}"
-            );
+    let Some(placed) = placed_by(alloc, row)? else {
+        return Ok(false);
+    };
+    for put in 0..text.len() {
+        if !breaks_behind(alloc, &placed, &text[..put])? {
+            return Ok(false);
         }
     }
-    Ok(())
+    Ok(true)
+}
+
+#[test]
+fn each_put_may_fail(rt: HostRuntime) {
+    let breaks = break_everywhere(rt.alloc(), &HADAMARD_AFTER_UNCOPY);
+    assert!(rt; matches!(breaks, Ok(true)));
 }

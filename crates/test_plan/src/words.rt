@@ -2,10 +2,10 @@
 //! `up0`, `down0`, `do0` and `free0` are moves.
 
 use flat_core::{StepId, WireId};
-use test_forms::TableFault;
 use graph_core::Vertex;
 use move_plan::{Move, MoveList};
 use std::alloc::Global;
+use test_forms::TableFault;
 
 // The number behind a prefix.
 fn number(word: &str, prefix: &str) -> Option<u32> {

@@ -2,13 +2,11 @@
 
 ghost use Rattle.std.specs.Prelude.{◌≡◌, length};
 
-use crate::forms;
 use amp_core::Amp;
 use flat_core::Flat;
 use flat_mean::path_value;
-use test_forms::{TableFault, count_hadamards, count_inputs};
 use std::alloc::Global;
-use std::test::Fail;
+use test_forms::{TableFault, Worked, count_hadamards, count_inputs, worked_form};
 
 // The number (a + b w + c w^2 + d w^3) / root two^k with these a, d and k, and without b and c.
 fn amp(a: i128, d: i128, k: u32) -> Amp {
@@ -22,23 +20,14 @@ fn amp(a: i128, d: i128, k: u32) -> Amp {
 }
 
 // Whether a path has this weight and these values at the tops.
-fn is_path(
-    alloc: Global,
-    flat: &Flat,
-    input: &[bool],
-    choice: &[bool],
-    values: &[bool],
-    weight: Amp,
-) -> Result<bool, TableFault> {
+fn is_path(alloc: Global, flat: &Flat, path: &Path) -> Result<bool, TableFault> {
+    let (input, choice, values, weight) = path;
     let mut out = vec![in alloc; false; flat.wires()]?;
-    if input.len() != count_inputs(flat) || choice.len() != count_hadamards(flat) {
+    if count_inputs(flat) != 1 || count_hadamards(flat) != 2 {
         return Ok(false);
     }
-    if choice.len() > 50 {
-        return Ok(false);
-    }
-    let found = path_value(flat, input, choice, &mut out);
-    Ok(found == weight && out.as_slice() == values)
+    let found = path_value(flat, &[*input], choice, &mut out);
+    Ok(found == *weight && out.as_slice() == values.as_slice())
 }
 
 // The paths of a form with an input wire, two Hadamard gates and five wires.
@@ -48,7 +37,7 @@ const T: bool = true;
 
 const F: bool = false;
 
-// Every path of `every_kind`. Where the input is 0 the second Hadamard gate keeps its wire, and wire 2 is flipped with
+// Every path of `EveryKind`. Where the input is 0 the second Hadamard gate keeps its wire, and wire 2 is flipped with
 // wire 1; where it is 1 each Hadamard gate halves, and wire 2 is never flipped.
 fn every_path() -> [Path; 8] {
     [
@@ -63,14 +52,14 @@ fn every_path() -> [Path; 8] {
     ]
 }
 
-#[test]
-fn paths_of_every_kind(rt: HostRuntime) -> Result<(), Fail> {
-    let flat = forms::every_kind(rt.alloc())?;
-    for (input, choice, values, weight) in &every_path() {
-        let is = is_path(rt.alloc(), &flat, &[*input], choice, values, *weight)?;
-        assert!(rt; is, "{input} {choice:?}");
+// The number of the first path that has another weight or other values, if any.
+fn other_path(alloc: Global, flat: &Flat) -> Result<Option<usize>, TableFault> {
+    for (number, path) in every_path().iter().enumerate() {
+        if !is_path(alloc, flat, path)? {
+            return Ok(Some(number));
+        }
     }
-    Ok(())
+    Ok(None)
 }
 
 // The sum of the weights of the paths with this input on which wire 1 has this value at its top and wire 2 this outcome
@@ -97,11 +86,9 @@ fn sum_of(
     Ok(sum)
 }
 
-#[test]
-fn sums_of_every_kind(rt: HostRuntime) -> Result<(), Fail> {
-    let flat = forms::every_kind(rt.alloc())?;
-    // for each input, outcome bit and value of wire 1: under the input 1 two Hadamard gates are none
-    let sums = [
+// The sums for each input, outcome bit and value of wire 1: under the input 1 two Hadamard gates are none.
+fn every_sum() -> [(bool, bool, bool, Amp); 8] {
+    [
         (F, F, F, amp(1, 0, 1)),
         (F, F, T, Amp::ZERO),
         (F, T, F, Amp::ZERO),
@@ -110,10 +97,27 @@ fn sums_of_every_kind(rt: HostRuntime) -> Result<(), Fail> {
         (T, F, T, amp(0, 0, 2)),
         (T, T, F, Amp::ZERO),
         (T, T, T, Amp::ZERO),
-    ];
-    for (input, outcome, value, wanted) in &sums {
-        let sum = sum_of(rt.alloc(), &flat, *input, *outcome, *value)?;
-        assert_eq!(rt; sum, *wanted, "{input} {outcome} {value}");
+    ]
+}
+
+// The number of the first sum that is another one, if any.
+fn other_sum(alloc: Global, flat: &Flat) -> Result<Option<usize>, TableFault> {
+    for (number, (input, outcome, value, wanted)) in every_sum().iter().enumerate() {
+        if sum_of(alloc, flat, *input, *outcome, *value)? != *wanted {
+            return Ok(Some(number));
+        }
     }
-    Ok(())
+    Ok(None)
+}
+
+// What of the paths and sums of `EveryKind` is not as wanted.
+fn others(alloc: Global) -> Result<(Option<usize>, Option<usize>), TableFault> {
+    let flat = worked_form(alloc, Worked::EveryKind)?;
+    Ok((other_path(alloc, &flat)?, other_sum(alloc, &flat)?))
+}
+
+#[test]
+fn paths_and_sums_of_every_kind(rt: HostRuntime) {
+    let others = others(rt.alloc()).unwrap_or((Some(0), Some(0)));
+    assert_eq!(rt; others, (None, None));
 }
