@@ -1,9 +1,14 @@
-//! The steps of flattening that every state allows.
+//! The steps of flattening that every state allows, and some from the state of a program whose one parameter is a bit.
+
+ghost use Rattle.std.specs.Prelude.{◌≡◌, ◌∷◌, [], IfOk};
+ghost use Rattle.silq_types.specs.declared.types.Shape.TheVariants.{Bit};
+ghost use Rattle.flat_build.specs.Flat.{begin};
 
 use flat_core::WireLists;
 use flat_steps::Flattening;
 use silq_io::LimitFault;
-use silq_tree::NameId;
+use silq_mean::Receiver;
+use silq_tree::{NameId, UnaryOp};
 use silq_types::{Scalar, Shape};
 use std::alloc::Global;
 
@@ -47,6 +52,72 @@ fn lines_around(alloc: Global) -> Result<(u32, u32, u32), LimitFault> {
     state.end_statement(second);
     let third = state.begin_statement(9)?;
     Ok((first, second, third))
+}
+
+// The state of a program whose one parameter is a bit.
+fn one_bit(alloc: Global) -> Result<Flattening, LimitFault>
+    ensures { IfOk result (λ s. s ≡ begin (Bit ∷ [])) }
+{
+    Flattening::begin(alloc, &[Shape::Bit])
+}
+
+// A copy stands on a new wire.
+fn copied(alloc: Global) -> Result<(usize, Option<u32>), LimitFault> {
+    let mut state = one_bit(alloc)?;
+    state.copy_last()?;
+    Ok(last_of(&state.wire_lists()?))
+}
+
+// A negation needs no wire.
+fn negated(alloc: Global) -> Result<(usize, Option<u32>), LimitFault> {
+    let mut state = one_bit(alloc)?;
+    state.one_operand(UnaryOp::Not)?;
+    Ok(last_of(&state.wire_lists()?))
+}
+
+// A phase leaves the values as they are.
+fn turned(alloc: Global) -> Result<(usize, Option<u32>), LimitFault> {
+    let mut state = one_bit(alloc)?;
+    state.turn_all(3)?;
+    Ok(last_of(&state.wire_lists()?))
+}
+
+// A variable keeps the wires of a value that is its own.
+fn received(alloc: Global) -> Result<(usize, Option<u32>), LimitFault> {
+    let mut state = one_bit(alloc)?;
+    state.receive(Receiver::Variable)?;
+    Ok(last_of(&state.wire_lists()?))
+}
+
+// In a body the argument is no value under way.
+fn called(alloc: Global) -> Result<(usize, Option<u32>), LimitFault> {
+    let mut state = one_bit(alloc)?;
+    state.enter_body(&[NameId { number: 1 }])?;
+    Ok(last_of(&state.wire_lists()?))
+}
+
+// The condition of a branch is no value under way.
+fn chosen(alloc: Global) -> Result<(usize, Option<u32>), LimitFault> {
+    let mut state = one_bit(alloc)?;
+    let choice = state.first_branch()?;
+    state.end_choice(choice);
+    Ok(last_of(&state.wire_lists()?))
+}
+
+#[test]
+fn steps_from_one_bit(rt: HostRuntime) {
+    let alloc = rt.alloc();
+    let met = [
+        ("copy_last", matches!(copied(alloc), Ok((1, Some(1))))),
+        ("one_operand", matches!(negated(alloc), Ok((1, Some(0))))),
+        ("turn_all", matches!(turned(alloc), Ok((1, Some(0))))),
+        ("receive", matches!(received(alloc), Ok((1, Some(0))))),
+        ("enter_body", matches!(called(alloc), Ok((0, None)))),
+        ("first_branch", matches!(chosen(alloc), Ok((0, None)))),
+    ];
+    for (name, met) in met {
+        assert!(rt; met, "{name}");
+    }
 }
 
 #[test]
