@@ -320,12 +320,13 @@ fn first_of(lists: &QubitLists) -> Option<u32> {
 fn first_told(alloc: Global, row: &Row) -> Result<(Option<u32>, Option<u32>), TableFault> {
     let flat = worked_form(alloc, row.form)?;
     let list = words::moves(alloc, row.moves)?;
+    let moves = list.as_slice();
+    let width = row.width as usize;
     let mut rows = Rows::new(alloc, &flat)?;
-    if !rows.valid(&flat, list.as_slice()) || rows.width(&flat, list.as_slice()) > 100_000 {
+    if width > 100_000 || !rows.valid(&flat, moves) || rows.width(&flat, moves) != width {
         return Ok((None, None));
     }
-    let width = rows.width(&flat, list.as_slice());
-    let lists = plan_lists(alloc, &flat, list.as_slice(), width)?;
+    let lists = plan_lists(alloc, &flat, moves, width)?;
     Ok((first_of(&lists.ins), first_of(&lists.outs)))
 }
 
