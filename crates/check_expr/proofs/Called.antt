@@ -16,10 +16,10 @@ use Rattle.silq_types.specs.Types.{count, at}
 use Rattle.silq_types.specs.Known.{Signatures}
 use Rattle.check_scope.specs.Context.{Scope, Check, ◌>>=◌, ◌>>◌, give_back, needed}
 use Rattle.check_expr.specs.Expression.{Arguments, all_lifted, static_arguments, natural, result_values, placed, argument_at, result_origin, gate_value, flip_value, call_gate, call_built_in}
-use Rattle.check_scope.specs.Programs.{paired}
-use Rattle.check_scope.specs.declared.words.BuiltIn.{BuiltIn}
-use Rattle.check_scope.specs.declared.words.BuiltIn.TheVariants.{HGate, XGate, YGate, ZGate, Dup, Measure, Vector, RotateX, RotateY, RotateZ}
-use Rattle.check_scope.specs.declared.need.Need.{Need}
+use Rattle.silq_types.specs.Programs.{paired}
+use Rattle.silq_types.specs.declared.built_in.BuiltIn.{BuiltIn}
+use Rattle.silq_types.specs.declared.built_in.BuiltIn.TheVariants.{HGate, XGate, YGate, ZGate, Dup, Measure, Vector, RotateX, RotateY, RotateZ}
+use Rattle.silq_types.specs.declared.need.Need.{Need}
 use Rattle.silq_types.specs.declared.values.Value.{Value}
 use Rattle.check_scope.specs.State.{State, Keeps, scope_in}
 use Rattle.check_scope.specs.Steps.{Reads, Stops}

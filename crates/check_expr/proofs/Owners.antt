@@ -6,23 +6,24 @@ use Rattle.std.proofs.lemmas.Bool.Decides.{eqb_tells}
 use mathlib.Core.Logic.{⊎_elim}
 use Rattle.check_expr.proofs.Alike.{some_same, same_part_refl, same_part_same}
 use Rattle.check_scope.specs.Context.{Scope, Context, Check, ◌>>=◌, ◌>>◌, give_back, fail, of_result, rules, variables, signature, unknown_at, known_names, needed, all_needed, is_known_name, replace, find_var, same_part, is_in_condition, variable, part_at}
-use Rattle.check_scope.specs.declared.words.BuiltIn.{BuiltIn}
-use Rattle.check_scope.specs.declared.words.BuiltIn.TheVariants.{HGate, XGate, YGate, ZGate, Dup, Measure, Vector, RotateX, RotateY, RotateZ}
+use Rattle.silq_types.specs.declared.built_in.BuiltIn.{BuiltIn}
+use Rattle.silq_types.specs.declared.built_in.BuiltIn.TheVariants.{HGate, XGate, YGate, ZGate, Dup, Measure, Vector, RotateX, RotateY, RotateZ}
 use Rattle.check_expr.specs.Expression.{one_value, static_value, unless_static, typed_value, flip_value, gate_value, gate_values, Asked, first_asked, later_asked, asked_by_built_in, Arguments, call_gate, many, length_value, lone_need, lone_wants, later_arguments, single_of, vector_value, call_built_in, natural, static_arguments, exact_place, asked_by, all_lifted, result_origin, placed, argument_at, result_values, call_own, call_found, asked_of_items, suits, unnamed_rule, is_qfree, lone_linear, expr, arguments, origin_of, is_tuple, single, typed_by, unary_value, operands, binary_value, binary_shape}
-use Rattle.check_scope.specs.Programs.{paired}
+use Rattle.silq_types.specs.Programs.{paired}
 use Rattle.check_scope.specs.Places.{new_value}
 use Rattle.check_scope.specs.Places.{move, unmoved, is_moved, disturbs, use_rules, use_part, use_found, use_place}
 use Rattle.check_expr.specs.Owners.{at_place, owns, owners, owned, Sole, handed, handed_arguments, consumed_weight, from_weight, returned_weight, ProperFor, Gives, Ensures}
-use Rattle.check_scope.specs.Uses.{Found, find_fun, built_in}
+use Rattle.silq_types.specs.Calls.{Found, find_fun, built_in}
 use Rattle.check_scope.specs.Walk.{Walk, answer, broken, counted, asked, bind}
-use Rattle.check_scope.specs.declared.need.Need.{Need}
+use Rattle.silq_types.specs.declared.need.Need.{Need}
 use Rattle.silq_tree.specs.Syntax.{Expression, Expressions, number, typed_number, truth, pi, place, called, tuple, unary, binary, none, more, ScalarType, Place}
 use Rattle.silq_tree.specs.declared.node.BinaryOp.{BinaryOp}
 use Rattle.silq_tree.specs.declared.node.NameId.{NameId}
 use Rattle.silq_tree.specs.declared.node.Spot.{Spot}
 use Rattle.silq_tree.specs.declared.node.UnaryOp.{UnaryOp}
 use Rattle.silq_types.specs.Rules.{Fault, rule}
-use Rattle.silq_types.specs.Types.{at, is_held, quantum, single_shape, scalar_type, Header, needed_at, header_of, first_unknown, names, place_name, place_indices}
+use Rattle.silq_types.specs.Types.{at, is_held, quantum, single_shape, first_unknown, names, place_name, place_indices}
+use Rattle.silq_mean.specs.Written.{scalar_type, Header, needed_at, header_of}
 use Rattle.silq_types.specs.declared.signature.InstanceKey.{InstanceKey}
 use Rattle.silq_types.specs.declared.signature.Param.{Param}
 use Rattle.silq_types.specs.declared.signature.Returned.{Returned}
@@ -36,7 +37,7 @@ use Rattle.silq_types.specs.declared.values.Value.{Value}
 use Rattle.silq_types.specs.declared.values.Var.{Var}
 use Rattle.static_num.specs.Static.{is_static}
 use Rattle.std.specs.Ordering.{int_eq}
-use Rattle.check_scope.specs.declared.need.Need.TheVariants as needs
+use Rattle.silq_types.specs.declared.need.Need.TheVariants as needs
 
 -- ---- parts
 

@@ -1,21 +1,22 @@
 -- The walk of an expression counts no statement.
 use Rattle.std.specs.Prelude.{ℕ, Bool, true, false, cond, List, [], ◌∷◌, Option, Some, None, Result, Ok, Err, ℤ}
 use Rattle.check_scope.specs.Context.{Scope, Context, Check, ◌>>=◌, ◌>>◌, give_back, pass, fail, of_result, rules, variables, put_variables, new_place, signature, unknown_at, known_names, needed, all_needed, is_known_name}
-use Rattle.check_scope.specs.declared.words.BuiltIn.{BuiltIn}
-use Rattle.check_scope.specs.declared.words.BuiltIn.TheVariants.{HGate, XGate, YGate, ZGate, Dup, Measure, Vector, RotateX, RotateY, RotateZ}
+use Rattle.silq_types.specs.declared.built_in.BuiltIn.{BuiltIn}
+use Rattle.silq_types.specs.declared.built_in.BuiltIn.TheVariants.{HGate, XGate, YGate, ZGate, Dup, Measure, Vector, RotateX, RotateY, RotateZ}
 use Rattle.check_expr.specs.Expression.{is_tuple, single_of, flip_value, many, length_value, lone_need, lone_wants, later_arguments, call_gate, one_value, static_value, unless_static, typed_value, unary_value, binary_value, single, operands, Asked, suits, gate_value, gate_values, vector_value, call_built_in, Arguments, natural, static_arguments, placed, argument_at, result_origin, result_values, call_own, call_found, asked_of_items, first_asked, later_asked, expr, arguments}
 use Rattle.check_scope.specs.Places.{new_value}
 use Rattle.check_scope.specs.Places.{move, unmoved, use_rules, use_part, use_found, use_place}
 use Rattle.check_scope.specs.Reading.{Uncounted}
-use Rattle.check_scope.specs.Uses.{Found, built_in, find_fun}
+use Rattle.silq_types.specs.Calls.{Found, built_in, find_fun}
 use Rattle.check_scope.specs.Walk.{Walk, answer, broken, counted, asked, bind}
-use Rattle.check_scope.specs.declared.need.Need.{Need}
+use Rattle.silq_types.specs.declared.need.Need.{Need}
 use Rattle.silq_tree.specs.Syntax.{Expression, Expressions, number, typed_number, truth, pi, place, called, tuple, unary, binary, none, more, ScalarType, Place}
 use Rattle.silq_tree.specs.declared.node.BinaryOp.{BinaryOp}
 use Rattle.silq_tree.specs.declared.node.Spot.{Spot}
 use Rattle.silq_tree.specs.declared.node.UnaryOp.{UnaryOp}
 use Rattle.silq_types.specs.Rules.{Fault, rule}
-use Rattle.silq_types.specs.Types.{at, needed_at, first_unknown, names}
+use Rattle.silq_types.specs.Types.{at, first_unknown, names}
+use Rattle.silq_mean.specs.Written.{needed_at}
 use Rattle.silq_types.specs.declared.signature.InstanceKey.{InstanceKey}
 use Rattle.silq_types.specs.declared.signature.Returned.{Returned}
 use Rattle.silq_types.specs.declared.types.Ty.{Ty}
@@ -24,7 +25,7 @@ use Rattle.silq_types.specs.declared.values.Part.{Part}
 use Rattle.silq_types.specs.declared.values.Value.{Value}
 use Rattle.silq_types.specs.declared.values.Var.{Var}
 use Rattle.static_num.specs.Static.{is_static}
-use Rattle.check_scope.specs.declared.need.Need.TheVariants as needs
+use Rattle.silq_types.specs.declared.need.Need.TheVariants as needs
 
 pub record Quiet {A : Type 0} (m : Check A) : Type 0 where
   pub runs : (c : Context) → Uncounted (m c)

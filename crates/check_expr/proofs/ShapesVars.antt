@@ -9,7 +9,8 @@ use Rattle.silq_tree.specs.Syntax.{ScalarType}
 use Rattle.silq_tree.specs.declared.node.NameId.{NameId}
 use Rattle.silq_tree.specs.declared.node.Spot.{Spot}
 use Rattle.silq_types.specs.Rules.{and_then}
-use Rattle.silq_types.specs.Types.{value_of, first_unknown, all_known, width_of, width_spot, scalar_by, scalar_names, scalar_type}
+use Rattle.silq_mean.specs.Written.{value_of, all_known, width_of, width_spot, scalar_by, scalar_type}
+use Rattle.silq_types.specs.Types.{first_unknown, scalar_names}
 use Rattle.silq_types.specs.declared.types.Ty.{Ty}
 use Rattle.silq_types.specs.declared.values.Part.{Part}
 use Rattle.silq_types.specs.declared.values.Var.{Var}

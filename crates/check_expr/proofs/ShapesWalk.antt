@@ -4,19 +4,20 @@ use mathlib.Core.Path.{sym, ap, ◌∙◌, subst}
 use Rattle.check_expr.proofs.Owners.{gives-more, o_bind, o_then, o_more, o_from, o_back, o_fail, o_if, o_rules, o_result, o_variables, o_names, o_natural, o_signature, o_suits}
 use Rattle.check_expr.proofs.ShapesVars.{SameTypes, consumed_type, scalar_same}
 use Rattle.check_expr.specs.Expression.{Asked, first_asked, later_asked, asked_by, asked_by_built_in, Arguments, one_value, static_value, unless_static, typed_value, typed_by, unary_value, binary_value, is_tuple, lone_need, lone_wants, single, single_of, operands, flip_value, gate_value, gate_values, repeated, many, length_value, all_typed, vector_value, call_gate, call_built_in, static_arguments, exact_place, result_origin, placed, argument_at, result_values, unnamed_rule, lone_linear, all_lifted, is_qfree, call_own, call_found, asked_of_items, expr, arguments, later_arguments}
-use Rattle.check_scope.specs.Programs.{paired}
+use Rattle.silq_types.specs.Programs.{paired}
 use Rattle.check_expr.specs.Owners.{Gives, Ensures}
 use Rattle.check_expr.specs.Shapes.{some_static, has_static, types_of_values, shape_of, or_any, first_type, scalar_told, part_of_place, var_type, found_type, part_told, joined_type, binary_type, gate_type, count_told, length_told, built_in_type, result_types, signed_types, instance_types, call_types, type_of, first_item, second_item, item_types, types_of, types_told}
 use Rattle.check_scope.specs.Context.{Scope, Context, Check, ◌>>=◌, ◌>>◌, give_back, signature, needed, all_needed, find_var, variable, part_at, is_known_name}
 use Rattle.check_scope.specs.Places.{new_value, move, unmoved, is_moved, use_part, use_found, use_place}
 use Rattle.check_scope.specs.State.{State, context_of}
 use Rattle.check_scope.specs.Steps.{Reads}
-use Rattle.check_scope.specs.Uses.{Found, find_fun, built_in, index_values, with_index}
+use Rattle.silq_types.specs.Calls.{Found, find_fun, built_in}
+use Rattle.check_scope.specs.Uses.{index_values, with_index}
 use Rattle.check_scope.specs.Walk.{Walk, answer, broken, counted, asked, with_known, known_or_stop, met_as, meet, Met, known, limited, new, too_deep, most_instances, Stop}
-use Rattle.check_scope.specs.declared.need.Need.{Need}
-use Rattle.check_scope.specs.declared.need.Need.TheVariants as needs
-use Rattle.check_scope.specs.declared.words.BuiltIn.{BuiltIn}
-use Rattle.check_scope.specs.declared.words.BuiltIn.TheVariants.{HGate, XGate, YGate, ZGate, Dup, Measure, Vector, RotateX, RotateY, RotateZ}
+use Rattle.silq_types.specs.declared.need.Need.{Need}
+use Rattle.silq_types.specs.declared.need.Need.TheVariants as needs
+use Rattle.silq_types.specs.declared.built_in.BuiltIn.{BuiltIn}
+use Rattle.silq_types.specs.declared.built_in.BuiltIn.TheVariants.{HGate, XGate, YGate, ZGate, Dup, Measure, Vector, RotateX, RotateY, RotateZ}
 use Rattle.silq_io.specs.declared.limit.LimitKind.{LimitKind}
 use Rattle.silq_io.specs.declared.limit.LimitKind.TheVariants.{Instances, Depth}
 use Rattle.silq_tree.specs.Syntax.{Expression, Expressions, number, typed_number, truth, pi, place, called, tuple, unary, binary, none, more, ScalarType, Place}
@@ -26,7 +27,8 @@ use Rattle.silq_tree.specs.declared.node.Spot.{Spot}
 use Rattle.silq_tree.specs.declared.node.UnaryOp.{UnaryOp}
 use Rattle.silq_types.specs.Known.{Signatures, signature_of}
 use Rattle.silq_types.specs.Rules.{and_then}
-use Rattle.silq_types.specs.Types.{Statics, at, quantum, single_shape, scalar_type, Header, needed_at, or_not_static, header_of, place_name, place_indices, is_count, most_items}
+use Rattle.silq_types.specs.Types.{Statics, at, quantum, single_shape, place_name, place_indices}
+use Rattle.silq_mean.specs.Written.{scalar_type, Header, needed_at, or_not_static, header_of, is_count, most_items}
 use Rattle.silq_types.specs.declared.signature.InstanceKey.{InstanceKey}
 use Rattle.silq_types.specs.declared.signature.Returned.{Returned}
 use Rattle.silq_types.specs.declared.signature.Signature.{Signature}

@@ -15,17 +15,18 @@ use Rattle.static_num.specs.Static.{is_static}
 use Rattle.silq_types.specs.declared.types.Ty.{Ty}
 use Rattle.silq_types.specs.declared.values.Value.{Value}
 use Rattle.silq_types.specs.Known.{Signatures}
-use Rattle.silq_types.specs.Types.{needed_at, at}
+use Rattle.silq_mean.specs.Written.{needed_at}
+use Rattle.silq_types.specs.Types.{at}
 use Rattle.check_expr.specs.declared.asked.Ask.{Ask}
-use Rattle.check_scope.specs.declared.need.Need.{Need}
+use Rattle.silq_types.specs.declared.need.Need.{Need}
 use Rattle.check_scope.specs.declared.fault.CheckFault.TheVariants as checks
 use Rattle.check_scope.specs.declared.fault.ExprFault.{ExprFault}
 use Rattle.check_scope.specs.declared.fault.ExprFault.TheVariants as stops
 use Rattle.check_expr.specs.Asks.{asked_as, all_asked, types_of}
 use Rattle.check_scope.specs.Context.{Scope, Check, of_result}
 use Rattle.check_expr.specs.Expression.{expr, arguments, static_value, first_asked, later_asked, lone_need, lone_wants, single, suits, call_found, later_arguments}
-use Rattle.check_scope.specs.Uses.{built_in, find_fun}
-use Rattle.check_scope.specs.declared.need.Need.TheVariants as needs
+use Rattle.silq_types.specs.Calls.{built_in, find_fun}
+use Rattle.silq_types.specs.declared.need.Need.TheVariants as needs
 use Rattle.check_expr.specs.Forms.{number_values, part_values, unary_values, binary_values, operand, both_operands}
 use Rattle.check_scope.specs.Library.{Shelf}
 use Rattle.check_scope.specs.State.{State, Keeps, scope_in}

@@ -8,8 +8,8 @@ use Rattle.silq_tree.specs.Standing.{expressions_of}
 use Rattle.silq_tree.specs.Arena.{expr_at}
 use Rattle.silq_types.specs.declared.values.Value.{Value}
 use Rattle.silq_types.specs.declared.signature.Returned.{Returned}
-use Rattle.check_scope.specs.declared.need.Need.{Need}
-use Rattle.check_scope.specs.declared.need.Need.TheVariants as needs
+use Rattle.silq_types.specs.declared.need.Need.{Need}
+use Rattle.silq_types.specs.declared.need.Need.TheVariants as needs
 use Rattle.check_scope.specs.Walk.{Met, limited, new}
 use Rattle.check_scope.specs.Context.{Check, ◌>>=◌, ◌>>◌, give_back}
 use Rattle.check_expr.specs.Expression.{Arguments, arguments, later_arguments, result_values, unnamed_rule, lone_linear}

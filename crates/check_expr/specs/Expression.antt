@@ -21,16 +21,18 @@ use Rattle.silq_types.specs.declared.values.Value.{Value}
 use Rattle.silq_types.specs.declared.signature.Param.{Param}
 use Rattle.silq_types.specs.declared.signature.Returned.{Returned}
 use Rattle.silq_types.specs.Rules.{rule, unsupported, name_taken, wrong_type, not_classical, against_mark, measured_in_branch, linear_left, result_count, bad_size, outside_type, not_static, consumed_twice, consumed_and_held}
-use Rattle.silq_types.specs.Types.{Statics, single_shape, shape_eq, quantum, is_bit, is_number, is_scalar, is_linear, fits, is_count, most_items, needed_at, scalar_type, header_of, is_empty, at, count}
-use Rattle.check_scope.specs.declared.need.Need.{Need}
-use Rattle.check_scope.specs.declared.need.Need.TheVariants as needs
+use Rattle.silq_types.specs.Types.{Statics, single_shape, shape_eq, quantum, is_bit, is_number, is_scalar, is_linear, fits, at, count}
+use Rattle.silq_mean.specs.Written.{is_count, most_items, needed_at, scalar_type, header_of, is_empty}
+use Rattle.silq_types.specs.declared.need.Need.{Need}
+use Rattle.silq_types.specs.declared.need.Need.TheVariants as needs
 use Rattle.check_scope.specs.Context.{Scope, Check, ◌>>=◌, ◌>>◌, give_back, pass, fail, of_result, rules, variables, signature, is_known_name, known_names, needed}
-use Rattle.check_scope.specs.declared.words.BuiltIn.{BuiltIn}
-use Rattle.check_scope.specs.declared.words.BuiltIn.TheVariants.{HGate, XGate, YGate, ZGate, Dup, Measure, Vector, RotateX, RotateY, RotateZ}
-use Rattle.check_scope.specs.Uses.{Found, is_consumed, built_in, find_fun, param_need, argument_uses, both_consume, consume_and_hold, some_pair}
+use Rattle.silq_types.specs.declared.built_in.BuiltIn.{BuiltIn}
+use Rattle.silq_types.specs.declared.built_in.BuiltIn.TheVariants.{HGate, XGate, YGate, ZGate, Dup, Measure, Vector, RotateX, RotateY, RotateZ}
+use Rattle.silq_types.specs.Calls.{Found, is_consumed, built_in, find_fun, param_need}
+use Rattle.check_scope.specs.Uses.{argument_uses, both_consume, consume_and_hold, some_pair}
 use Rattle.check_scope.specs.declared.uses.Use.{Use}
 use Rattle.check_scope.specs.Places.{new_value, use_place}
-use Rattle.check_scope.specs.Programs.{paired}
+use Rattle.silq_types.specs.Programs.{paired}
 use Rattle.check_scope.specs.Uses.{operand_clash}
 
 -- ---- values

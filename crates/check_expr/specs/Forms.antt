@@ -6,8 +6,8 @@ use Rattle.silq_tree.specs.declared.node.BinaryOp.{BinaryOp}
 use Rattle.silq_tree.specs.Syntax.{Expression, Place, ScalarType}
 use Rattle.silq_types.specs.declared.types.Ty.{Ty}
 use Rattle.silq_types.specs.declared.values.Value.{Value}
-use Rattle.check_scope.specs.declared.need.Need.{Need}
-use Rattle.check_scope.specs.declared.need.Need.TheVariants as needs
+use Rattle.silq_types.specs.declared.need.Need.{Need}
+use Rattle.silq_types.specs.declared.need.Need.TheVariants as needs
 use Rattle.check_scope.specs.Context.{Scope, Check, ◌>>=◌, give_back}
 use Rattle.check_expr.specs.Expression.{expr, lone_wants, single, typed_value, unary_value, binary_value, operands}
 use Rattle.check_scope.specs.Places.{use_place}

@@ -2,21 +2,21 @@
 use Rattle.std.specs.Prelude.{length, suc, ◌≡◌, ℕ, ◌+◌, ◌≤◌, ◌==◌, if◌then◌else◌, List, [], ◌∷◌, Option, Some, None, Ok, ⊤}
 use Rattle.check_scope.specs.Context.{Context, Check}
 use Rattle.check_expr.specs.Expression.{Asked, first_asked, later_asked, exact_place}
-use Rattle.check_scope.specs.Programs.{paired}
-use Rattle.check_scope.specs.Uses.{Found, find_fun}
+use Rattle.silq_types.specs.Programs.{paired}
+use Rattle.silq_types.specs.Calls.{Found, find_fun}
 use Rattle.check_scope.specs.Walk.{Walk, answer, broken, counted, asked}
-use Rattle.check_scope.specs.declared.need.Need.{Need}
+use Rattle.silq_types.specs.declared.need.Need.{Need}
 use Rattle.silq_tree.specs.Syntax.{Function}
 use Rattle.silq_tree.specs.declared.node.NameId.{NameId}
 use Rattle.silq_types.specs.Known.{Signatures}
-use Rattle.silq_types.specs.Types.{Header, header_of}
+use Rattle.silq_mean.specs.Written.{Header, header_of}
 use Rattle.silq_types.specs.declared.signature.InstanceKey.{InstanceKey}
 use Rattle.silq_types.specs.declared.signature.Param.{Param}
 use Rattle.silq_types.specs.declared.signature.Returned.{Returned}
 use Rattle.silq_types.specs.declared.signature.Signature.{Signature}
 use Rattle.silq_types.specs.declared.values.Value.{Value}
 use Rattle.silq_types.specs.declared.values.Var.{Var}
-use Rattle.check_scope.specs.declared.need.Need.TheVariants as needs
+use Rattle.silq_types.specs.declared.need.Need.TheVariants as needs
 
 abbrev pub at_place : ℕ → ℕ → ℕ
 at_place p q = if q == p then 1 else 0

@@ -15,11 +15,13 @@ use Rattle.silq_types.specs.declared.signature.Returned.{Returned}
 use Rattle.silq_types.specs.declared.signature.Signature.{Signature}
 use Rattle.silq_types.specs.Known.{Signatures, signature_of}
 use Rattle.silq_types.specs.Rules.{Fault}
-use Rattle.silq_types.specs.Types.{Statics, quantum, single_shape, scalar_type, is_count, most_items, place_name, place_indices}
+use Rattle.silq_types.specs.Types.{Statics, quantum, single_shape, place_name, place_indices}
+use Rattle.silq_mean.specs.Written.{scalar_type, is_count, most_items}
 use Rattle.check_scope.specs.Context.{Scope, is_known_name, find_var, variable, part_at, indices, part_type}
-use Rattle.check_scope.specs.declared.words.BuiltIn.{BuiltIn}
-use Rattle.check_scope.specs.declared.words.BuiltIn.TheVariants.{Measure, Vector}
-use Rattle.check_scope.specs.Uses.{Found, built_in, find_fun, index_values}
+use Rattle.silq_types.specs.declared.built_in.BuiltIn.{BuiltIn}
+use Rattle.silq_types.specs.declared.built_in.BuiltIn.TheVariants.{Measure, Vector}
+use Rattle.silq_types.specs.Calls.{Found, built_in, find_fun}
+use Rattle.check_scope.specs.Uses.{index_values}
 use Rattle.check_expr.specs.Expression.{binary_shape, repeated}
 
 -- ---- types that come from where an expression stands

@@ -6,9 +6,10 @@ ghost use Rattle.silq_tree.specs.Children.{AreExprsBelow};
 ghost use Rattle.silq_tree.specs.Standing.{expressions_of};
 ghost use Rattle.silq_types.specs.Known.{Signatures};
 ghost use Rattle.silq_types.specs.Rules.{wrong_type, bad_size};
-ghost use Rattle.silq_types.specs.Types.{is_bit as is_bit_shape, is_linear as is_linear_origin, is_count as is_count_up_to, most_items, count};
+ghost use Rattle.silq_types.specs.Types.{is_bit as is_bit_shape, is_linear as is_linear_origin, count};
+ghost use Rattle.silq_mean.specs.Written.{is_count as is_count_up_to, most_items};
 ghost use Rattle.static_num.specs.Static.{is_static as is_static_expression};
-ghost use Rattle.check_scope.specs.declared.need.Need.TheVariants as needs;
+ghost use Rattle.silq_types.specs.declared.need.Need.TheVariants as needs;
 ghost use Rattle.check_scope.specs.declared.fault.CheckFault.TheVariants as checks;
 ghost use Rattle.check_scope.specs.declared.fault.ExprFault.TheVariants as stops;
 ghost use Rattle.check_expr.specs.Asks.{asked_as};
@@ -24,14 +25,12 @@ use crate::values::{alone, broken, is_static, one_value, static_number};
 use check_scope::context::Context;
 use check_scope::fault::{CheckFault, ExprFault};
 use check_scope::library::Library;
-use check_scope::need::Need;
 use check_scope::obey::obey;
 use check_scope::places::known_names;
 use check_scope::rule;
-use check_scope::words::BuiltIn;
 use silq_io::What;
 use silq_tree::{Expr, ExprId, Mark, Spot, Tree};
-use silq_types::{Known, Origin, Scalar, Shape, Ty, Value};
+use silq_types::{BuiltIn, Known, Need, Origin, Scalar, Shape, Ty, Value};
 use std::alloc::Global;
 
 /// The fault of something that is not supported.

@@ -4,11 +4,11 @@ ghost use Rattle.std.specs.Prelude.{◌<◌, length, IfOk, IfErr};
 ghost use Rattle.silq_tree.specs.Arena.{expr_at};
 ghost use Rattle.silq_tree.specs.Children.{AreExprsBelow};
 ghost use Rattle.silq_tree.specs.Standing.{expressions_of};
-ghost use Rattle.check_scope.specs.declared.need.Need.TheVariants as needs;
+ghost use Rattle.silq_types.specs.declared.need.Need.TheVariants as needs;
 ghost use Rattle.check_expr.specs.Expression.{call_found, arguments, later_arguments};
 ghost use Rattle.check_scope.specs.State.{scope_in};
 ghost use Rattle.check_scope.specs.Steps.{Reads, Stops};
-ghost use Rattle.check_scope.specs.Uses.{built_in, find_fun};
+ghost use Rattle.silq_types.specs.Calls.{built_in, find_fun};
 
 use crate::built_in::call_built_in;
 use crate::expr::ValueList;
@@ -17,10 +17,9 @@ use crate::values::broken;
 use check_scope::context::Context;
 use check_scope::fault::ExprFault;
 use check_scope::library::Library;
-use check_scope::need::Need;
 use check_scope::rule;
 use silq_tree::{ExprId, NameId, Spot};
-use silq_types::Known;
+use silq_types::{Known, Need};
 
 /// The values of a call of the function with this name.
 #[cycle(expression)]

@@ -7,7 +7,7 @@ ghost use Rattle.silq_tree.specs.Standing.{expressions_of, place_of, scalar_of};
 ghost use Rattle.silq_types.specs.Known.{Signatures};
 ghost use Rattle.check_scope.specs.declared.fault.CheckFault.TheVariants as checks;
 ghost use Rattle.check_scope.specs.declared.fault.ExprFault.TheVariants as stops;
-ghost use Rattle.check_scope.specs.declared.need.Need.TheVariants as needs;
+ghost use Rattle.silq_types.specs.declared.need.Need.TheVariants as needs;
 ghost use Rattle.check_expr.specs.Asks.{asked_as, all_asked, types_of};
 ghost use Rattle.check_expr.specs.Expression.{expr as expr_of, arguments as arguments_of, asked_of_items, first_asked, lone_need as need_alone, lone_wants as wants_alone};
 ghost use Rattle.check_scope.specs.Faults.{stop_as};
@@ -25,12 +25,11 @@ use crate::values::{
 use check_scope::context::Context;
 use check_scope::fault::{CheckFault, ExprFault};
 use check_scope::library::Library;
-use check_scope::need::Need;
 use check_scope::places::use_place;
 use check_scope::rule;
 use silq_tree::node::{PlaceNode, ScalarNode};
 use silq_tree::{BinaryOp, Expr, ExprId, Spot, UnaryOp};
-use silq_types::{Known, List, Shape, Ty, Value};
+use silq_types::{Known, List, Need, Shape, Ty, Value};
 use std::alloc::Global;
 
 /// The values of an expression; a call or a tuple may have none or several.

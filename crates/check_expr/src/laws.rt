@@ -3,7 +3,7 @@
 ghost use Rattle.std.specs.Prelude.{ℕ, ◌+◌, List};
 ghost use Rattle.silq_tree.specs.Syntax.{Expression};
 ghost use Rattle.silq_types.specs.declared.types.Ty.{Ty as Types};
-ghost use Rattle.check_scope.specs.declared.need.Need.{Need as Needs};
+ghost use Rattle.silq_types.specs.declared.need.Need.{Need as Needs};
 ghost use Rattle.check_scope.specs.Context.{Scope};
 ghost use Rattle.check_expr.specs.Expression.{expr};
 ghost use Rattle.check_expr.specs.Owners.{Sole, handed, ProperFor, Ensures};

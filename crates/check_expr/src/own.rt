@@ -4,16 +4,18 @@ ghost use Rattle.std.specs.Prelude.{◌≡◌, ◌<◌, ◌==◌, ◌&&◌, not,
 ghost use Rattle.silq_tree.specs.Children.{AreExprsBelow};
 ghost use Rattle.silq_types.specs.Known.{Signatures};
 ghost use Rattle.silq_types.specs.Rules.{against_mark, measured_in_branch, not_static, wrong_type, consumed_twice, consumed_and_held};
-ghost use Rattle.silq_types.specs.Types.{count, header_of};
+ghost use Rattle.silq_types.specs.Types.{count};
+ghost use Rattle.silq_mean.specs.Written.{header_of};
 ghost use Rattle.check_expr.specs.Asks.{asked_as, all_asked};
 ghost use Rattle.check_expr.specs.Calls.{items, walk_of, instance_values as values_of_instance};
 ghost use Rattle.check_scope.specs.Context.{rules, of_result};
 ghost use Rattle.check_expr.specs.Expression.{is_run_time as is_in_run_time, may_call as mark_may_call, is_qfree as mark_is_qfree, is_unmarked as mark_is_unmarked, natural as rule_of_natural, static_arguments as arguments_static, asked_by, all_lifted as all_are_lifted, result_origin as origin_of_result, placed as value_placed, argument_at as value_at, result_values as values_of_results, lone_linear as is_lone_linear, call_own as call_of_own, exact_place};
-ghost use Rattle.check_scope.specs.Programs.{paired as names_paired};
+ghost use Rattle.silq_types.specs.Programs.{paired as names_paired};
 ghost use Rattle.check_scope.specs.Library.{function_at, found_at};
 ghost use Rattle.check_scope.specs.State.{State, scope_in};
 ghost use Rattle.check_scope.specs.Steps.{Reads, Stops};
-ghost use Rattle.check_scope.specs.Uses.{argument_uses, param_need, some_pair, both_consume, consume_and_hold};
+ghost use Rattle.check_scope.specs.Uses.{argument_uses, some_pair, both_consume, consume_and_hold};
+ghost use Rattle.silq_types.specs.Calls.{param_need};
 
 use crate::asked::Ask;
 use crate::built_in::{is_linear, mark_of, unnamed_rule};
@@ -24,14 +26,13 @@ use check_scope::context::Context;
 use check_scope::fault::ExprFault;
 use check_scope::header::{Header, header_types};
 use check_scope::library::Library;
-use check_scope::need::Need;
 use check_scope::obey::obey;
 use check_scope::places::needed;
 use check_scope::rule;
 use check_scope::spots::spot_of;
 use check_scope::uses::{UseList, argument_parts, consume_held, consume_twice, needs_of_own};
 use silq_tree::{ExprId, FunId, Mark, NameId, Spot};
-use silq_types::{InstanceKey, Known, List, Origin, Param, Returned, StaticList, Ty, Value};
+use silq_types::{InstanceKey, Known, List, Need, Origin, Param, Returned, StaticList, Ty, Value};
 use static_num::Statics;
 use std::alloc::{AllocError, Global};
 

@@ -19,8 +19,8 @@ use Rattle.check_scope.specs.State.{State, scope_in, context_of}
 use Rattle.check_fun.specs.Statement.{assign_name, assigned, made_linear, with_origin}
 use Rattle.check_fun.specs.Stepping.{spread_to}
 use Rattle.check_scope.specs.declared.fault.CheckFault.{CheckFault}
-use Rattle.check_scope.specs.declared.need.Need.{Need}
-use Rattle.check_scope.specs.declared.need.Need.TheVariants as needs
+use Rattle.silq_types.specs.declared.need.Need.{Need}
+use Rattle.silq_types.specs.declared.need.Need.TheVariants as needs
 use Rattle.check_expr.proofs.Alike.{same_part_refl, some_same}
 use Rattle.check_expr.proofs.Owners.{found_part}
 use Rattle.check_fun.proofs.Counted.{runs_bind, runs_then, fails_bind, fails_then, fails_later, fails_after}

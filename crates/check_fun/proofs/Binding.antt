@@ -5,7 +5,7 @@ use Rattle.std.proofs.lemmas.List.{drop_more, at_drop_all}
 use Rattle.silq_tree.specs.declared.node.NameId.{NameId}
 use Rattle.silq_tree.specs.declared.node.Spot.{Spot}
 use Rattle.silq_types.specs.Rules.{rule, Fault, name_taken, held_changed, condition_changed, linear_left, result_count}
-use Rattle.silq_types.specs.Types.{value_of}
+use Rattle.silq_mean.specs.Written.{value_of}
 use Rattle.silq_types.specs.declared.values.Value.{Value}
 use Rattle.silq_types.specs.declared.values.Var.{Var}
 use Rattle.check_scope.specs.Walk.{Counts, Checker, with_counts}

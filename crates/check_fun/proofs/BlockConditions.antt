@@ -17,7 +17,7 @@ use Rattle.check_fun.specs.Statement.{condition}
 use Rattle.check_scope.specs.Uses.{uses, parts_of}
 use Rattle.check_fun.specs.Counting.{Stays, Runs, Fails, checker_at}
 use Rattle.check_scope.specs.declared.fault.CheckFault.{CheckFault}
-use Rattle.check_scope.specs.declared.need.Need.TheVariants as needs
+use Rattle.silq_types.specs.declared.need.Need.TheVariants as needs
 use Rattle.check_fun.proofs.BlockSteps.{same_scope_after}
 use Rattle.check_fun.proofs.Counted.{runs_bind, runs_then, runs_back, runs_variables, fails_bind, fails_then, fails_later}
 

@@ -16,7 +16,7 @@ use Rattle.check_scope.specs.Context.{Scope, Check, ◌>>=◌, ◌>>◌, rules, 
 use Rattle.check_fun.specs.Branches.{round_of}
 use Rattle.check_scope.specs.State.{State}
 use Rattle.check_fun.specs.Statement.{rounds, any_name, is_static_param}
-use Rattle.check_scope.specs.Programs.{distance}
+use Rattle.silq_types.specs.Programs.{distance}
 use Rattle.check_fun.specs.Counting.{Runs, Fails, loop_step}
 use Rattle.check_scope.specs.declared.fault.CheckFault.{CheckFault}
 use Rattle.check_fun.proofs.BlockRounds.{empty_rounds}

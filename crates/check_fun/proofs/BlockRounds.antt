@@ -15,7 +15,8 @@ use Rattle.static_num.specs.Static.{is_static, eval_of, is_true}
 use Rattle.static_num.specs.declared.values.StaticFault.{StaticFault}
 use Rattle.static_num.specs.declared.values.StaticFault.TheVariants.{NotStatic}
 use Rattle.silq_types.specs.Rules.{Fault, rule, not_static}
-use Rattle.silq_types.specs.Types.{needed_at, at, or_not_static}
+use Rattle.silq_mean.specs.Written.{needed_at, or_not_static}
+use Rattle.silq_types.specs.Types.{at}
 use Rattle.silq_types.specs.declared.values.Part.{Part}
 use Rattle.silq_types.specs.declared.values.Var.{Var}
 use Rattle.check_scope.specs.declared.uses.Use.{Use}
@@ -27,7 +28,7 @@ use Rattle.check_scope.specs.Library.{Shelf}
 use Rattle.check_fun.specs.Branches.{run_time_choice, taken_branch, round_of}
 use Rattle.check_fun.specs.Counting.{Stays, Runs, Fails, checker_at, choice_step}
 use Rattle.check_fun.specs.Statement.{stmts, otherwise, otherwise_end, plain_block, none_left, end_from, branch, both, condition, under, with_static, rounds, chosen}
-use Rattle.check_scope.specs.Programs.{distance}
+use Rattle.silq_types.specs.Programs.{distance}
 use Rattle.check_scope.specs.declared.fault.CheckFault.{CheckFault}
 use Rattle.check_scope.specs.declared.fault.CheckFault.TheVariants as checks
 use Rattle.check_fun.proofs.BlockSteps.{Ahead, ahead_then, ahead_stops, same_scope_after, same_checker_after}

@@ -14,7 +14,8 @@ use Rattle.silq_tree.specs.Syntax.{Expression, Statement, Statements, done, next
 use Rattle.silq_types.specs.Rules.{Fault, rule, and_then, over}
 use Rattle.silq_io.specs.declared.limit.LimitKind.TheVariants.{Walked}
 use Rattle.silq_types.specs.Known.{Signatures}
-use Rattle.silq_types.specs.Types.{at, needed_at, first_unknown, names}
+use Rattle.silq_types.specs.Types.{at, first_unknown, names}
+use Rattle.silq_mean.specs.Written.{needed_at}
 use Rattle.silq_types.specs.declared.signature.InstanceKey.{InstanceKey}
 use Rattle.check_scope.specs.Walk.{Walk, answer, broken, counted, asked, bind, Stop, fault, wanted, with_known, Counts, Checker, with_counts}
 use Rattle.check_scope.specs.Context.{Scope, Context, Check, ◌>>=◌, ◌>>◌, give_back, pass, fail, of_result, rules, variables, count_statement, unknown_at, known_names, needed, is_known_name}

@@ -6,14 +6,15 @@ use Rattle.check_expr.proofs.Owners.{Hand, o_bind, o_then, o_more, o_from, o_bac
 use Rattle.check_scope.specs.Context.{Scope, Context, Check, ◌>>=◌, ◌>>◌, rules, variables, put_variables, new_place, count_statement, replace, same_part, find_var, is_variable, variable, part_at}
 use Rattle.check_expr.specs.Expression.{is_tuple, lone_need, lone_wants, some_linear, expr, single}
 use Rattle.check_expr.specs.Owners.{at_place, owns, owners, owned, Sole, handed, ProperFor, Ensures}
-use Rattle.check_scope.specs.declared.need.Need.{Need}
+use Rattle.silq_types.specs.declared.need.Need.{Need}
 use Rattle.check_fun.specs.Statement.{bound, bind_name, bind_names, assigned, assign_name, one_suits, static_updated, assign_part, assign_to, target, target_of, target_type, Target, taken_out, made_linear, with_origin, update_part, forget_name, end_var, phase_of, angle_rule, first_type, returned, none_left, end_from, plain_block, none_changed, branch, joined, both, under, with_static, chosen, condition, rounds, stmt, stmts, forget_as, otherwise, otherwise_end}
-use Rattle.check_scope.specs.Programs.{distance}
+use Rattle.silq_types.specs.Programs.{distance}
 use Rattle.silq_tree.specs.Syntax.{Expression, Statement, assign, spread, update, forget, forget_value, phase, choice, loop, call, block, Statements, done, next, Place, whole, part, part_of_part, return_nothing, return_value, Otherwise, else_block, else_choice}
 use Rattle.silq_tree.specs.declared.node.NameId.{NameId}
 use Rattle.silq_tree.specs.declared.node.Spot.{Spot}
 use Rattle.silq_tree.specs.declared.node.UpdateOp.{UpdateOp}
-use Rattle.silq_types.specs.Types.{at, needed_at, is_linear, place_name, place_indices}
+use Rattle.silq_types.specs.Types.{at, is_linear, place_name, place_indices}
+use Rattle.silq_mean.specs.Written.{needed_at}
 use Rattle.silq_types.specs.declared.signature.InstanceKey.{InstanceKey}
 use Rattle.silq_types.specs.declared.signature.Signature.{Signature}
 use Rattle.silq_types.specs.declared.types.Ty.{Ty}
@@ -24,7 +25,7 @@ use Rattle.silq_types.specs.declared.values.Var.{Var}
 use Rattle.static_num.specs.Angle.{angle_of}
 use Rattle.static_num.specs.Static.{is_static, is_true}
 use Rattle.static_num.specs.declared.angles.AngleFault.{AngleFault}
-use Rattle.check_scope.specs.declared.need.Need.TheVariants as needs
+use Rattle.silq_types.specs.declared.need.Need.TheVariants as needs
 use Rattle.static_num.specs.declared.angles.AngleFault.TheVariants as angles
 
 abbrev pub Z : ℕ → ℕ

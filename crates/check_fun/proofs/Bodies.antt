@@ -6,10 +6,10 @@ use Rattle.std.proofs.lemmas.Bool.{eqb-true, eq-eqb}
 use Rattle.check_expr.proofs.Alike.{some_same, same_key_same}
 use Rattle.check_expr.proofs.Owners.{gives-bind, o_bind, o_then, o_back, o_fail, o_rules, o_from}
 use Rattle.check_scope.specs.Context.{Scope, Context, ◌>>◌}
-use Rattle.check_scope.specs.declared.words.BuiltIn.{BuiltIn}
-use Rattle.check_scope.specs.Programs.{paired}
+use Rattle.silq_types.specs.declared.built_in.BuiltIn.{BuiltIn}
+use Rattle.silq_types.specs.Programs.{paired}
 use Rattle.check_expr.specs.Owners.{owners, owned, Sole, Proper, ProperFor, Gives, Ensures, fun_at, IsProper, AreProper}
-use Rattle.check_scope.specs.Uses.{Found, find_fun}
+use Rattle.silq_types.specs.Calls.{Found, find_fun}
 use Rattle.check_scope.specs.Walk.{Walk, answer, broken, counted, asked, Met, known, limited, new, meet, Counts, Checker, known_or_checked, with_counts, most_walked}
 use Rattle.check_fun.proofs.Blocks.{Z, s_stmt, s_returned, s_end_from, s_count}
 use Rattle.check_fun.proofs.Given.{returned-proper}
@@ -22,7 +22,8 @@ use Rattle.silq_tree.specs.declared.node.NameId.{NameId}
 use Rattle.silq_tree.specs.declared.node.Spot.{Spot}
 use Rattle.silq_types.specs.Known.{Signatures, same_key, signature_of}
 use Rattle.silq_types.specs.Rules.{and_then, over}
-use Rattle.silq_types.specs.Types.{Header, header_of, same_name}
+use Rattle.silq_mean.specs.Written.{Header, header_of}
+use Rattle.silq_types.specs.Types.{same_name}
 use Rattle.silq_types.specs.declared.signature.InstanceKey.{InstanceKey}
 use Rattle.silq_types.specs.declared.signature.Param.{Param}
 use Rattle.silq_types.specs.declared.signature.Signature.{Signature}

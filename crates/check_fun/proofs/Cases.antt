@@ -13,8 +13,8 @@ use Rattle.static_num.specs.Angle.{is_turn, fraction, divisor}
 use Rattle.silq_types.specs.Rules.{Fault, rule, unsupported, over}
 use Rattle.check_fun.specs.Program.{Accepted, check}
 use Rattle.check_scope.specs.Context.{◌>>=◌, ◌>>◌, rules}
-use Rattle.check_scope.specs.declared.words.BuiltIn.{BuiltIn}
-use Rattle.check_scope.specs.declared.words.BuiltIn.TheVariants.{HGate, XGate, ZGate, YGate, Dup, Measure, Vector, RotateX}
+use Rattle.silq_types.specs.declared.built_in.BuiltIn.{BuiltIn}
+use Rattle.silq_types.specs.declared.built_in.BuiltIn.TheVariants.{HGate, XGate, ZGate, YGate, Dup, Measure, Vector, RotateX}
 
 abbrev at0 : Spot
 at0 = record { line = 1; col = 1 }

@@ -11,7 +11,7 @@ use Rattle.silq_tree.specs.Syntax.{Function}
 use Rattle.silq_tree.specs.Arena.{nothing, fun_at}
 use Rattle.check_fun.specs.Entry.{number_from}
 use Rattle.check_scope.specs.Library.{Shelf, functions_of, function_at, before_at}
-use Rattle.check_scope.specs.Programs.{earlier_than}
+use Rattle.silq_types.specs.Programs.{earlier_than}
 
 -- ---- names
 

@@ -12,9 +12,9 @@ use Rattle.check_scope.specs.Faults.{fault_as}
 use Rattle.check_scope.specs.Headers.{spot_or}
 use Rattle.check_scope.specs.Library.{Shelf, functions_of, function_at, before_at, found_at}
 use Rattle.check_fun.specs.Program.{Accepted, all_headers, check_one, instances, entry_rules, check_entry}
-use Rattle.check_scope.specs.Programs.{Program, earlier_than}
+use Rattle.silq_types.specs.Programs.{Program, earlier_than}
 use Rattle.check_scope.specs.Steps.{IsFirst}
-use Rattle.check_scope.specs.Uses.{find_fun}
+use Rattle.silq_types.specs.Calls.{find_fun}
 use Rattle.check_scope.specs.Walk.{Counts}
 use Rattle.check_scope.specs.declared.fault.CheckFault.{CheckFault}
 use Rattle.check_expr.proofs.Alike.{same_key_refl}

@@ -5,8 +5,8 @@ use native.Mathlib.Omega.{arith}
 use Rattle.std.proofs.lemmas.List.{append_assoc, append-nil}
 use Rattle.std.proofs.lemmas.Bool.{eqb-true, ltb-false, le-ltb}
 use Rattle.check_expr.proofs.Alike.{same_key_refl, same_key_fun}
-use Rattle.check_scope.specs.declared.words.BuiltIn.{BuiltIn}
-use Rattle.check_scope.specs.Programs.{paired}
+use Rattle.silq_types.specs.declared.built_in.BuiltIn.{BuiltIn}
+use Rattle.silq_types.specs.Programs.{paired}
 use Rattle.check_scope.specs.Reading.{Steady}
 use Rattle.check_scope.specs.Walk.{Walk, answer, broken, counted, asked, Met, known, limited, new, met_as, meet, too_deep, most_instances, Counts, Checker, known_or_checked, with_counts, most_walked}
 use Rattle.check_fun.specs.Program.{instance_walk, kept, check_one, instances}
@@ -16,7 +16,7 @@ use Rattle.silq_tree.specs.declared.node.NameId.{NameId}
 use Rattle.silq_tree.specs.declared.node.Spot.{Spot}
 use Rattle.silq_types.specs.Known.{Signatures, same_key, signature_of}
 use Rattle.silq_types.specs.Rules.{and_then, over}
-use Rattle.silq_types.specs.Types.{header_of}
+use Rattle.silq_mean.specs.Written.{header_of}
 use Rattle.silq_types.specs.declared.signature.InstanceKey.{InstanceKey}
 use Rattle.silq_types.specs.declared.signature.Signature.{Signature}
 

@@ -9,11 +9,11 @@ use Rattle.silq_tree.specs.Arena.{nothing, fun_at}
 use Rattle.silq_tree.specs.Syntax.{Function, Parameter}
 use Rattle.silq_types.specs.Rules.{Fault, rule, and_then}
 use Rattle.silq_types.specs.Types.{same_name}
-use Rattle.check_scope.specs.declared.words.BuiltIn.{BuiltIn}
+use Rattle.silq_types.specs.declared.built_in.BuiltIn.{BuiltIn}
 use Rattle.check_scope.specs.Library.{Shelf, functions_of, function_at}
 use Rattle.check_fun.specs.Program.{repeats, shares_name, param_names, header_names, all_headers}
 use Rattle.check_fun.specs.Statement.{any_name}
-use Rattle.check_scope.specs.Uses.{built_in}
+use Rattle.silq_types.specs.Calls.{built_in}
 use Rattle.check_fun.proofs.Taken.{Agree}
 
 -- the four tests on the names of a header

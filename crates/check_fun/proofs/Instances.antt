@@ -13,7 +13,8 @@ use Rattle.silq_tree.specs.declared.node.ParamNode.{ParamNode}
 use Rattle.silq_tree.specs.declared.node.Spot.{Spot}
 use Rattle.silq_types.specs.Known.{Signatures, signature_of}
 use Rattle.silq_types.specs.Rules.{Fault, rule, and_then, unknown_name, lifted_without_result}
-use Rattle.silq_types.specs.Types.{Statics, Header, header_of, header_type, param_types, result_types, is_lifted, is_empty, written_at}
+use Rattle.silq_types.specs.Types.{Statics, is_lifted}
+use Rattle.silq_mean.specs.Written.{Header, header_of, header_type, param_types, result_types, is_empty, written_at}
 use Rattle.silq_types.specs.declared.signature.InstanceKey.{InstanceKey}
 use Rattle.silq_types.specs.declared.signature.Param.{Param}
 use Rattle.silq_types.specs.declared.signature.Signature.{Signature}
@@ -23,7 +24,7 @@ use Rattle.silq_types.specs.declared.values.Var.{Var}
 use Rattle.check_scope.specs.declared.fault.CheckFault.{CheckFault}
 use Rattle.check_scope.specs.Context.{Context, new_place}
 use Rattle.check_fun.specs.Counting.{Runs, Fails, checker_at}
-use Rattle.check_scope.specs.Programs.{paired}
+use Rattle.silq_types.specs.Programs.{paired}
 use Rattle.check_scope.specs.Faults.{fault_as}
 use Rattle.check_scope.specs.Library.{Shelf, functions_of, function_at, before_at}
 use Rattle.check_fun.specs.Program.{instances, check_one, instance_walk, kept, signature_by, with_instance, param_vars, returned_as}

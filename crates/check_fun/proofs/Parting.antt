@@ -16,8 +16,8 @@ use Rattle.check_scope.specs.State.{State, scope_in}
 use Rattle.check_fun.specs.Statement.{Target, target, taken_out, assign_part}
 use Rattle.check_fun.specs.Stepping.{put_back}
 use Rattle.check_scope.specs.declared.fault.CheckFault.{CheckFault}
-use Rattle.check_scope.specs.declared.need.Need.{Need}
-use Rattle.check_scope.specs.declared.need.Need.TheVariants as needs
+use Rattle.silq_types.specs.declared.need.Need.{Need}
+use Rattle.silq_types.specs.declared.need.Need.TheVariants as needs
 use Rattle.check_fun.proofs.Counted.{stays_both, runs_bind, runs_then, runs_variables, fails_bind, fails_later, fails_after}
 use Rattle.check_fun.proofs.Stepped.{same_scope_after, same_checker_after}
 

@@ -10,7 +10,7 @@ use Rattle.silq_types.specs.declared.values.Value.{Value}
 use Rattle.silq_types.specs.Known.{signature_of}
 use Rattle.silq_types.specs.Rules.{Fault, and_then}
 use Rattle.check_scope.specs.declared.fault.CheckFault.{CheckFault}
-use Rattle.check_scope.specs.declared.need.Need.{Need}
+use Rattle.silq_types.specs.declared.need.Need.{Need}
 use Rattle.check_scope.specs.Context.{Context}
 use Rattle.check_fun.specs.Counting.{Runs, Fails, Stays, checker_at}
 use Rattle.check_expr.specs.Expression.{expr}

@@ -4,7 +4,8 @@ use Rattle.std.specs.Prelude.{cond, not, ◌==◌, Option, Some, None, Result, O
 use Rattle.silq_tree.specs.declared.node.Spot.{Spot}
 use Rattle.silq_tree.specs.Syntax.{Expression}
 use Rattle.silq_types.specs.Rules.{Fault, rule, wrong_type, result_count, bad_return}
-use Rattle.silq_types.specs.Types.{at, is_empty}
+use Rattle.silq_types.specs.Types.{at}
+use Rattle.silq_mean.specs.Written.{is_empty}
 use Rattle.silq_types.specs.declared.types.Ty.{Ty}
 use Rattle.silq_types.specs.declared.values.Value.{Value}
 use Rattle.check_scope.specs.Walk.{Counts, Checker, with_counts}
@@ -17,7 +18,7 @@ use Rattle.check_fun.specs.Statement.{first_type, returned, returned_one}
 use Rattle.check_fun.specs.Stepping.{lone_value, misplaced_step, unused_step}
 use Rattle.check_scope.specs.declared.fault.CheckFault.{CheckFault}
 use Rattle.check_scope.specs.declared.fault.CheckFault.TheVariants as checks
-use Rattle.check_scope.specs.declared.need.Need.TheVariants as needs
+use Rattle.silq_types.specs.declared.need.Need.TheVariants as needs
 use Rattle.check_fun.proofs.Counted.{runs_back, runs_bind, runs_then, fails_bind, fails_then, fails_later, fails_after}
 use Rattle.check_fun.proofs.Stepped.{fails_broken, runs_tested, fails_tested}
 

@@ -10,7 +10,7 @@ use Rattle.static_num.specs.Static.{is_static, value, in_range}
 use Rattle.static_num.specs.Angle.{is_turn, fraction, divisor}
 use Rattle.silq_types.specs.Rules.{Fault, rule, unsupported, over, and_then}
 use Rattle.check_fun.specs.Program.{Accepted, check}
-use Rattle.check_scope.specs.Programs.{Program}
+use Rattle.silq_types.specs.Programs.{Program}
 use Rattle.silq_io.specs.declared.fault.What.TheVariants.{Angle}
 use Rattle.silq_io.specs.declared.limit.LimitKind.TheVariants.{Walked, Instances, Depth}
 use Rattle.silq_types.specs.declared.types.Ty.{Ty}
@@ -18,8 +18,8 @@ use Rattle.silq_types.specs.declared.types.Shape.TheVariants.{Bit, UInt}
 use Rattle.check_scope.specs.Walk.{Met, limited, new, met_as, Counts, with_counts, counted}
 use Rattle.check_scope.specs.Walk as walk
 use Rattle.check_scope.specs.Context.{◌>>=◌, ◌>>◌, rules}
-use Rattle.check_scope.specs.declared.words.BuiltIn.{BuiltIn}
-use Rattle.check_scope.specs.declared.words.BuiltIn.TheVariants.{HGate, XGate, Dup, Measure}
+use Rattle.silq_types.specs.declared.built_in.BuiltIn.{BuiltIn}
+use Rattle.silq_types.specs.declared.built_in.BuiltIn.TheVariants.{HGate, XGate, Dup, Measure}
 
 -- ---- short spellings
 

@@ -18,7 +18,7 @@ use Rattle.check_scope.specs.Library.{Shelf}
 use Rattle.check_scope.specs.State.{State, scope_in}
 use Rattle.check_fun.specs.Statement.{Target, target, update_part, forget_as, static_updated, consumed_there, has_name, needs_number, end_var}
 use Rattle.check_scope.specs.declared.fault.CheckFault.{CheckFault}
-use Rattle.check_scope.specs.declared.need.Need.TheVariants as needs
+use Rattle.silq_types.specs.declared.need.Need.TheVariants as needs
 use Rattle.check_fun.proofs.Counted.{runs_bind, runs_then, runs_variables, fails_bind, fails_then, fails_later, fails_after}
 use Rattle.check_fun.proofs.Stepped.{same_scope_after}
 

@@ -8,7 +8,7 @@ use Rattle.silq_types.specs.declared.signature.InstanceKey.{InstanceKey}
 use Rattle.silq_types.specs.declared.signature.Signature.{Signature}
 use Rattle.silq_tree.specs.declared.node.NameId.{NameId}
 use Rattle.silq_tree.specs.Syntax.{Function}
-use Rattle.check_scope.specs.declared.words.BuiltIn.{BuiltIn}
+use Rattle.silq_types.specs.declared.built_in.BuiltIn.{BuiltIn}
 use Rattle.check_scope.specs.Walk.{Walk, answer, broken, counted, asked, Met, known, limited, new, meet, Stop, fault, wanted, known_or_stop, with_known, Counts, met_as, too_deep, most_instances}
 use Rattle.silq_io.specs.declared.limit.LimitKind.TheVariants.{Depth, Instances}
 use Rattle.std.proofs.lemmas.Bool.{ltb-false}

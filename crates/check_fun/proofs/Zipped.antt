@@ -8,7 +8,7 @@ use Rattle.silq_types.specs.declared.types.Ty.{Ty}
 use Rattle.silq_types.specs.declared.values.Value.{Value}
 use Rattle.silq_tree.specs.Syntax.{Parameter}
 use Rattle.check_scope.specs.Context.{variable}
-use Rattle.check_scope.specs.Programs.{paired}
+use Rattle.silq_types.specs.Programs.{paired}
 use Rattle.check_fun.specs.Program.{given_on, returned_as, param_vars, param_origin}
 use Rattle.std.proofs.lemmas.Bool.{eqb-true, leb-true, leb-false}
 use Rattle.std.proofs.lemmas.List.{drop_more, drop_all, append_assoc, append-nil}

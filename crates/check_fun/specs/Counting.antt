@@ -5,11 +5,12 @@ use Rattle.silq_tree.specs.declared.node.Spot.{Spot}
 use Rattle.silq_tree.specs.Syntax.{Expression, Block, block, Otherwise}
 use Rattle.static_num.specs.Static.{is_static}
 use Rattle.silq_types.specs.Rules.{Fault, name_taken}
-use Rattle.silq_types.specs.Types.{needed_at, at}
+use Rattle.silq_mean.specs.Written.{needed_at}
+use Rattle.silq_types.specs.Types.{at}
 use Rattle.check_scope.specs.Walk.{Counts, Checker, with_counts}
 use Rattle.check_scope.specs.Context.{Scope, Check, ◌>>=◌, ◌>>◌, of_result, rules, variables, is_variable, needed}
 use Rattle.check_fun.specs.Statement.{chosen, plain_block, branch, both, condition, under, with_static, rounds, is_static_param, otherwise, otherwise_end, stmts}
-use Rattle.check_scope.specs.Programs.{distance}
+use Rattle.silq_types.specs.Programs.{distance}
 use Rattle.check_scope.specs.Library.{Shelf, before_at}
 use Rattle.check_scope.specs.State.{State, context_of}
 use Rattle.check_scope.specs.Faults.{fault_as}

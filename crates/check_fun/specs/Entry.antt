@@ -5,7 +5,7 @@ use Rattle.silq_tree.specs.declared.node.NameId.{NameId}
 use Rattle.silq_types.specs.Rules.{Fault, rule, and_then, unknown_name}
 use Rattle.check_scope.specs.Library.{Shelf, functions_of}
 use Rattle.check_fun.specs.Program.{Accepted, all_headers, check}
-use Rattle.check_scope.specs.Programs.{Program}
+use Rattle.silq_types.specs.Programs.{Program}
 
 abbrev pub program_of : Shelf → Program
 program_of l = record { words = l.words; funs = functions_of l }

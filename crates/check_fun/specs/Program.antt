@@ -13,13 +13,14 @@ use Rattle.silq_types.specs.declared.signature.Returned.{Returned}
 use Rattle.silq_types.specs.declared.signature.Signature.{Signature}
 use Rattle.silq_types.specs.declared.signature.InstanceKey.{InstanceKey}
 use Rattle.silq_types.specs.Rules.{Fault, rule, and_then, unknown_name, name_taken, not_static}
-use Rattle.silq_types.specs.Types.{Header, same_name, is_classical, header_of}
+use Rattle.silq_mean.specs.Written.{Header, is_classical, header_of}
+use Rattle.silq_types.specs.Types.{same_name}
 use Rattle.silq_types.specs.Known.{Signatures}
 use Rattle.check_scope.specs.Walk.{Walk, bind, answer, Counts, Checker, with_counts}
 use Rattle.check_scope.specs.Context.{variable}
-use Rattle.check_scope.specs.declared.words.BuiltIn.{BuiltIn}
-use Rattle.check_scope.specs.Uses.{Found, built_in, find_fun}
-use Rattle.check_scope.specs.Programs.{Program, earlier_than, paired}
+use Rattle.silq_types.specs.declared.built_in.BuiltIn.{BuiltIn}
+use Rattle.silq_types.specs.Calls.{Found, built_in, find_fun}
+use Rattle.silq_types.specs.Programs.{Program, earlier_than, paired}
 use Rattle.check_fun.specs.Statement.{any_name, whole_body}
 
 -- ---- headers

@@ -17,10 +17,11 @@ use Rattle.silq_types.specs.declared.values.Value.{Value}
 use Rattle.silq_types.specs.declared.values.Part.{Part}
 use Rattle.silq_types.specs.declared.values.Var.{Var}
 use Rattle.silq_types.specs.Rules.{rule, unsupported, unknown_name, name_taken, wrong_type, used_after_move, held_changed, against_mark, condition_changed, outer_changed, linear_left, not_droppable, bad_forget, bad_return, result_count, bad_update, bad_part, not_static}
-use Rattle.silq_types.specs.Types.{value_of, same_name, place_name, place_indices, shape_eq, ty_eq, is_bit, is_number, is_linear, is_held, is_empty, names, needed_at, at}
-use Rattle.check_scope.specs.declared.need.Need.TheVariants as needs
+use Rattle.silq_mean.specs.Written.{value_of, is_empty, needed_at}
+use Rattle.silq_types.specs.Types.{same_name, place_name, place_indices, shape_eq, ty_eq, is_bit, is_number, is_linear, is_held, names, at}
+use Rattle.silq_types.specs.declared.need.Need.TheVariants as needs
 use Rattle.check_scope.specs.Context.{Scope, Check, ◌>>=◌, ◌>>◌, give_back, pass, fail, of_result, rules, variables, put_variables, new_place, count_statement, part_at, variable, indices, is_in_condition, find_var, same_part, is_variable, replace, is_known_name, part_type, known_names, needed, all_needed}
-use Rattle.check_scope.specs.Programs.{distance}
+use Rattle.silq_types.specs.Programs.{distance}
 use Rattle.check_scope.specs.Uses.{uses, parts_of}
 use Rattle.check_expr.specs.Expression.{is_tuple, lone_need, lone_wants, expr, single, suits, is_qfree, some_linear}
 

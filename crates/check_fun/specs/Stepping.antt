@@ -7,14 +7,15 @@ use Rattle.silq_types.specs.declared.values.Var.{Var}
 use Rattle.silq_tree.specs.declared.node.Spot.{Spot}
 use Rattle.silq_tree.specs.Syntax.{Expression, Statement, assign, spread, update, forget, forget_value, phase, choice, loop, return_nothing, return_value, call, done, next}
 use Rattle.silq_types.specs.Rules.{rule, bad_return, wrong_type, held_changed, condition_changed, result_count, bad_part}
-use Rattle.silq_types.specs.Types.{at, is_held, is_empty}
+use Rattle.silq_types.specs.Types.{at, is_held}
+use Rattle.silq_mean.specs.Written.{is_empty}
 use Rattle.silq_types.specs.declared.types.Ty.{Ty}
 use Rattle.silq_types.specs.declared.values.Part.{Part}
 use Rattle.check_scope.specs.Context.{Scope, Check, ◌>>=◌, ◌>>◌, give_back, fail, count_statement, rules, variables, put_variables, is_in_condition}
 use Rattle.check_expr.specs.Expression.{is_tuple, some_linear, expr, single, suits}
 use Rattle.check_fun.specs.Statement.{Target, assigned, assign_to, update_part, forget_name, forget_as, phase_of, returned, bind_name, one_suits, consumed_there, all_at, with_origin, ended_with, stmt, body}
 use Rattle.check_fun.specs.Counting.{choice_step, loop_step}
-use Rattle.check_scope.specs.declared.need.Need.TheVariants as needs
+use Rattle.silq_types.specs.declared.need.Need.TheVariants as needs
 use Rattle.check_scope.specs.declared.fault.CheckFault.{CheckFault}
 use Rattle.check_scope.specs.declared.fault.CheckFault.TheVariants as checks
 use Rattle.check_scope.specs.declared.fault.ExprFault.{ExprFault}

@@ -14,7 +14,7 @@ ghost use Rattle.check_fun.specs.Statement.{consumed_there as consumed_at, all_a
 ghost use Rattle.check_fun.specs.Stepping.{put_back as back_put, spread_to};
 ghost use Rattle.check_scope.specs.Walk.{Checker, Counts};
 ghost use Rattle.check_scope.specs.declared.fault.CheckFault.TheVariants as checks;
-ghost use Rattle.check_scope.specs.declared.need.Need.TheVariants as needs;
+ghost use Rattle.silq_types.specs.declared.need.Need.TheVariants as needs;
 
 use crate::asking::values;
 use crate::bind::{assigned, is_held, is_linear};
@@ -26,12 +26,11 @@ use check_expr::values::is_tuple;
 use check_scope::context::Context;
 use check_scope::fault::CheckFault;
 use check_scope::library::Library;
-use check_scope::need::Need;
 use check_scope::rule;
 use check_scope::spots::spot_of;
 use silq_tree::node::PlaceNode;
 use silq_tree::{ExprId, NameId, Spot};
-use silq_types::{Origin, Part, Ty, Value, Var};
+use silq_types::{Need, Origin, Part, Ty, Value, Var};
 
 /// How one value is used, where a tuple is misplaced.
 pub(crate) fn lone_consumed(is_tuple: bool) -> Need

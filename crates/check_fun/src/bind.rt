@@ -2,7 +2,8 @@
 
 ghost use Rattle.std.specs.Prelude.{◌≡◌, ◌∷◌, [], None, true, false, is_some, slice_get, IfErr, IfSome, OnOk};
 ghost use Rattle.silq_types.specs.Rules.{rule as rule_at, name_taken, held_changed, condition_changed, linear_left};
-ghost use Rattle.silq_types.specs.Types.{value_of as static_value_of, is_held as held_origin, is_linear as linear_origin};
+ghost use Rattle.silq_mean.specs.Written.{value_of as static_value_of};
+ghost use Rattle.silq_types.specs.Types.{is_held as held_origin, is_linear as linear_origin};
 ghost use Rattle.static_num.specs.Static.{value_of_name};
 ghost use Rattle.check_scope.specs.Context.{rules, find_var, variable, is_in_condition};
 ghost use Rattle.check_fun.specs.Counting.{Runs, Fails};

@@ -12,7 +12,7 @@ ghost use Rattle.check_fun.specs.Branches.{run_time_choice, taken_branch};
 ghost use Rattle.check_scope.specs.Context.{is_variable};
 ghost use Rattle.check_scope.specs.Uses.{uses, parts_of};
 ghost use Rattle.check_scope.specs.declared.fault.CheckFault.TheVariants as checks;
-ghost use Rattle.check_scope.specs.declared.need.Need.TheVariants as needs;
+ghost use Rattle.silq_types.specs.declared.need.Need.TheVariants as needs;
 ghost use Rattle.silq_types.specs.Rules.{not_static};
 ghost use Rattle.silq_types.specs.Types.{at as spot_at, is_bit as is_bit_shape, same_name};
 ghost use Rattle.static_num.specs.Static.{is_true};
@@ -27,12 +27,11 @@ use crate::tally::Tally;
 use check_scope::context::{Context, PartList};
 use check_scope::fault::CheckFault;
 use check_scope::library::Library;
-use check_scope::need::Need;
 use check_scope::rule;
 use check_scope::spots::spot_of;
 use check_scope::uses::uses_of;
 use silq_tree::{Block, Else, ExprId, NameId, Spot, StmtId};
-use silq_types::{Part, Shape, Ty};
+use silq_types::{Need, Part, Shape, Ty};
 use static_num::{StaticFault, eval};
 
 /// Checks statements in turn.

@@ -7,7 +7,7 @@ ghost use Rattle.silq_types.specs.Known.{signature_of};
 ghost use Rattle.check_fun.specs.Entry.{check_named, number_of_name};
 ghost use Rattle.check_scope.specs.Library.{AreFunsBelow};
 ghost use Rattle.check_scope.specs.Steps.{IsFirst};
-ghost use Rattle.check_scope.specs.Words.{words_of};
+ghost use Rattle.silq_types.specs.Words.{words_of};
 
 use crate::entry::{check_entry, name_with_text, unknown_entry};
 use crate::headers::headers;

@@ -12,7 +12,7 @@ ghost use Rattle.check_scope.specs.Library.{functions_of, function_at, found_at}
 ghost use Rattle.check_fun.specs.Program.{has_negative as one_negative, has_classical as one_classical, entry_rules as rules_of_entry, check_entry as entry_of};
 ghost use Rattle.check_scope.specs.declared.fault.CheckFault.TheVariants.{Broken};
 ghost use Rattle.check_scope.specs.Steps.{IsFirst};
-ghost use Rattle.check_scope.specs.Uses.{find_fun};
+ghost use Rattle.silq_types.specs.Calls.{find_fun};
 
 use crate::instance::check_one;
 use crate::tally::Tally;

@@ -3,7 +3,7 @@
 ghost use Rattle.std.specs.Prelude.{◌≡◌, [], length, map, IfOk, OnOk};
 ghost use Rattle.silq_tree.specs.Arena.{expr_at};
 ghost use Rattle.silq_tree.specs.Standing.{param_of};
-ghost use Rattle.check_scope.specs.Programs.{paired};
+ghost use Rattle.silq_types.specs.Programs.{paired};
 ghost use Rattle.check_fun.specs.Program.{param_vars, param_origin as origin_of_param};
 
 use check_scope::context::Context;

@@ -10,7 +10,7 @@ ghost use Rattle.check_fun.specs.Statement.{first_type as type_first, returned a
 ghost use Rattle.check_fun.specs.Stepping.{lone_value};
 ghost use Rattle.check_scope.specs.Walk.{Checker, Counts};
 ghost use Rattle.check_scope.specs.declared.fault.CheckFault.TheVariants as checks;
-ghost use Rattle.check_scope.specs.declared.need.Need.TheVariants as needs;
+ghost use Rattle.silq_types.specs.declared.need.Need.TheVariants as needs;
 
 use crate::asking::values;
 use crate::plain::suits_now;
@@ -21,9 +21,8 @@ use check_expr::values::is_tuple;
 use check_scope::context::Context;
 use check_scope::fault::CheckFault;
 use check_scope::library::Library;
-use check_scope::need::Need;
 use silq_tree::ExprId;
-use silq_types::{List, Ty, TyList, Value};
+use silq_types::{List, Need, Ty, TyList, Value};
 
 /// The types of the results.
 fn wanted(library: &Library, cx: &Context) -> Result<TyList, CheckFault>

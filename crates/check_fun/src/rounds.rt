@@ -8,7 +8,7 @@ ghost use Rattle.check_fun.specs.Branches.{round_of};
 ghost use Rattle.check_fun.specs.Counting.{Runs, Fails, checker_at};
 ghost use Rattle.check_scope.specs.State.{scope_in};
 ghost use Rattle.check_fun.specs.Statement.{rounds as rounds_of};
-ghost use Rattle.check_scope.specs.Programs.{distance};
+ghost use Rattle.silq_types.specs.Programs.{distance};
 
 use crate::block::plain;
 use crate::tally::Tally;

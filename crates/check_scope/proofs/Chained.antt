@@ -11,7 +11,8 @@ use Rattle.silq_types.specs.declared.types.Scalar.{Scalar}
 use Rattle.silq_types.specs.declared.types.Shape.{Shape}
 use Rattle.silq_types.specs.declared.types.Ty.{Ty}
 use Rattle.silq_types.specs.Rules.{Fault, and_then}
-use Rattle.silq_types.specs.Types.{Statics, value_of, all_known, moved_to, first_unknown, scalar_names, size_names, width_of, width_spot, length_of, scalar_by, shape_by, scalar_type, header_type}
+use Rattle.silq_types.specs.Types.{Statics, first_unknown, scalar_names, size_names}
+use Rattle.silq_mean.specs.Written.{value_of, all_known, moved_to, width_of, width_spot, length_of, scalar_by, shape_by, scalar_type, header_type}
 use Rattle.check_scope.specs.Faults.{fault_as}
 use Rattle.check_scope.specs.Reach.{is_in_reach, type_known}
 use Rattle.check_scope.specs.Steps.{IsFirst}

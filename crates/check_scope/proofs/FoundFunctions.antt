@@ -9,7 +9,7 @@ use Rattle.silq_tree.specs.Arena.{Forest, nothing, fun_at, program_at}
 use Rattle.silq_types.specs.Types.{same_name}
 use Rattle.check_scope.specs.Library.{Shelf, functions_of, before_at, found_at, names_at}
 use Rattle.check_scope.specs.NameIndex.{is_name, last_below}
-use Rattle.check_scope.specs.Uses.{find_fun, Found}
+use Rattle.silq_types.specs.Calls.{find_fun, Found}
 use Rattle.check_scope.proofs.NameChains.{found, is_there}
 
 -- the names of one function more

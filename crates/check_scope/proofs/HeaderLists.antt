@@ -16,7 +16,8 @@ use Rattle.silq_tree.proofs.Lists.{exprs_below_front, exprs_below_back}
 use Rattle.silq_types.specs.declared.types.Ty.{Ty}
 use Rattle.silq_types.specs.declared.signature.Param.{Param}
 use Rattle.silq_types.specs.Rules.{Fault, rule, and_then, lifted_without_result}
-use Rattle.silq_types.specs.Types.{Statics, header_type, written_at, is_lifted, is_empty, param_types, result_types, Header, header_of}
+use Rattle.silq_types.specs.Types.{Statics, is_lifted}
+use Rattle.silq_mean.specs.Written.{header_type, written_at, is_empty, param_types, result_types, Header, header_of}
 use Rattle.check_scope.specs.Steps.{IsFirst}
 use Rattle.check_scope.specs.declared.fault.CheckFault.{CheckFault}
 use Rattle.check_scope.proofs.Chained.{then_given, then_first, then_later, first_along}

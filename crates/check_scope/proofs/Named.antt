@@ -5,10 +5,10 @@ use Rattle.std.proofs.lemmas.Bool.Decides.{nat_tests}
 use Rattle.std.proofs.lemmas.Option.{slice_get_within, get_or_from_slice_get}
 use Rattle.silq_tree.specs.declared.node.NameId.{NameId}
 use Rattle.silq_tree.specs.declared.node.FunId.{FunId}
-use Rattle.check_scope.specs.declared.words.BuiltIn.{BuiltIn}
+use Rattle.silq_types.specs.declared.built_in.BuiltIn.{BuiltIn}
 use Rattle.check_scope.specs.Library.{AreFunsBelow}
-use Rattle.check_scope.specs.Uses.{built_in}
-use Rattle.check_scope.specs.Words.{built_ins, named, with_word, words_from}
+use Rattle.silq_types.specs.Calls.{built_in}
+use Rattle.silq_types.specs.Words.{built_ins, named, with_word, words_from}
 
 equal : (a b : ℕ) → a ≡ b → (a == b) ≡ true
 equal a b e = grind (arith, nat_tests)

@@ -14,11 +14,12 @@ use Rattle.silq_tree.specs.Syntax.{Expression, Statement, place, Function}
 use Rattle.silq_tree.specs.Standing.{place_of, part_of, param_of, fun_grown}
 use Rattle.silq_types.specs.declared.values.Var.{Var}
 use Rattle.silq_types.specs.Types.{place_indices}
-use Rattle.check_scope.specs.declared.need.Need.{Need}
-use Rattle.check_scope.specs.declared.need.Need.TheVariants as needs
+use Rattle.silq_types.specs.declared.need.Need.{Need}
+use Rattle.silq_types.specs.declared.need.Need.TheVariants as needs
 use Rattle.check_scope.specs.Context.{Scope, find_var, variable}
 use Rattle.check_scope.specs.Used.{node_need}
-use Rattle.check_scope.specs.Uses.{uses, all_uses, place_use, param_need, needs_of_own}
+use Rattle.check_scope.specs.Uses.{uses, all_uses, place_use}
+use Rattle.silq_types.specs.Calls.{param_need, needs_of_own}
 use Rattle.check_scope.specs.Library.{Shelf, function_at, found_at}
 
 pub part_uses_are : (at : ExprId → Expression) (x : NameId) (i j : Option ExprId) (s : Spot) (sc : Scope) (vars : List Var) (need : Need)

@@ -2,11 +2,12 @@
 use Rattle.std.specs.Prelude.{◌≡◌, refl, Bool, true, false, ◌&&◌, ◌||◌, ◌==◌, List, [], ◌∷◌, length}
 use mathlib.Core.Path.{◌∙◌, ap, sym}
 use native.Mathlib.Omega.{arith}
-use Rattle.check_scope.specs.declared.need.Need.{Need}
-use Rattle.check_scope.specs.declared.need.Need.TheVariants as needs
+use Rattle.silq_types.specs.declared.need.Need.{Need}
+use Rattle.silq_types.specs.declared.need.Need.TheVariants as needs
 use Rattle.check_scope.specs.declared.uses.Use.{Use}
 use Rattle.check_scope.specs.Used.{uses_clash}
-use Rattle.check_scope.specs.Uses.{is_consumed, is_only_held, clash, some_with}
+use Rattle.silq_types.specs.Calls.{is_consumed}
+use Rattle.check_scope.specs.Uses.{is_only_held, clash, some_with}
 
 neither : (b c : Bool) → c ≡ false → ((b && false) || c) ≡ false
 neither true c e = e

@@ -9,10 +9,11 @@ use Rattle.static_num.specs.declared.values.StaticFault.{StaticFault}
 use Rattle.static_num.specs.Static.{eval_of}
 use Rattle.silq_types.specs.declared.values.Part.{Part}
 use Rattle.silq_types.specs.declared.values.Value.{Value}
-use Rattle.silq_types.specs.Types.{Statics, needed_at, place_indices, place_name, at}
+use Rattle.silq_types.specs.Types.{Statics, place_indices, place_name, at}
+use Rattle.silq_mean.specs.Written.{needed_at}
 use Rattle.silq_types.specs.Rules.{unknown_name, not_static}
 use Rattle.silq_types.specs.Known.{Signatures}
-use Rattle.check_scope.specs.declared.need.Need.{Need}
+use Rattle.silq_types.specs.declared.need.Need.{Need}
 use Rattle.check_scope.specs.Context.{Scope, rules, of_result, known_names, needed, all_needed, indices, part_at, variable, is_known_name, find_var}
 use Rattle.check_scope.specs.Places.{use_found, use_place}
 use Rattle.check_scope.specs.State.{State}

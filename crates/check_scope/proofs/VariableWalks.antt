@@ -5,7 +5,8 @@ use Rattle.std.proofs.lemmas.Option.{slice_get_within, slice_get-map, slice_get-
 use Rattle.silq_tree.specs.declared.node.NameId.{NameId}
 use Rattle.silq_types.specs.declared.values.Part.{Part}
 use Rattle.silq_types.specs.declared.values.Var.{Var}
-use Rattle.silq_types.specs.Types.{same_name, is_empty}
+use Rattle.silq_types.specs.Types.{same_name}
+use Rattle.silq_mean.specs.Written.{is_empty}
 use Rattle.check_scope.specs.Context.{same_part, overlaps, indices}
 use Rattle.check_scope.specs.First.{IsFirstAt, IsAbsent}
 use Rattle.check_scope.specs.Kept.{variable_names}

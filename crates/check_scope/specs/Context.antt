@@ -14,9 +14,10 @@ use Rattle.silq_types.specs.declared.values.Var.{Var}
 use Rattle.silq_types.specs.declared.signature.InstanceKey.{InstanceKey}
 use Rattle.silq_types.specs.declared.signature.Signature.{Signature}
 use Rattle.silq_types.specs.Rules.{Fault, rule, unknown_name}
-use Rattle.silq_types.specs.Types.{Statics, value_of, same_name, single_shape, first_unknown, names, needed_at, at}
+use Rattle.silq_types.specs.Types.{Statics, same_name, single_shape, first_unknown, names, at}
+use Rattle.silq_mean.specs.Written.{value_of, needed_at}
 use Rattle.check_scope.specs.Walk.{Walk, answer, broken, counted, asked, bind}
-use Rattle.check_scope.specs.declared.words.BuiltIn.{BuiltIn}
+use Rattle.silq_types.specs.declared.built_in.BuiltIn.{BuiltIn}
 
 -- what a part of a body sees: the names of built-in functions, the earlier functions (the nearest first), its own function and the types of its results, the static values, and the parts that each run-time condition holds
 pub record Scope : Type 0 where

@@ -5,7 +5,6 @@ pub mod Uses
 pub mod Used
 pub mod Reach
 pub mod Reading
-pub mod Words
 pub mod Library
 pub mod Undo
 pub mod Kept
@@ -15,4 +14,3 @@ pub mod State
 pub mod Faults
 pub mod Steps
 pub mod Places
-pub mod Programs

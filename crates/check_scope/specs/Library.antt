@@ -4,8 +4,8 @@ use Rattle.silq_tree.specs.declared.node.NameId.{NameId}
 use Rattle.silq_tree.specs.declared.node.FunId.{FunId}
 use Rattle.silq_tree.specs.Syntax.{Function}
 use Rattle.silq_tree.specs.Arena.{Forest, nothing, program_at}
-use Rattle.check_scope.specs.declared.words.BuiltIn.{BuiltIn}
-use Rattle.check_scope.specs.Uses.{Found}
+use Rattle.silq_types.specs.declared.built_in.BuiltIn.{BuiltIn}
+use Rattle.silq_types.specs.Calls.{Found}
 
 pub record Shelf : Type 0 where
   pub nodes : Forest

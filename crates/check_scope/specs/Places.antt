@@ -9,12 +9,13 @@ use Rattle.silq_types.specs.declared.values.Value.{Value}
 use Rattle.silq_types.specs.declared.values.Part.{Part}
 use Rattle.silq_types.specs.declared.values.Var.{Var}
 use Rattle.silq_types.specs.Rules.{rule, unknown_name, used_after_move, held_changed, condition_changed, bad_part}
-use Rattle.silq_types.specs.Types.{place_name, place_indices, is_held, is_empty}
-use Rattle.check_scope.specs.declared.need.Need.{Need}
-use Rattle.check_scope.specs.declared.need.Need.TheVariants as needs
+use Rattle.silq_types.specs.Types.{place_name, place_indices, is_held}
+use Rattle.silq_mean.specs.Written.{is_empty}
+use Rattle.silq_types.specs.declared.need.Need.{Need}
+use Rattle.silq_types.specs.declared.need.Need.TheVariants as needs
 use Rattle.check_scope.specs.Walk.{answer}
 use Rattle.check_scope.specs.Context.{Scope, Check, ◌>>=◌, ◌>>◌, give_back, fail, rules, variables, new_place, part_at, variable, indices, overlaps, same_part, is_in_condition, find_var, replace, is_known_name, part_type, all_needed}
-use Rattle.check_scope.specs.Uses.{is_consumed}
+use Rattle.silq_types.specs.Calls.{is_consumed}
 
 -- a value with a new place
 abbrev pub new_value : Ty → Origin → Check Value

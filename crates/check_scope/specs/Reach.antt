@@ -4,7 +4,8 @@ use Rattle.silq_tree.specs.declared.node.NameId.{NameId}
 use Rattle.silq_tree.specs.declared.node.Spot.{Spot}
 use Rattle.silq_tree.specs.Syntax.{Expression, ScalarType}
 use Rattle.silq_types.specs.declared.values.Var.{Var}
-use Rattle.silq_types.specs.Types.{Statics, value_of, all_known, moved_to, first_unknown, scalar_names, size_names}
+use Rattle.silq_types.specs.Types.{Statics, first_unknown, scalar_names, size_names}
+use Rattle.silq_mean.specs.Written.{value_of, all_known, moved_to}
 use Rattle.silq_types.specs.Rules.{Fault}
 use Rattle.check_scope.specs.Context.{is_variable}
 

@@ -3,10 +3,11 @@ use Rattle.std.specs.Prelude.{Bool, ◌||◌, if◌then◌else◌, List}
 use Rattle.silq_tree.specs.declared.node.Mark.{Mark}
 use Rattle.silq_tree.specs.declared.node.ParamNode.{ParamNode}
 use Rattle.silq_types.specs.Types.{is_lifted}
-use Rattle.check_scope.specs.declared.need.Need.{Need}
-use Rattle.check_scope.specs.declared.need.Need.TheVariants as needs
+use Rattle.silq_types.specs.declared.need.Need.{Need}
+use Rattle.silq_types.specs.declared.need.Need.TheVariants as needs
 use Rattle.check_scope.specs.declared.uses.Use.{Use}
-use Rattle.check_scope.specs.Uses.{is_consumed, is_only_held, both_consume, consume_and_hold}
+use Rattle.silq_types.specs.Calls.{is_consumed}
+use Rattle.check_scope.specs.Uses.{is_only_held, both_consume, consume_and_hold}
 
 -- whether a use is of this kind
 abbrev pub is_used : Need → Need → Bool

@@ -1,71 +1,20 @@
 -- The parts that an expression names, read without checking it: each held or consumed.
-use Rattle.std.specs.Prelude.{ℕ, Bool, true, false, not, ◌&&◌, ◌||◌, if◌then◌else◌, List, [], ◌∷◌, ◌++◌, length, map, Option, Some, None, is_some, Result, Ok, ℤ}
+use Rattle.std.specs.Prelude.{Bool, false, not, ◌&&◌, ◌||◌, if◌then◌else◌, List, [], ◌∷◌, ◌++◌, map, Option, Some, None, is_some, Result, Ok, ℤ}
 use Rattle.silq_tree.specs.declared.node.NameId.{NameId}
-use Rattle.silq_tree.specs.Syntax.{Expression, Expressions, ScalarType, number, typed_number, truth, pi, place, called, tuple, unary, binary, none, more, bit, uint, int, whole, part, part_of_part, Parameter, Function}
+use Rattle.silq_tree.specs.Syntax.{Expression, Expressions, ScalarType, number, typed_number, truth, pi, place, called, tuple, unary, binary, none, more, bit, uint, int, whole, part, part_of_part}
 use Rattle.static_num.specs.declared.values.StaticFault.{StaticFault}
 use Rattle.static_num.specs.Static.{eval_of}
 use Rattle.silq_types.specs.declared.values.Part.{Part}
 use Rattle.silq_types.specs.declared.values.Var.{Var}
-use Rattle.silq_types.specs.Types.{Statics, same_name, is_lifted}
-use Rattle.check_scope.specs.declared.need.Need.{Need}
+use Rattle.silq_types.specs.Types.{Statics}
+use Rattle.silq_types.specs.Calls.{is_consumed, built_in, find_fun, needs_of_found, first_need, later_needs}
+use Rattle.silq_types.specs.declared.need.Need.{Need}
 use Rattle.check_scope.specs.declared.uses.Use.{Use}
-use Rattle.check_scope.specs.declared.need.Need.TheVariants as needs
+use Rattle.silq_types.specs.declared.need.Need.TheVariants as needs
 use Rattle.check_scope.specs.Context.{Scope, part_at, variable, overlaps, find_var, part_type}
-use Rattle.check_scope.specs.declared.words.BuiltIn.{BuiltIn}
-use Rattle.check_scope.specs.declared.words.BuiltIn.TheVariants.{HGate, XGate, YGate, ZGate, Measure}
-
-abbrev pub is_consumed : Need → Bool
-is_consumed needs.Consumed = true
-is_consumed needs.Held = false
-
--- ---- functions by name
-
-abbrev pub built_in : List (NameId × BuiltIn) → NameId → Option BuiltIn
-built_in [] f = None
-built_in (w ∷ ws) f = if same_name w.0 f then Some w.1 else built_in ws f
-
--- a function, with its number in the file
-pub record Found : Type 0 where
-  pub number : ℕ
-  pub fun : Function
-
-abbrev pub find_fun : List Function → NameId → Option Found
-find_fun [] f = None
-find_fun (g ∷ gs) f = if same_name g.name f then Some (record { number = length gs; fun = g }) else find_fun gs f
-
-abbrev pub param_is_held : Function → Parameter → Bool
-param_is_held f p = p.held || is_lifted f.mark
-
-abbrev pub param_need : Function → Parameter → Need
-param_need f p = if param_is_held f p then needs.Held else needs.Consumed
-
--- what a call asks of its arguments; past the end of the list they are held
-abbrev pub needs_of_built_in : BuiltIn → List Need
-needs_of_built_in HGate = needs.Consumed ∷ []
-needs_of_built_in XGate = needs.Consumed ∷ []
-needs_of_built_in YGate = needs.Consumed ∷ []
-needs_of_built_in ZGate = needs.Consumed ∷ []
-needs_of_built_in Measure = needs.Consumed ∷ []
-needs_of_built_in b = []
-
-abbrev pub needs_of_own : Option Found → List Need
-needs_of_own None = []
-needs_of_own (Some f) = map (param_need f.fun) f.fun.params
-
-abbrev pub needs_of_found : Option BuiltIn → Option Found → List Need
-needs_of_found (Some b) f = needs_of_built_in b
-needs_of_found None f = needs_of_own f
 
 abbrev pub needs_of : Scope → NameId → List Need
 needs_of sc f = needs_of_found (built_in sc.words f) (find_fun sc.before f)
-
-abbrev pub first_need : List Need → Need
-first_need [] = needs.Held
-first_need (n ∷ ns) = n
-
-abbrev pub later_needs : List Need → List Need
-later_needs [] = []
-later_needs (n ∷ ns) = ns
 
 -- ---- reading
 

@@ -3,7 +3,7 @@
 ghost use Rattle.std.specs.Prelude.{◌≡◌, ◌<◌, ◌≤◌, ◌-◌, ℕ, suc, max, Some, not, [], ◌∷◌, ◌++◌, length, take, slice_get, true, MatchOption, IfOk, IfErr, OnOk, OnErr};
 ghost use Rattle.std.specs.Option.{option_copied};
 ghost use Rattle.silq_types.specs.Known.{Signatures};
-ghost use Rattle.silq_types.specs.Types.{is_empty};
+ghost use Rattle.silq_mean.specs.Written.{is_empty};
 ghost use Rattle.check_scope.specs.Context.{find_var, replace, is_in_condition, is_variable, new_place};
 ghost use Rattle.check_scope.specs.Library.{Shelf};
 ghost use Rattle.check_scope.specs.State.{scope_in};

@@ -5,12 +5,12 @@ ghost use Rattle.silq_tree.specs.Arena.{expr_at, stmt_at};
 ghost use Rattle.silq_tree.specs.Children.{fun_exprs, fun_stmts, AreExprsBelow, AreStmtsBelow};
 ghost use Rattle.silq_tree.specs.Standing.{fun_grown};
 ghost use Rattle.check_scope.specs.Library.{AreFunsBelow, function_at, before_at, found_at, names_at};
-ghost use Rattle.check_scope.specs.Uses.{built_in, find_fun};
-ghost use Rattle.check_scope.specs.Words.{built_ins, named, words_of};
+ghost use Rattle.silq_types.specs.Calls.{built_in, find_fun};
+ghost use Rattle.silq_types.specs.Words.{built_ins, named, words_of};
 
 use crate::name_index::NameIndex;
-use crate::words::BuiltIn;
 use silq_tree::{Fun, FunId, NameId, Names, Program, Tree};
+use silq_types::BuiltIn;
 use std::alloc::{AllocError, Global};
 use std::marker::Model;
 

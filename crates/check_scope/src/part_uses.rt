@@ -2,7 +2,8 @@
 
 ghost use Rattle.std.specs.Prelude.{◌≡◌, ◌&&◌, ◌||◌, not, if◌then◌else◌, Some, IfOk, IfErr};
 ghost use Rattle.silq_types.specs.Known.{Signatures};
-ghost use Rattle.silq_types.specs.Types.{is_empty, is_held as held_origin};
+ghost use Rattle.silq_mean.specs.Written.{is_empty};
+ghost use Rattle.silq_types.specs.Types.{is_held as held_origin};
 ghost use Rattle.check_scope.specs.Context.{find_var, indices, overlaps as overlap_of, same_part as equal_part, part_type as part_type_of, variable as variable_of};
 ghost use Rattle.check_scope.specs.Places.{is_moved as moved_by, disturbs as disturb, move as move_of, unmoved as unmoved_of, use_rules as rules_of_use, use_part as use_of_part, use_found as use_of_found};
 ghost use Rattle.check_scope.specs.Library.{Shelf};
@@ -11,13 +12,12 @@ ghost use Rattle.check_scope.specs.Steps.{Reads, Stops};
 
 use crate::context::Context;
 use crate::fault::{CheckFault, ExprFault};
-use crate::need::Need;
 use crate::obey::obey;
 use crate::part_types::part_type;
 use crate::rule;
 use crate::unknown::variable;
 use silq_tree::Spot;
-use silq_types::{Origin, Part, Ty, Value, Var};
+use silq_types::{Need, Origin, Part, Ty, Value, Var};
 
 /// Whether a use of this type moves the value: a classical one is copied.
 fn is_moved(need: Need, ty: Ty) -> bool

@@ -1,7 +1,7 @@
 //! Parts: which are the same, and which overlap.
 
 ghost use Rattle.std.specs.Prelude.{◌≡◌, ◌&&◌, not};
-ghost use Rattle.silq_types.specs.Types.{is_empty};
+ghost use Rattle.silq_mean.specs.Written.{is_empty};
 ghost use Rattle.check_scope.specs.Context.{indices, is_prefix as prefix_of, listed, overlaps as overlap_of, overlaps_any as overlaps_some, same_index as equal_index, same_part as equal_part};
 
 use silq_types::{Part, Var};

@@ -5,7 +5,8 @@ ghost use Rattle.silq_tree.specs.Arena.{expr_at};
 ghost use Rattle.silq_tree.specs.Children.{place_exprs, scalar_exprs, AreExprsBelow};
 ghost use Rattle.silq_tree.specs.Standing.{expressions_of, place_of, scalar_of};
 ghost use Rattle.silq_tree.specs.Syntax.{place as placed};
-ghost use Rattle.silq_types.specs.Types.{value_of as value_of_name, first_unknown as first_of, names, all_names, scalar_names};
+ghost use Rattle.silq_mean.specs.Written.{value_of as value_of_name};
+ghost use Rattle.silq_types.specs.Types.{first_unknown as first_of, names, all_names, scalar_names};
 ghost use Rattle.check_scope.specs.Reach.{is_in_reach as reached};
 
 use silq_tree::Tree;

@@ -5,7 +5,8 @@ ghost use Rattle.silq_tree.specs.Arena.{expr_at};
 ghost use Rattle.silq_tree.specs.Children.{place_exprs, scalar_exprs, AreExprsBelow, HasFirst};
 ghost use Rattle.silq_tree.specs.Standing.{expressions_of, place_of, scalar_of};
 ghost use Rattle.silq_tree.specs.Syntax.{place as place_tree};
-ghost use Rattle.silq_types.specs.Types.{value_of as value_of_static, first_unknown as unknown_of, names, all_names, scalar_names};
+ghost use Rattle.silq_mean.specs.Written.{value_of as value_of_static};
+ghost use Rattle.silq_types.specs.Types.{first_unknown as unknown_of, names, all_names, scalar_names};
 ghost use Rattle.check_scope.specs.Context.{is_known_name as is_known, variable as variable_of};
 ghost use Rattle.check_scope.specs.State.{scope_in};
 

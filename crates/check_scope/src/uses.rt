@@ -10,18 +10,17 @@ ghost use Rattle.check_scope.specs.Uses.{operand_clash};
 ghost use Rattle.check_scope.specs.Library.{found_at};
 ghost use Rattle.check_scope.specs.State.{scope_in};
 ghost use Rattle.check_scope.specs.Used.{is_used as used, uses_clash, node_need};
-ghost use Rattle.check_scope.specs.Uses.{is_consumed as consumed, uses, all_uses, scalar_uses, place_use, argument_uses, index_values, named_part as part_named, needs_of as asked_by, needs_of_built_in as asked_by_built_in, needs_of_own as asked_by_own, first_need as need_first, later_needs as needs_later, meets as some_meets, clash as some_clash, both_consume, consume_and_hold, some_with as with_some, some_pair};
+ghost use Rattle.silq_types.specs.Calls.{is_consumed as consumed, needs_of_built_in as asked_by_built_in, needs_of_own as asked_by_own, first_need as need_first, later_needs as needs_later};
+ghost use Rattle.check_scope.specs.Uses.{uses, all_uses, scalar_uses, place_use, argument_uses, index_values, named_part as part_named, needs_of as asked_by, meets as some_meets, clash as some_clash, both_consume, consume_and_hold, some_with as with_some, some_pair};
 
 use crate::context::Context;
 use crate::header::is_held;
 use crate::library::Library;
-use crate::need::Need;
 use crate::part_types::part_type;
 use crate::parts::overlaps;
-use crate::words::BuiltIn;
 use silq_tree::node::{Expr, Mark, ParamNode, PlaceNode, ScalarNode};
 use silq_tree::{ExprId, NameId};
-use silq_types::{List, Part, Var};
+use silq_types::{BuiltIn, List, Need, Part, Var};
 use static_num::eval;
 use std::alloc::{AllocError, Global};
 

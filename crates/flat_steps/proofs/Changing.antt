@@ -16,17 +16,17 @@ use Rattle.bit_arith.specs.Does.{Below}
 use Rattle.bit_arith.proofs.Going.{went_then, went_grows}
 use Rattle.bit_arith.proofs.Keeps.{flip_each_x}
 use Rattle.bit_arith.proofs.Listed.{below_more, safe_under}
-use Rattle.flat_build.specs.declared.known.TypedBits.{TypedBits}
-use Rattle.flat_build.specs.declared.known.Known.{Known}
-use Rattle.flat_build.specs.declared.known.Known.TheVariants.{Shown}
-use Rattle.flat_build.specs.State.{Flattening, last, operands_of, typed_as, typed_like, part_shape, part_of, wires_in, are_wires}
-use Rattle.flat_build.specs.Flat.{end_all, known_in, without_name}
-use Rattle.flat_build.specs.Good.{IsShown, IsKnown}
-use Rattle.flat_build.specs.Fine.{IsOf, UpdatesPart, MayChange, without_part}
+use Rattle.flat_form.specs.declared.known.TypedBits.{TypedBits}
+use Rattle.flat_form.specs.declared.known.Known.{Known}
+use Rattle.flat_form.specs.declared.known.Known.TheVariants.{Shown}
+use Rattle.flat_form.specs.State.{Flattening, last, operands_of, typed_as, typed_like, part_shape, part_of, wires_in, are_wires}
+use Rattle.flat_form.specs.Flat.{end_all, known_in, without_name}
+use Rattle.flat_form.specs.Good.{IsShown, IsKnown}
+use Rattle.flat_form.specs.Fine.{IsOf, UpdatesPart, MayChange, without_part}
 use Rattle.flat_steps.specs.Ready.{Ready}
-use Rattle.flat_build.proofs.Kept.{known_last, known_name}
-use Rattle.flat_build.proofs.Giving.{typed_as_known, typed_as_safe, size_of, length-part, wires_part, length-in}
-use Rattle.flat_build.proofs.Goods.{below_targets, last_spared}
+use Rattle.flat_form.proofs.Kept.{known_last, known_name}
+use Rattle.flat_form.proofs.Giving.{typed_as_known, typed_as_safe, size_of, length-part, wires_part, length-in}
+use Rattle.flat_form.proofs.Goods.{below_targets, last_spared}
 use Rattle.flat_steps.specs.Changes.{MayChangeBy, zeroed}
 
 -- ---- ends

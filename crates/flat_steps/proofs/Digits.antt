@@ -7,7 +7,7 @@ use Rattle.flat_mean.specs.Row.{flipped}
 use Rattle.bit_arith.specs.declared.operand.Operand.{Operand}
 use Rattle.bit_arith.specs.declared.operand.Operand.TheVariants.{Const}
 use Rattle.bit_arith.proofs.Adder.{mod_of_sum}
-use Rattle.flat_build.proofs.Digits.{low_step}
+use Rattle.flat_form.proofs.Digits.{low_step}
 
 -- a number modulo 2 * k by its lowest bit and the others
 halves : (a k : ℕ) → 0 < k → a % (2 * k) ≡ a % 2 + 2 * ((a / 2) % k)

@@ -9,10 +9,10 @@ use Rattle.flat_core.specs.Drafts.{with_end}
 use Rattle.bit_arith.specs.Built.{Built, begun}
 use Rattle.bit_arith.specs.Calls.{Building}
 use Rattle.bit_arith.specs.Does.{Below}
-use Rattle.flat_build.specs.declared.known.Known.{Known}
-use Rattle.flat_build.specs.State.{operands_of, wires_in}
-use Rattle.flat_build.specs.Flat.{end_all, wire_lists, joined}
-use Rattle.flat_build.specs.Names.{AllOf}
+use Rattle.flat_form.specs.declared.known.Known.{Known}
+use Rattle.flat_form.specs.State.{operands_of, wires_in}
+use Rattle.flat_form.specs.Flat.{end_all, wire_lists, joined}
+use Rattle.flat_form.specs.Names.{AllOf}
 
 end_append : (e : End) (xs ys : List WireId) (b : Built) → end_all e (xs ++ ys) b ≡ end_all e ys (end_all e xs b)
 end_append e [] ys b = refl

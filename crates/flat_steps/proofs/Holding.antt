@@ -17,16 +17,16 @@ use Rattle.bit_arith.proofs.Grows.{Grows}
 use Rattle.bit_arith.proofs.Going.{refused_on}
 use Rattle.bit_arith.proofs.Listed.{safe_more}
 use Rattle.bit_arith.proofs.Safe.{under_safe}
-use Rattle.flat_build.specs.declared.known.TypedBits.{TypedBits}
-use Rattle.flat_build.specs.declared.known.Known.{Known}
-use Rattle.flat_build.specs.declared.known.Known.TheVariants.{Static, Shown, Lent, Absent}
-use Rattle.flat_build.specs.State.{Flattening, first, last, push, build, are_new, are_wires, wires_in, only_wire, as_they_are, copied, taken}
-use Rattle.flat_build.specs.Flat.{on_wire, repeated}
-use Rattle.flat_build.specs.Good.{Good, IsShown, IsKnown}
-use Rattle.flat_build.specs.Fine.{IsOf, MayTake, Distinct}
-use Rattle.flat_build.proofs.Goods.{last_known}
-use Rattle.flat_build.proofs.Later.{later_read}
-use Rattle.flat_build.proofs.Giving.{Takes, takes_taken, in_made, safe_repeated}
+use Rattle.flat_form.specs.declared.known.TypedBits.{TypedBits}
+use Rattle.flat_form.specs.declared.known.Known.{Known}
+use Rattle.flat_form.specs.declared.known.Known.TheVariants.{Static, Shown, Lent, Absent}
+use Rattle.flat_form.specs.State.{Flattening, first, last, push, build, are_new, are_wires, wires_in, only_wire, as_they_are, copied, taken}
+use Rattle.flat_form.specs.Flat.{on_wire, repeated}
+use Rattle.flat_form.specs.Good.{Good, IsShown, IsKnown}
+use Rattle.flat_form.specs.Fine.{IsOf, MayTake, Distinct}
+use Rattle.flat_form.proofs.Goods.{last_known}
+use Rattle.flat_form.proofs.Later.{later_read}
+use Rattle.flat_form.proofs.Giving.{Takes, takes_taken, in_made, safe_repeated}
 use Rattle.flat_steps.specs.Held.{Held, taking, now_taken}
 
 distinct_different : (ws : List WireId) → Different ws → Distinct ws

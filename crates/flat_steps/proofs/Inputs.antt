@@ -13,8 +13,8 @@ use Rattle.bit_arith.specs.declared.operand.Operand.{Operand}
 use Rattle.bit_arith.specs.Built.{Built, begun, or_later, made, all_made, wires_from}
 use Rattle.bit_arith.specs.Calls.{Building}
 use Rattle.bit_arith.proofs.Grows.{Grows, grows_same, grows_then}
-use Rattle.flat_build.specs.declared.known.Known.{Known}
-use Rattle.flat_build.specs.Flat.{input_wires, inputs}
+use Rattle.flat_form.specs.declared.known.Known.{Known}
+use Rattle.flat_form.specs.Flat.{input_wires, inputs}
 
 -- one input wire more
 abbrev pub input_wire : Built → Built

@@ -8,14 +8,14 @@ use Rattle.bit_arith.specs.Built.{Setting, under}
 use Rattle.bit_arith.specs.Calls.{Targets, no_target, AllSafe}
 use Rattle.bit_arith.proofs.Grows.{all_safe_append, all_safe_front, all_safe_back}
 use Rattle.bit_arith.proofs.Safe.{condition_safe, operands_safe, under_safe}
-use Rattle.flat_build.specs.declared.known.Known.{Known}
-use Rattle.flat_build.specs.declared.known.Known.TheVariants.{Static, Shown, Lent, Absent}
-use Rattle.flat_build.specs.State.{Flattening, first, last, drop_last, only_operand}
-use Rattle.flat_build.specs.Flat.{as_operand, began_at, on_two, on_two_typed}
-use Rattle.flat_build.specs.Names.{AllOf}
-use Rattle.flat_build.specs.Good.{Good, IsKnown}
-use Rattle.flat_build.specs.Fine.{IsOf, FitsTwo, MayJoin}
-use Rattle.flat_build.proofs.Giving.{only_safe, as_operand_known}
+use Rattle.flat_form.specs.declared.known.Known.{Known}
+use Rattle.flat_form.specs.declared.known.Known.TheVariants.{Static, Shown, Lent, Absent}
+use Rattle.flat_form.specs.State.{Flattening, first, last, drop_last, only_operand}
+use Rattle.flat_form.specs.Flat.{as_operand, began_at, on_two, on_two_typed}
+use Rattle.flat_form.specs.Names.{AllOf}
+use Rattle.flat_form.specs.Good.{Good, IsKnown}
+use Rattle.flat_form.specs.Fine.{IsOf, FitsTwo, MayJoin}
+use Rattle.flat_form.proofs.Giving.{only_safe, as_operand_known}
 use Rattle.flat_steps.specs.Joins.{CanJoin}
 
 pub swap_safe : (n : ℕ) (T : Targets) (at : Setting) (ps qs : List Operand) → AllSafe n T (under at (ps ++ qs)) → AllSafe n T (under at (qs ++ ps))

@@ -19,13 +19,13 @@ use Rattle.bit_arith.proofs.Steps.{or_false}
 use Rattle.bit_arith.specs.Does.{Below}
 use Rattle.bit_arith.proofs.Chained.{built_by}
 use Rattle.bit_arith.proofs.Listed.{below_more}
-use Rattle.flat_build.specs.declared.known.TypedBits.{TypedBits}
-use Rattle.flat_build.specs.declared.known.Known.{Known}
-use Rattle.flat_build.specs.declared.known.Known.TheVariants.{Static, Shown, Lent, Absent}
-use Rattle.flat_build.specs.State.{Flattening, push, last, drop_last, build, wires_in, taken}
-use Rattle.flat_build.specs.Flat.{measure_all, end_all, measure_value}
-use Rattle.flat_build.specs.Fine.{Distinct}
-use Rattle.flat_build.proofs.Giving.{below_in}
+use Rattle.flat_form.specs.declared.known.TypedBits.{TypedBits}
+use Rattle.flat_form.specs.declared.known.Known.{Known}
+use Rattle.flat_form.specs.declared.known.Known.TheVariants.{Static, Shown, Lent, Absent}
+use Rattle.flat_form.specs.State.{Flattening, push, last, drop_last, build, wires_in, taken}
+use Rattle.flat_form.specs.Flat.{measure_all, end_all, measure_value}
+use Rattle.flat_form.specs.Fine.{Distinct}
+use Rattle.flat_form.proofs.Giving.{below_in}
 use Rattle.flat_steps.specs.Held.{taking, now_taken, Held}
 use Rattle.flat_steps.proofs.Holding.{shown_is}
 

@@ -5,14 +5,14 @@ use Rattle.silq_mean.specs.declared.receiver.Receiver.TheVariants.{Variable, Arg
 use Rattle.bit_arith.specs.Built.{under}
 use Rattle.bit_arith.specs.Calls.{AllSafe, no_target}
 use Rattle.bit_arith.proofs.Listed.{safe_under}
-use Rattle.flat_build.specs.declared.known.TypedBits.{TypedBits}
-use Rattle.flat_build.specs.declared.known.Known.{Known}
-use Rattle.flat_build.specs.declared.known.Known.TheVariants.{Shown}
-use Rattle.flat_build.specs.State.{Flattening, last}
-use Rattle.flat_build.specs.Flat.{shape_for}
-use Rattle.flat_build.specs.Good.{Good, IsShown, IsKnown}
-use Rattle.flat_build.proofs.Kept.{known_last}
-use Rattle.flat_build.proofs.Giving.{typed_as_known}
+use Rattle.flat_form.specs.declared.known.TypedBits.{TypedBits}
+use Rattle.flat_form.specs.declared.known.Known.{Known}
+use Rattle.flat_form.specs.declared.known.Known.TheVariants.{Shown}
+use Rattle.flat_form.specs.State.{Flattening, last}
+use Rattle.flat_form.specs.Flat.{shape_for}
+use Rattle.flat_form.specs.Good.{Good, IsShown, IsKnown}
+use Rattle.flat_form.proofs.Kept.{known_last}
+use Rattle.flat_form.proofs.Giving.{typed_as_known}
 
 shape_for_known : (n m : ℕ) (r : Receiver) (k : Known) → IsKnown n k → IsKnown n (shape_for r m k)
 shape_for_known n m Variable k h = h

@@ -7,7 +7,7 @@ use Rattle.silq_tree.specs.declared.node.BinaryOp.TheVariants.{Or, And, Eq, Ne, 
 use Rattle.silq_tree.specs.declared.node.UpdateOp.{UpdateOp}
 use Rattle.silq_tree.specs.declared.node.UpdateOp.TheVariants as updates
 use Rattle.silq_types.specs.declared.types.Shape.{Shape}
-use Rattle.check_scope.specs.Uses.{is_consumed}
+use Rattle.silq_types.specs.Calls.{is_consumed}
 use Rattle.silq_io.specs.declared.limit.LimitFault.{LimitFault}
 use Rattle.silq_io.specs.declared.limit.LimitFault.TheVariants.{Memory, Limit}
 use Rattle.silq_io.specs.declared.limit.OverLimit.{OverLimit}
@@ -25,11 +25,11 @@ use Rattle.bit_arith.specs.Rows.{flip, turn, had, measure}
 use Rattle.bit_arith.specs.Calls.{Refused}
 use Rattle.bit_arith.proofs.Grows.{XGrows, new_wire_x, flip_x, turn_x, had_x, measure_grows}
 use Rattle.bit_arith.proofs.Keeps.{copy_x, flip_each_x, sum_x, difference_x, product_x, add_into_x, sub_into_x, both_x, either_x, equal_x, less_x}
-use Rattle.flat_build.specs.declared.known.TypedBits.{TypedBits}
-use Rattle.flat_build.specs.declared.known.Known.{Known}
-use Rattle.flat_build.specs.declared.known.Known.TheVariants.{Static, Shown, Lent, Absent}
-use Rattle.flat_build.specs.State.{Caller, Flattening, last, drop_last, wires_so_far, operands_of, is_signed, typed_as, typed_like, part_shape, part_of, are_wires, are_new, as_they_are, copied, taken, kept, wires_in, only_wire, only_operand}
-use Rattle.flat_build.specs.Flat.{by_one, by_two, on_one, on_two_typed, began_at, as_operand, give_copy, give_repeated, on_wire, turn_both, end_all, measure_all, measure_value, shape_for, taken_for, receive_value, known_in, update_by, update_variable, zero_variable, back_to, flat_step, count_statement, on_line, entered, enter_branch, chosen_by, first_branch, second_branch, flat}
+use Rattle.flat_form.specs.declared.known.TypedBits.{TypedBits}
+use Rattle.flat_form.specs.declared.known.Known.{Known}
+use Rattle.flat_form.specs.declared.known.Known.TheVariants.{Static, Shown, Lent, Absent}
+use Rattle.flat_form.specs.State.{Caller, Flattening, last, drop_last, wires_so_far, operands_of, is_signed, typed_as, typed_like, part_shape, part_of, are_wires, are_new, as_they_are, copied, taken, kept, wires_in, only_wire, only_operand}
+use Rattle.flat_form.specs.Flat.{by_one, by_two, on_one, on_two_typed, began_at, as_operand, give_copy, give_repeated, on_wire, turn_both, end_all, measure_all, measure_value, shape_for, taken_for, receive_value, known_in, update_by, update_variable, zero_variable, back_to, flat_step, count_statement, on_line, entered, enter_branch, chosen_by, first_branch, second_branch, flat}
 
 -- what went above a limit first did so before
 pub record Stays (b e : Built) : Type 0 where

@@ -3,8 +3,8 @@ use Rattle.std.proofs.Common.{◌≡◌, ℕ, zero, suc, ◌+◌, ◌≤◌, Lis
 use Rattle.std.proofs.lemmas.List.{reverse-append}
 use Rattle.silq_tree.specs.declared.node.NameId.{NameId}
 use Rattle.silq_mean.specs.Env.{Env}
-use Rattle.flat_build.specs.declared.known.Known.{Known}
-use Rattle.flat_build.specs.Flat.{bind_all, paired}
+use Rattle.flat_form.specs.declared.known.Known.{Known}
+use Rattle.flat_form.specs.Flat.{bind_all, paired}
 
 take_next : {A : Type 0} (xs : List A) (n : ℕ) (k : A) (rest : List A) → drop n xs ≡ k ∷ rest → take (suc n) xs ≡ take n xs ++ k ∷ []
 take_next [] zero k rest e = absurd (cc)

@@ -2,15 +2,15 @@
 use Rattle.std.proofs.Common.{◌≡◌, ℕ, Bool, true, false, cond, ◌||◌, List, [], ◌∷◌, length, refl, sym, ap, ◌∙◌, arith, ℤ}
 use Rattle.silq_tree.specs.declared.node.NameId.{NameId}
 use Rattle.silq_types.specs.Types.{same_name}
-use Rattle.check_scope.specs.declared.need.Need.{Need}
+use Rattle.silq_types.specs.declared.need.Need.{Need}
 use Rattle.silq_mean.specs.Env.{Block, Env, is_in_block, block_with, is_in_reach, found, in_its_block, in_first_block, bound}
-use Rattle.flat_build.specs.declared.known.Known.{Known}
-use Rattle.flat_build.specs.declared.known.Known.TheVariants.{Static, Shown, Lent, Absent}
-use Rattle.flat_build.specs.State.{Flattening, last, drop_last, wires_so_far}
-use Rattle.flat_build.specs.Flat.{known_in, use_part, after_use, use_variable, assigned, as_variable, bind}
-use Rattle.flat_build.specs.Good.{IsKnown, Good}
-use Rattle.flat_build.proofs.Kept.{known_name}
-use Rattle.flat_build.proofs.Both.{block_in}
+use Rattle.flat_form.specs.declared.known.Known.{Known}
+use Rattle.flat_form.specs.declared.known.Known.TheVariants.{Static, Shown, Lent, Absent}
+use Rattle.flat_form.specs.State.{Flattening, last, drop_last, wires_so_far}
+use Rattle.flat_form.specs.Flat.{known_in, use_part, after_use, use_variable, assigned, as_variable, bind}
+use Rattle.flat_form.specs.Good.{IsKnown, Good}
+use Rattle.flat_form.proofs.Kept.{known_name}
+use Rattle.flat_form.proofs.Both.{block_in}
 use Rattle.flat_steps.specs.Sizes.{IsSized}
 use Rattle.flat_steps.proofs.Places.{not_its}
 

@@ -6,7 +6,7 @@ use Rattle.flat_core.specs.declared.step.End.TheVariants.{Zeroed}
 use Rattle.bit_arith.specs.Built.{Built, Setting, under}
 use Rattle.bit_arith.specs.Rows.{flip_each}
 use Rattle.bit_arith.specs.Calls.{Building, among, AllSafe, AreTargets}
-use Rattle.flat_build.specs.Flat.{end_all}
+use Rattle.flat_form.specs.Flat.{end_all}
 
 -- an operand for each wire; the wires are there and not measured; neither the operands nor the condition in force name them
 pub record MayChangeBy (b : Building) (ws : List WireId) (ps : List Operand) : Type 0 where

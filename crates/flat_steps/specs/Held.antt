@@ -5,11 +5,11 @@ use Rattle.flat_core.specs.Form.{DraftForm}
 use Rattle.bit_arith.specs.declared.operand.Operand.{Operand}
 use Rattle.bit_arith.specs.Built.{Built, Setting, Given, under}
 use Rattle.bit_arith.specs.Calls.{among, no_target, AllSafe, AreTargets, WasRead}
-use Rattle.flat_build.specs.declared.known.TypedBits.{TypedBits}
-use Rattle.flat_build.specs.declared.known.Known.{Known}
-use Rattle.flat_build.specs.declared.known.Known.TheVariants.{Shown}
-use Rattle.flat_build.specs.Fine.{Distinct}
-use Rattle.flat_build.specs.State.{are_wires, wires_in, as_they_are, taken}
+use Rattle.flat_form.specs.declared.known.TypedBits.{TypedBits}
+use Rattle.flat_form.specs.declared.known.Known.{Known}
+use Rattle.flat_form.specs.declared.known.Known.TheVariants.{Shown}
+use Rattle.flat_form.specs.Fine.{Distinct}
+use Rattle.flat_form.specs.State.{are_wires, wires_in, as_they_are, taken}
 
 -- what taking a value builds, and the value with the wires that it gives
 abbrev pub taking : Setting → Known → Built → Given (List Operand)

@@ -6,9 +6,9 @@ use Rattle.bit_arith.specs.declared.operand.Operand.{Operand}
 use Rattle.bit_arith.specs.Built.{Built, Setting, Given, negated, under}
 use Rattle.bit_arith.specs.Rows.{equal, less}
 use Rattle.bit_arith.specs.Calls.{AllSafe, no_target}
-use Rattle.flat_build.specs.declared.known.Known.{Known}
-use Rattle.flat_build.specs.declared.known.Known.TheVariants.{Shown}
-use Rattle.flat_build.specs.State.{Flattening}
+use Rattle.flat_form.specs.declared.known.Known.{Known}
+use Rattle.flat_form.specs.declared.known.Known.TheVariants.{Shown}
+use Rattle.flat_form.specs.State.{Flattening}
 
 abbrev pub not_so : Given Operand → Given Operand
 not_so g = record { answer = negated g.answer; built = g.built }

@@ -1,9 +1,9 @@
 -- How many operands a value has.
 use Rattle.std.specs.Prelude.{◌≡◌, length, ⊤}
 use Rattle.silq_types.specs.Types.{shape_bits}
-use Rattle.flat_build.specs.declared.known.TypedBits.{TypedBits}
-use Rattle.flat_build.specs.declared.known.Known.{Known}
-use Rattle.flat_build.specs.declared.known.Known.TheVariants.{Static, Shown, Lent, Absent}
+use Rattle.flat_form.specs.declared.known.TypedBits.{TypedBits}
+use Rattle.flat_form.specs.declared.known.Known.{Known}
+use Rattle.flat_form.specs.declared.known.Known.TheVariants.{Static, Shown, Lent, Absent}
 
 -- one for each bit
 abbrev pub HasBits : TypedBits → Type 0

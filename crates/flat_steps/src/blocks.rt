@@ -3,13 +3,13 @@
 ghost use Rattle.std.specs.Prelude.{◌≡◌, IfErr, OnOk};
 ghost use Rattle.silq_mean.specs.Effect.{step, enter_block, leave_block, enter_body, leave_body};
 ghost use Rattle.bit_arith.specs.Calls.{Refused};
-ghost use Rattle.flat_build.specs.Flat.{call_began, flat};
+ghost use Rattle.flat_form.specs.Flat.{call_began, flat};
 ghost use Rattle.flat_steps.specs.Ready.{Ready};
 
 use crate::stack::{Caller, Values};
 use crate::state::Flattening;
 use crate::variables::Variables;
-use flat_build::Known;
+use flat_form::Known;
 use silq_io::LimitFault;
 use silq_tree::NameId;
 use std::mem;

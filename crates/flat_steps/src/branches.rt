@@ -4,10 +4,10 @@ ghost use Rattle.std.specs.Prelude.{◌≡◌, [], ◌∷◌, length, IfOk, IfEr
 ghost use Rattle.bit_arith.specs.Built.{negated, begun, made, new_wire, next_wire, under as under_condition_of};
 ghost use Rattle.bit_arith.specs.Rows.{flip};
 ghost use Rattle.bit_arith.specs.Calls.{Refused, Went, Safe, AllSafe, no_target};
-ghost use Rattle.flat_build.specs.Flat.{chosen_by, first_branch, enter_branch, under, as_condition, entered};
-ghost use Rattle.flat_build.specs.Good.{Good};
-ghost use Rattle.flat_build.specs.Fine.{IsBit};
-ghost use Rattle.flat_build.specs.State.{last};
+ghost use Rattle.flat_form.specs.Flat.{chosen_by, first_branch, enter_branch, under, as_condition, entered};
+ghost use Rattle.flat_form.specs.Good.{Good};
+ghost use Rattle.flat_form.specs.Fine.{IsBit};
+ghost use Rattle.flat_form.specs.State.{last};
 ghost use Rattle.flat_steps.specs.Entering.{Entered};
 
 use crate::state::Flattening;

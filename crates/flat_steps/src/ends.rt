@@ -3,7 +3,7 @@
 ghost use Rattle.std.specs.Prelude.{◌≡◌, length};
 ghost use Rattle.bit_arith.specs.Built.{begun};
 ghost use Rattle.bit_arith.specs.Does.{Below};
-ghost use Rattle.flat_build.specs.Flat.{end_all};
+ghost use Rattle.flat_form.specs.Flat.{end_all};
 
 use bit_arith::Builder;
 use flat_core::{End, WireId};

@@ -4,11 +4,11 @@ ghost use Rattle.std.specs.Prelude.{◌≡◌, ◌<◌, ◌++◌, [], length, tr
 ghost use Rattle.silq_mean.specs.Effect.{step, mix, measure, copy_last, repeat_last, flip_last, turn_by, turn_all};
 ghost use Rattle.bit_arith.specs.Built.{begun, under};
 ghost use Rattle.bit_arith.specs.Calls.{AllSafe, AreTargets, no_target, Refused, Went};
-ghost use Rattle.flat_build.specs.declared.known.Known.TheVariants.{Shown};
-ghost use Rattle.flat_build.specs.State.{push, last, drop_last, build, copied, only_wire};
-ghost use Rattle.flat_build.specs.Flat.{flat, give, array_of, repeated, turn_both, measure_all};
-ghost use Rattle.flat_build.specs.Good.{Good};
-ghost use Rattle.flat_build.specs.Fine.{IsOf, MayTake, Distinct};
+ghost use Rattle.flat_form.specs.declared.known.Known.TheVariants.{Shown};
+ghost use Rattle.flat_form.specs.State.{push, last, drop_last, build, copied, only_wire};
+ghost use Rattle.flat_form.specs.Flat.{flat, give, array_of, repeated, turn_both, measure_all};
+ghost use Rattle.flat_form.specs.Good.{Good};
+ghost use Rattle.flat_form.specs.Fine.{IsOf, MayTake, Distinct};
 ghost use Rattle.flat_steps.specs.Held.{taking, now_taken, Held};
 ghost use Rattle.flat_steps.specs.Ready.{Ready};
 
@@ -17,8 +17,8 @@ use crate::state::Flattening;
 use crate::take::{copied, taken};
 use crate::wires::wires_in;
 use bit_arith::{Builder, Operand};
-use flat_build::{Known, TypedBits};
 use flat_core::{End, Lit, WireId};
+use flat_form::{Known, TypedBits};
 use silq_io::LimitFault;
 use silq_types::{List, Scalar, Shape};
 use std::alloc::{AllocError, Global};

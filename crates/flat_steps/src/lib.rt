@@ -2,7 +2,7 @@
 //! The state of flattening, and its steps.
 //!
 //! `Flattening` holds what is built so far and what is known of names and values. Each of its calls carries one step of a program's effect
-//! out, exactly as the definition of the flat form (`flat_build/specs/Flat`) says.
+//! out, exactly as the definition of the flat form (`flat_form/specs/Flat`) says.
 
 mod blocks;
 mod branches;

@@ -3,16 +3,16 @@
 ghost use Rattle.std.specs.Prelude.{◌≡◌, IfErr, OnOk};
 ghost use Rattle.silq_mean.specs.Effect.{step, give_static, give_part, assign_to, assign_in_turn, end_name, end_compared};
 ghost use Rattle.bit_arith.specs.Calls.{Refused};
-ghost use Rattle.flat_build.specs.Flat.{flat};
+ghost use Rattle.flat_form.specs.Flat.{flat};
 ghost use Rattle.flat_steps.specs.Ready.{Ready};
 
 use crate::state::Flattening;
 use crate::uses::{Use, assigned, used};
 use crate::variables::as_variable;
-use check_scope::Need;
-use flat_build::Known;
+use flat_form::Known;
 use silq_io::LimitFault;
 use silq_tree::NameId;
+use silq_types::Need;
 
 impl Flattening {
     /// Gives the number of a static expression.

@@ -4,8 +4,8 @@ ghost use Rattle.std.specs.Prelude.{◌≡◌, [], ◌∷◌, ◌++◌, length, 
 ghost use Rattle.silq_mean.specs.Effect.{step, give_typed, one_operand, two_operands};
 ghost use Rattle.bit_arith.specs.Built.{begun, under, negated};
 ghost use Rattle.bit_arith.specs.Calls.{AllSafe, no_target, Refused, Went};
-ghost use Rattle.flat_build.specs.State.{is_signed};
-ghost use Rattle.flat_build.specs.Flat.{began_at, by_one, by_two, flat, negative, on_two_typed, shape_by, shape_by_one};
+ghost use Rattle.flat_form.specs.State.{is_signed};
+ghost use Rattle.flat_form.specs.Flat.{began_at, by_one, by_two, flat, negative, on_two_typed, shape_by, shape_by_one};
 ghost use Rattle.flat_steps.specs.Ready.{Ready};
 ghost use Rattle.flat_steps.specs.Joins.{compared, CanJoin};
 
@@ -14,7 +14,7 @@ use crate::state::Flattening;
 use crate::typed::{as_operand, typed};
 use crate::wires::only_operand;
 use bit_arith::{Builder, Operand};
-use flat_build::{Known, TypedBits};
+use flat_form::{Known, TypedBits};
 use silq_io::LimitFault;
 use silq_tree::{BinaryOp, UnaryOp};
 use silq_types::{List, Scalar, Shape};

@@ -3,16 +3,16 @@
 ghost use Rattle.std.specs.Prelude.{◌≡◌, length, IfOk, OnOk};
 ghost use Rattle.bit_arith.specs.Built.{begun};
 ghost use Rattle.bit_arith.specs.Does.{Below};
-ghost use Rattle.flat_build.specs.State.{wires_in};
-ghost use Rattle.flat_build.specs.Flat.{end_all, wire_lists, joined};
-ghost use Rattle.flat_build.specs.Names.{AllOf};
+ghost use Rattle.flat_form.specs.State.{wires_in};
+ghost use Rattle.flat_form.specs.Flat.{end_all, wire_lists, joined};
+ghost use Rattle.flat_form.specs.Names.{AllOf};
 
 use crate::ends::end_all;
 use crate::uses::operands_of;
 use crate::wires::wires_in;
 use bit_arith::{Builder, Operand};
-use flat_build::Known;
 use flat_core::{End, WireList, WireLists};
+use flat_form::Known;
 use std::alloc::{AllocError, Global};
 
 /// The wires that show each value.

@@ -2,7 +2,7 @@
 
 ghost use Rattle.std.specs.Prelude.{◌≡◌, ◌<◌, ◌≤◌, ◌+◌, ◌^◌, ℤ, [], ◌∷◌, length, drop};
 ghost use Rattle.silq_types.specs.Types.{scalar_bits, shape_bits};
-ghost use Rattle.flat_build.specs.State.{part_shape, bit_start, part_start, part_of};
+ghost use Rattle.flat_form.specs.State.{part_shape, bit_start, part_start, part_of};
 
 use crate::typed::single_shape;
 use bit_arith::Operand;

@@ -1,10 +1,10 @@
 //! Values under way, and the calls under way.
 
 ghost use Rattle.std.specs.Prelude.{◌≡◌, [], ◌∷◌, ◌++◌, take, drop, reverse, IfSome, IfNone, IfOk, OnOk};
-ghost use Rattle.flat_build.specs.State.{began_or, first};
+ghost use Rattle.flat_form.specs.State.{began_or, first};
 
 use crate::variables::Variables;
-use flat_build::Known;
+use flat_form::Known;
 use std::alloc::{AllocError, Global};
 use std::marker::Model;
 
@@ -17,7 +17,7 @@ pub(crate) struct Values {
 
 impl Model for Values {
     ghost use Rattle.std.specs.Prelude.{List, reverse};
-    ghost use Rattle.flat_build.specs.declared.known.Known.{Known};
+    ghost use Rattle.flat_form.specs.declared.known.Known.{Known};
 
     // the last one first
     ghost Value = { List Known };
@@ -115,7 +115,7 @@ pub(crate) struct Callers {
 }
 
 impl Model for Caller {
-    ghost use Rattle.flat_build.specs.State.{Caller as KnownCaller};
+    ghost use Rattle.flat_form.specs.State.{Caller as KnownCaller};
 
     ghost Value = { KnownCaller };
 
@@ -124,7 +124,7 @@ impl Model for Caller {
 
 impl Model for Callers {
     ghost use Rattle.std.specs.Prelude.{List, reverse};
-    ghost use Rattle.flat_build.specs.State.{Caller as KnownCaller};
+    ghost use Rattle.flat_form.specs.State.{Caller as KnownCaller};
 
     // the nearest first
     ghost Value = { List KnownCaller };

@@ -7,16 +7,16 @@ ghost use Rattle.flat_core.specs.Drafts.{finished, FitsEnds};
 ghost use Rattle.bit_arith.specs.Built.{begun, all_made, wires_from};
 ghost use Rattle.bit_arith.specs.Calls.{Went, Refused};
 ghost use Rattle.bit_arith.specs.Does.{Below};
-ghost use Rattle.flat_build.specs.Flat.{begin, input_wires, end_all, wire_lists, joined};
-ghost use Rattle.flat_build.specs.Names.{AllOf};
+ghost use Rattle.flat_form.specs.Flat.{begin, input_wires, end_all, wire_lists, joined};
+ghost use Rattle.flat_form.specs.Names.{AllOf};
 
 use crate::outputs::{end_values, wire_lists};
 use crate::parts::bits;
 use crate::stack::{Callers, Values};
 use crate::variables::Variables;
 use bit_arith::{Builder, Operand};
-use flat_build::{Known, TypedBits};
 use flat_core::{End, Flat, Lit, WireLists};
+use flat_form::{Known, TypedBits};
 use silq_io::LimitFault;
 use silq_types::{List, Shape};
 use std::alloc::{AllocError, Global};
@@ -37,7 +37,7 @@ pub struct Flattening {
 
 impl Model for Flattening {
     ghost use Rattle.bit_arith.specs.Built.{begun};
-    ghost use Rattle.flat_build.specs.State.{Flattening as State};
+    ghost use Rattle.flat_form.specs.State.{Flattening as State};
 
     // within all limits so far
     ghost Value = { State };

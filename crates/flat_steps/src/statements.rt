@@ -2,7 +2,7 @@
 
 ghost use Rattle.std.specs.Prelude.{◌≡◌, IfOk, IfErr};
 ghost use Rattle.bit_arith.specs.Calls.{Refused};
-ghost use Rattle.flat_build.specs.Flat.{count_statement, on_line};
+ghost use Rattle.flat_form.specs.Flat.{count_statement, on_line};
 
 use crate::state::Flattening;
 use silq_io::{LimitFault, LimitKind, OverLimit};

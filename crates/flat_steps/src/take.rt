@@ -3,11 +3,11 @@
 ghost use Rattle.std.specs.Prelude.{◌≡◌, ◌||◌, true, [], ◌∷◌, length, IfOk, IfErr};
 ghost use Rattle.bit_arith.specs.Built.{begun, under};
 ghost use Rattle.bit_arith.specs.Calls.{AllSafe, AreTargets, Safe, no_target, Went, Refused};
-ghost use Rattle.flat_build.specs.State.{are_new, copied, taken, wires_in};
+ghost use Rattle.flat_form.specs.State.{are_new, copied, taken, wires_in};
 
 use crate::wires::all_made;
 use bit_arith::{Builder, Operand};
-use flat_build::TypedBits;
+use flat_form::TypedBits;
 use silq_io::LimitFault;
 use silq_types::List;
 use std::alloc::Global;

@@ -4,9 +4,9 @@ ghost use Rattle.std.specs.Prelude.{◌≡◌, length, IfOk, IfErr, OnOk};
 ghost use Rattle.silq_mean.specs.Effect.{step, receive};
 ghost use Rattle.bit_arith.specs.Built.{begun, under};
 ghost use Rattle.bit_arith.specs.Calls.{AllSafe, no_target, Went, Refused};
-ghost use Rattle.flat_build.specs.declared.known.Known.TheVariants.{Shown};
-ghost use Rattle.flat_build.specs.State.{copied, kept};
-ghost use Rattle.flat_build.specs.Flat.{flat, shape_for, taken_for, class_for, began_for, receive_value};
+ghost use Rattle.flat_form.specs.declared.known.Known.TheVariants.{Shown};
+ghost use Rattle.flat_form.specs.State.{copied, kept};
+ghost use Rattle.flat_form.specs.Flat.{flat, shape_for, taken_for, class_for, began_for, receive_value};
 ghost use Rattle.flat_steps.specs.Ready.{Ready};
 
 use crate::state::Flattening;
@@ -14,10 +14,10 @@ use crate::take::{copied, taken};
 use crate::typed::typed_as;
 use crate::wires::are_wires;
 use bit_arith::Builder;
-use check_scope::Need;
-use flat_build::{Known, TypedBits};
+use flat_form::{Known, TypedBits};
 use silq_io::LimitFault;
 use silq_mean::Receiver;
+use silq_types::Need;
 use std::alloc::{AllocError, Global};
 
 // A static value takes the type for which it is taken over.

@@ -5,11 +5,11 @@ ghost use Rattle.silq_types.specs.Types.{single_shape as shape_of_single};
 ghost use Rattle.silq_mean.specs.Value.{low_bits, modulo};
 ghost use Rattle.flat_mean.specs.Row.{flipped};
 ghost use Rattle.bit_arith.specs.declared.operand.Operand.TheVariants.{Const};
-ghost use Rattle.flat_build.specs.State.{typed, typed_as, typed_like};
-ghost use Rattle.flat_build.specs.Flat.{as_operand};
+ghost use Rattle.flat_form.specs.State.{typed, typed_as, typed_like};
+ghost use Rattle.flat_form.specs.Flat.{as_operand};
 
 use bit_arith::Operand;
-use flat_build::{Known, TypedBits};
+use flat_form::{Known, TypedBits};
 use silq_types::{List, Scalar, Shape};
 use std::alloc::{AllocError, Global};
 

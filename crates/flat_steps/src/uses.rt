@@ -2,19 +2,18 @@
 
 ghost use Rattle.std.specs.Prelude.{◌≡◌, ◌<◌, ◌≤◌, ◌+◌, ◌++◌, ◌&&◌, not, length, take, drop, IfOk, OnOk};
 ghost use Rattle.silq_types.specs.Types.{shape_bits};
-ghost use Rattle.check_scope.specs.Uses.{is_consumed};
-ghost use Rattle.flat_build.specs.declared.known.Known.TheVariants.{Shown};
-ghost use Rattle.flat_build.specs.State.{part_shape, part_start, operands_of};
-ghost use Rattle.flat_build.specs.Flat.{part_used, use_part, after_use, moved, assigned};
-ghost use Rattle.flat_build.specs.Fine.{IsPart, MayUse, IsLent};
+ghost use Rattle.silq_types.specs.Calls.{is_consumed};
+ghost use Rattle.flat_form.specs.declared.known.Known.TheVariants.{Shown};
+ghost use Rattle.flat_form.specs.State.{part_shape, part_start, operands_of};
+ghost use Rattle.flat_form.specs.Flat.{part_used, use_part, after_use, moved, assigned};
+ghost use Rattle.flat_form.specs.Fine.{IsPart, MayUse, IsLent};
 ghost use Rattle.flat_steps.specs.Sizes.{HasBits, IsSized};
 
 use crate::copying::copied_operands;
 use crate::parts::{bits, part_of, part_shape, part_start};
 use bit_arith::Operand;
-use check_scope::Need;
-use flat_build::{Known, TypedBits};
-use silq_types::List;
+use flat_form::{Known, TypedBits};
+use silq_types::{List, Need};
 use std::alloc::{AllocError, Global};
 
 /// What the use of a variable gives.

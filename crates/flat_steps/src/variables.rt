@@ -4,12 +4,12 @@ ghost use Rattle.std.specs.Prelude.{◌≡◌, ◌<◌, true, false, [], ◌∷�
 ghost use Rattle.std.specs.List.{position};
 ghost use Rattle.silq_types.specs.Types.{same_name};
 ghost use Rattle.silq_mean.specs.Env.{is_in_block, in_block, block_with, is_in_reach, found, in_its_block, in_first_block, bound};
-ghost use Rattle.flat_build.specs.declared.known.Known.TheVariants.{Absent};
-ghost use Rattle.flat_build.specs.Flat.{as_variable, bind_all, paired};
+ghost use Rattle.flat_form.specs.declared.known.Known.TheVariants.{Absent};
+ghost use Rattle.flat_form.specs.Flat.{as_variable, bind_all, paired};
 ghost use Rattle.flat_steps.specs.Reach.{IsInnermost};
 
 use crate::stack::Values;
-use flat_build::{Known, TypedBits};
+use flat_form::{Known, TypedBits};
 use silq_tree::NameId;
 use std::alloc::{AllocError, Global};
 use std::marker::Model;
@@ -30,7 +30,7 @@ pub(crate) struct Variables {
 
 impl Model for Block {
     ghost use Rattle.silq_mean.specs.Env.{Block as Listed};
-    ghost use Rattle.flat_build.specs.declared.known.Known.{Known};
+    ghost use Rattle.flat_form.specs.declared.known.Known.{Known};
 
     ghost Value = { Listed Known };
 
@@ -40,7 +40,7 @@ impl Model for Block {
 impl Model for Variables {
     ghost use Rattle.std.specs.Prelude.{reverse};
     ghost use Rattle.silq_mean.specs.Env.{Env};
-    ghost use Rattle.flat_build.specs.declared.known.Known.{Known};
+    ghost use Rattle.flat_form.specs.declared.known.Known.{Known};
 
     // the innermost block first
     ghost Value = { Env Known };

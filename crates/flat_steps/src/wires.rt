@@ -2,7 +2,7 @@
 
 ghost use Rattle.std.specs.Prelude.{◌≡◌, IfOk};
 ghost use Rattle.bit_arith.specs.Built.{all_made};
-ghost use Rattle.flat_build.specs.State.{wires_in, are_wires, only_operand};
+ghost use Rattle.flat_form.specs.State.{wires_in, are_wires, only_operand};
 
 use bit_arith::Operand;
 use flat_core::{Lit, WireId};

@@ -8,4 +8,3 @@ pub mod writer;
 
 pub use piece::{Piece, put_pieces};
 pub use writer::QasmWriter;
-

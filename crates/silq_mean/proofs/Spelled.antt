@@ -5,8 +5,8 @@ use Rattle.silq_tree.specs.declared.node.Spot.{Spot}
 use Rattle.silq_tree.specs.declared.node.Mark.TheVariants as marks
 use Rattle.silq_tree.specs.declared.node.BinaryOp.{BinaryOp}
 use Rattle.silq_tree.specs.Syntax.{Expression, Expressions, number, place, called as call_of, binary, none, more, ScalarType, bit, uint, int, whole, part, Statement, assign, choice as condition, return_value, Block, block, else_block, Statements, done, next, WrittenType, scalar, Parameter, Function}
-use Rattle.check_scope.specs.declared.words.BuiltIn.{BuiltIn}
-use Rattle.check_scope.specs.declared.words.BuiltIn.TheVariants.{HGate, XGate, YGate, ZGate, Dup, Measure, Vector}
+use Rattle.silq_types.specs.declared.built_in.BuiltIn.{BuiltIn}
+use Rattle.silq_types.specs.declared.built_in.BuiltIn.TheVariants.{HGate, XGate, YGate, ZGate, Dup, Measure, Vector}
 use Rattle.silq_mean.specs.Effect.{Outcome}
 use Rattle.silq_mean.specs.Table.{Job, job}
 

@@ -5,3 +5,4 @@ pub mod Effect
 pub mod Meaning
 pub mod Table
 pub mod Laws
+pub mod Written

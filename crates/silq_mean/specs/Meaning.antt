@@ -12,13 +12,14 @@ use Rattle.silq_types.specs.declared.types.Scalar.TheVariants as scalars
 use Rattle.silq_types.specs.declared.types.Shape.TheVariants.{Bit}
 use Rattle.silq_types.specs.declared.types.Ty.{Ty}
 use Rattle.silq_types.specs.Rules.{Fault}
-use Rattle.silq_types.specs.Types.{Statics, same_name, quantum, scalar_type, header_type, written_at, place_name, place_indices}
-use Rattle.check_scope.specs.declared.need.Need.{Need}
-use Rattle.check_scope.specs.declared.need.Need.TheVariants.{Held, Consumed}
-use Rattle.check_scope.specs.declared.words.BuiltIn.{BuiltIn}
-use Rattle.check_scope.specs.declared.words.BuiltIn.TheVariants.{HGate, XGate, YGate, ZGate, Dup, Measure, Vector, RotateX, RotateY, RotateZ}
-use Rattle.check_scope.specs.Uses.{is_consumed, built_in, Found, find_fun, param_need, needs_of_found}
-use Rattle.check_scope.specs.Programs.{paired, distance}
+use Rattle.silq_types.specs.Types.{Statics, same_name, quantum, place_name, place_indices}
+use Rattle.silq_mean.specs.Written.{scalar_type, header_type, written_at}
+use Rattle.silq_types.specs.declared.need.Need.{Need}
+use Rattle.silq_types.specs.declared.need.Need.TheVariants.{Held, Consumed}
+use Rattle.silq_types.specs.declared.built_in.BuiltIn.{BuiltIn}
+use Rattle.silq_types.specs.declared.built_in.BuiltIn.TheVariants.{HGate, XGate, YGate, ZGate, Dup, Measure, Vector, RotateX, RotateY, RotateZ}
+use Rattle.silq_types.specs.Calls.{is_consumed, built_in, Found, find_fun, param_need, needs_of_found}
+use Rattle.silq_types.specs.Programs.{paired, distance}
 use Rattle.silq_mean.specs.declared.receiver.Receiver.{Receiver}
 use Rattle.silq_mean.specs.declared.receiver.Receiver.TheVariants.{Variable, Argument, CallResult, EntryOutput}
 use Rattle.silq_mean.specs.Effect.{Effect, nothing, ◌>>◌, statement, step, mix, measure, claim, choice, give_static, give_typed, give_part, one_operand, two_operands, copy_last, repeat_last, flip_last, turn_by, turn_all, assign_to, assign_in_turn, receive, update_to, end_name, end_compared, enter_block, leave_block, enter_body, leave_body}

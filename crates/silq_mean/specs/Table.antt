@@ -4,8 +4,8 @@ use Rattle.silq_tree.specs.declared.node.NameId.{NameId}
 use Rattle.silq_types.specs.declared.types.Shape.{Shape}
 use Rattle.silq_types.specs.Rules.{and_then}
 use Rattle.silq_types.specs.Types.{shape_bits}
-use Rattle.check_scope.specs.Uses.{Found, find_fun}
-use Rattle.check_scope.specs.Programs.{Program, earlier_than, paired}
+use Rattle.silq_types.specs.Calls.{Found, find_fun}
+use Rattle.silq_types.specs.Programs.{Program, earlier_than, paired}
 use Rattle.amp_core.specs.declared.Amp.{Amp}
 use Rattle.amp_core.specs.Amplitude.{one, times}
 use Rattle.sum_laws.specs.Terms.{amplitude}

@@ -10,7 +10,7 @@ use Rattle.silq_grammar.specs.Trees.{program_tree}
 use Rattle.silq_grammar.proofs.Accepted.{one_tree}
 use Rattle.silq_parse.specs.Lexed.{names_of}
 use Rattle.silq_types.specs.Rules.{Fault, rule, unsupported, over}
-use Rattle.check_scope.specs.Words.{words_of}
+use Rattle.silq_types.specs.Words.{words_of}
 use Rattle.check_fun.specs.Entry.{check_named, number_of_name}
 use Rattle.check_fun.specs.Program.{Accepted}
 use Rattle.silqc.specs.declared.status.Status.{Status}

@@ -12,7 +12,7 @@ use Rattle.check_scope.specs.declared.fault.CheckFault.{CheckFault}
 use Rattle.check_scope.specs.Faults.{fault_as}
 use Rattle.check_scope.specs.Library.{AreFunsBelow}
 use Rattle.check_scope.specs.Steps.{IsFirst}
-use Rattle.check_scope.specs.Words.{words_of}
+use Rattle.silq_types.specs.Words.{words_of}
 use Rattle.check_fun.specs.Entry.{check_named, number_of_name}
 use Rattle.check_fun.specs.Program.{Accepted}
 use Rattle.silqc.specs.declared.status.Status.{Status}

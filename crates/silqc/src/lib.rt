@@ -178,4 +178,3 @@ fn compile<F: Files, S: Sink>(
         Err(_) => Status::WriteFault,
     }
 }
-

@@ -3,11 +3,11 @@ use Rattle.std.proofs.Common.{◌≡◌, List, [], ◌∷◌, refl, subst, sym}
 use Rattle.silq_types.specs.declared.types.Shape.{Shape}
 use Rattle.silq_types.specs.declared.types.Shape.TheVariants.{Bit}
 use Rattle.silq_mean.specs.Effect.{Effect}
-use Rattle.flat_build.specs.State.{Flattening, last}
-use Rattle.flat_build.specs.Flat.{begin}
-use Rattle.flat_build.specs.Good.{Good}
-use Rattle.flat_build.specs.Fine.{Fine, IsBit}
-use Rattle.flat_build.proofs.Begins.{good_begin}
+use Rattle.flat_form.specs.State.{Flattening, last}
+use Rattle.flat_form.specs.Flat.{begin}
+use Rattle.flat_form.specs.Good.{Good}
+use Rattle.flat_form.specs.Fine.{Fine, IsBit}
+use Rattle.flat_laws.proofs.Begins.{good_begin}
 use Rattle.flat_steps.specs.Ready.{Ready}
 
 pub ready_at_first : (e : Effect) (ss : List Shape) (s : Flattening) → s ≡ begin ss → Fine e (begin ss) → Ready e s

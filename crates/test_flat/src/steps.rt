@@ -2,7 +2,7 @@
 
 ghost use Rattle.std.specs.Prelude.{◌≡◌, ◌∷◌, [], IfOk};
 ghost use Rattle.silq_types.specs.declared.types.Shape.TheVariants.{Bit};
-ghost use Rattle.flat_build.specs.Flat.{begin};
+ghost use Rattle.flat_form.specs.Flat.{begin};
 
 use flat_core::WireLists;
 use flat_steps::Flattening;

@@ -14,7 +14,7 @@ use Rattle.std.proofs.lemmas.Int.{to_z-of_z}
 use Rattle.std.proofs.lemmas.Result.{IfOk-weaker, IfErr-weaker}
 use mathlib.Core.Path.{sym, ap, ◌∙◌}
 use mir.Val.{SFits}
-use Rattle.check_scope.specs.declared.need.Need.TheVariants as needs
+use Rattle.silq_types.specs.declared.need.Need.TheVariants as needs
 use Rattle.check_expr.proofs.+expression.Goals as goal
 
 pub expr::unary-returns-in_err-values-clause-stops : goal.expr::unary-returns-in_err-values-clause-stops

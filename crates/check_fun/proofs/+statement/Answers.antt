@@ -21,7 +21,7 @@ use Rattle.check_fun.specs.Program.{instances, returned_as}
 use Rattle.check_scope.specs.Steps.{IsFirst}
 use Rattle.check_fun.proofs.Questions.{asked_runs, asked_fails, asked_room, asked_on, asked_stops, asked_less, asked_call, asked_same}
 use Rattle.silq_tree.specs.Syntax.{Function}
-use Rattle.check_scope.specs.Programs.{paired}
+use Rattle.silq_types.specs.Programs.{paired}
 use Rattle.check_scope.specs.Headers.{spot_or}
 use Rattle.check_fun.proofs.Instances.{begins, params_long, body_runs, body_ran, body_first, header_here, one_known, signature_made, instances_at, instances_past}
 use Rattle.check_fun.proofs.Measures.{level_deeper}

@@ -4,7 +4,7 @@ use Rattle.silq_tree.specs.Standing.{statements_of, block_of}
 use Rattle.check_fun.specs.Counting.{checker_at}
 use Rattle.check_scope.specs.State.{scope_in, context_of}
 use Rattle.check_fun.specs.Statement.{stmts as stmts_of, rounds as rounds_of}
-use Rattle.check_scope.specs.Programs.{distance}
+use Rattle.silq_types.specs.Programs.{distance}
 use Rattle.check_fun.proofs.BlockSteps.{Ahead}
 use Rattle.std.specs.Prelude.{◌-ℤ◌, ◌+◌, ◌*◌, max, length}
 use Rattle.check_fun.specs.Branches.{round_of}

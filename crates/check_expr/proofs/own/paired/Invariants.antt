@@ -1,5 +1,5 @@
 use Rattle.std.proofs.Common.{◌≡◌, ◌++◌}
-use Rattle.check_scope.specs.Programs.{paired}
+use Rattle.silq_types.specs.Programs.{paired}
 use Rattle.check_expr.proofs.own.paired.Given as goal
 
 -- the pairs that are left stand behind

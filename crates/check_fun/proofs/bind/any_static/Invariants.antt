@@ -1,6 +1,6 @@
 use Rattle.std.proofs.Common.{◌≡◌, drop}
 use Rattle.std.specs.Prelude.{is_some}
-use Rattle.silq_types.specs.Types.{value_of}
+use Rattle.silq_mean.specs.Written.{value_of}
 use Rattle.check_fun.specs.Statement.{any_name}
 use Rattle.check_fun.proofs.bind.any_static.Given as goal
 

@@ -1,6 +1,6 @@
 use Rattle.check_fun.specs.Entry.{number_of_name}
 use Rattle.check_scope.specs.Library.{Shelf}
-use Rattle.check_scope.specs.Words.{words_of}
+use Rattle.silq_types.specs.Words.{words_of}
 use Rattle.check_fun.proofs.EntryRules.{headers_refused, named_refused}
 use Rattle.check_fun.proofs.check.check.Goals as goal
 

@@ -1,5 +1,5 @@
 use Rattle.std.proofs.Common.{◌≡◌, length, drop, ◌++◌}
-use Rattle.check_scope.specs.Programs.{paired}
+use Rattle.silq_types.specs.Programs.{paired}
 use Rattle.check_fun.proofs.params.static_values.Given as goal
 
 -- what is done, and the rest

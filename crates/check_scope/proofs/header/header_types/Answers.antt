@@ -3,7 +3,7 @@ use Rattle.silq_tree.specs.Arena.{expr_at, stmt_at}
 use Rattle.silq_tree.specs.Children.{param_exprs, type_exprs}
 use Rattle.silq_tree.specs.Standing.{fun_grown}
 use Rattle.silq_tree.proofs.Lists.{exprs_below_front, exprs_below_back}
-use Rattle.silq_types.specs.Types.{header_of}
+use Rattle.silq_mean.specs.Written.{header_of}
 use Rattle.check_scope.specs.Headers.{spot_or}
 use Rattle.check_scope.proofs.Chained.{first_along}
 use Rattle.check_scope.proofs.HeaderLists.{header_without_params, header_without_results, header_given}

@@ -1,7 +1,7 @@
 use Rattle.std.proofs.Common.{◌∙◌, length, map, rules}
 use Rattle.silq_tree.specs.Arena.{expr_at}
 use Rattle.silq_tree.specs.Standing.{param_of}
-use Rattle.silq_types.specs.Types.{param_types}
+use Rattle.silq_mean.specs.Written.{param_types}
 use Rattle.check_scope.specs.Headers.{spot_or}
 use Rattle.check_scope.proofs.Chained.{first_along}
 use Rattle.check_scope.proofs.HeaderLists.{behind_start, param_below, params_turn, params_stop}

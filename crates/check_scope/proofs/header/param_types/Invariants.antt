@@ -1,7 +1,7 @@
 use Rattle.std.proofs.Common.{◌≡◌, drop, map}
 use Rattle.silq_tree.specs.Arena.{expr_at}
 use Rattle.silq_tree.specs.Standing.{param_of}
-use Rattle.silq_types.specs.Types.{param_types}
+use Rattle.silq_mean.specs.Written.{param_types}
 use Rattle.check_scope.specs.Headers.{spot_or}
 use Rattle.check_scope.proofs.HeaderLists.{behind}
 use Rattle.check_scope.proofs.header.param_types.Given as goal

@@ -1,7 +1,7 @@
 use Rattle.std.proofs.Common.{◌∙◌, length, map, rules}
 use Rattle.silq_tree.specs.Arena.{expr_at}
 use Rattle.silq_tree.specs.Standing.{type_of}
-use Rattle.silq_types.specs.Types.{result_types}
+use Rattle.silq_mean.specs.Written.{result_types}
 use Rattle.check_scope.specs.Headers.{spot_or}
 use Rattle.check_scope.proofs.Chained.{first_along}
 use Rattle.check_scope.proofs.HeaderLists.{behind_start, result_below, results_turn, results_stop}

@@ -1,7 +1,7 @@
 use Rattle.std.proofs.Common.{◌≡◌, ◌+◌, ◌++◌, List, ◌∙◌, sym, ap, append_assoc, drop}
 use Rattle.silq_tree.specs.declared.node.NameId.{NameId}
-use Rattle.check_scope.specs.declared.words.BuiltIn.{BuiltIn}
-use Rattle.check_scope.specs.Words.{built_ins, named, with_word, words_from, words_of}
+use Rattle.silq_types.specs.declared.built_in.BuiltIn.{BuiltIn}
+use Rattle.silq_types.specs.Words.{built_ins, named, with_word, words_from, words_of}
 use Rattle.check_scope.proofs.Named.{words_more}
 use Rattle.check_scope.proofs.library.built_in_words.Goals as goal
 use Rattle.check_scope.proofs.library.built_in_words.Goals.{in-Some+in_ok-push, in_default}

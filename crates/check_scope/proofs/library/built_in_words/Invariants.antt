@@ -1,5 +1,5 @@
 use Rattle.std.proofs.Common.{◌≡◌, ◌++◌, drop}
-use Rattle.check_scope.specs.Words.{words_from, words_of}
+use Rattle.silq_types.specs.Words.{words_from, words_of}
 use Rattle.check_scope.proofs.library.built_in_words.Given as goal
 
 -- those so far, and those of the rest

@@ -1,7 +1,7 @@
 use Rattle.std.proofs.Common.{◌≡◌, length, drop}
 use Rattle.bit_arith.specs.Built.{begun}
 use Rattle.bit_arith.specs.Does.{Below}
-use Rattle.flat_build.specs.Flat.{end_all}
+use Rattle.flat_form.specs.Flat.{end_all}
 use Rattle.flat_steps.proofs.ends.end_all.Given as goal
 
 abbrev pub invariant-loop-wire : goal.invariant-loop-wire

@@ -1,8 +1,8 @@
 use Rattle.std.proofs.Common.{◌≡◌, drop}
 use Rattle.bit_arith.specs.Built.{begun}
 use Rattle.bit_arith.specs.Calls.{AreTargets}
-use Rattle.flat_build.specs.Flat.{measure_all}
-use Rattle.flat_build.specs.Fine.{Distinct}
+use Rattle.flat_form.specs.Flat.{measure_all}
+use Rattle.flat_form.specs.Fine.{Distinct}
 use Rattle.flat_steps.proofs.gates.measure_all.Given as goal
 
 abbrev pub invariant-loop-wire : goal.invariant-loop-wire

@@ -1,7 +1,7 @@
 use Rattle.std.proofs.Common.{◌≡◌, ℕ, suc, List, ◌++◌, sym, ap, ◌∙◌, append_assoc, arith}
 use Rattle.std.proofs.lemmas.List.{append-nil}
 use Rattle.bit_arith.specs.declared.operand.Operand.{Operand}
-use Rattle.flat_build.specs.Flat.{repeated}
+use Rattle.flat_form.specs.Flat.{repeated}
 use Rattle.flat_steps.proofs.gates.repeated.Goals as goal
 
 pub loop-preserved : goal.loop-preserved

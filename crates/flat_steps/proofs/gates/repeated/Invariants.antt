@@ -1,5 +1,5 @@
 use Rattle.std.proofs.Common.{◌≡◌, ℕ, ◌+◌, ◌++◌}
-use Rattle.flat_build.specs.Flat.{repeated}
+use Rattle.flat_form.specs.Flat.{repeated}
 use Rattle.flat_steps.proofs.gates.repeated.Given as goal
 
 abbrev pub invariant-loop : goal.invariant-loop

@@ -1,5 +1,5 @@
 use Rattle.std.proofs.Common.{ap, ◌∙◌, arith}
-use Rattle.flat_build.specs.State.{wires_in}
+use Rattle.flat_form.specs.State.{wires_in}
 use Rattle.flat_steps.proofs.Endings.{next_ended}
 use Rattle.flat_steps.proofs.outputs.end_values.Goals as goal
 

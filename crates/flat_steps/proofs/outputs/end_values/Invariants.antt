@@ -1,8 +1,8 @@
 use Rattle.std.proofs.Common.{◌≡◌, length, drop}
 use Rattle.bit_arith.specs.Built.{begun}
 use Rattle.bit_arith.specs.Does.{Below}
-use Rattle.flat_build.specs.Flat.{end_all, wire_lists, joined}
-use Rattle.flat_build.specs.Names.{AllOf}
+use Rattle.flat_form.specs.Flat.{end_all, wire_lists, joined}
+use Rattle.flat_form.specs.Names.{AllOf}
 use Rattle.flat_steps.proofs.outputs.end_values.Given as goal
 
 abbrev pub invariant-loop-value : goal.invariant-loop-value

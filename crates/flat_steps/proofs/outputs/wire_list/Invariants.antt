@@ -1,5 +1,5 @@
 use Rattle.std.proofs.Common.{◌≡◌, ◌++◌, drop}
-use Rattle.flat_build.specs.State.{wires_in}
+use Rattle.flat_form.specs.State.{wires_in}
 use Rattle.flat_steps.proofs.outputs.wire_list.Given as goal
 
 abbrev pub invariant-loop-operand : goal.invariant-loop-operand

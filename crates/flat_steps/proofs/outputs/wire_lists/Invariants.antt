@@ -1,5 +1,5 @@
 use Rattle.std.proofs.Common.{◌≡◌, ◌++◌, drop}
-use Rattle.flat_build.specs.Flat.{wire_lists}
+use Rattle.flat_form.specs.Flat.{wire_lists}
 use Rattle.flat_steps.proofs.outputs.wire_lists.Given as goal
 
 abbrev pub invariant-loop-value : goal.invariant-loop-value

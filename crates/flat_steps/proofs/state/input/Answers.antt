@@ -6,8 +6,8 @@ use Rattle.bit_arith.specs.declared.operand.Operand.{Operand}
 use Rattle.bit_arith.specs.Built.{begun}
 use Rattle.bit_arith.specs.Calls.{Building, Refused, Went}
 use Rattle.bit_arith.proofs.Chained.{refused_later}
-use Rattle.flat_build.specs.declared.known.TypedBits.{TypedBits}
-use Rattle.flat_build.specs.Flat.{input_wires}
+use Rattle.flat_form.specs.declared.known.TypedBits.{TypedBits}
+use Rattle.flat_form.specs.Flat.{input_wires}
 use Rattle.flat_steps.proofs.Inputs.{input_wire, input_grows, one_input, made_more}
 use Rattle.flat_steps.proofs.state.input.Goals as goal
 

@@ -1,7 +1,7 @@
 use Rattle.std.proofs.Common.{◌≡◌, ℕ, ◌+◌, ◌++◌, length}
 use Rattle.silq_types.specs.Types.{shape_bits}
 use Rattle.bit_arith.specs.Built.{begun, all_made, wires_from}
-use Rattle.flat_build.specs.Flat.{input_wires}
+use Rattle.flat_form.specs.Flat.{input_wires}
 use Rattle.flat_steps.proofs.state.input.Given as goal
 
 abbrev pub invariant-loop : goal.invariant-loop

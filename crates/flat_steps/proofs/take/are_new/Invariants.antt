@@ -1,5 +1,5 @@
 use Rattle.std.proofs.Common.{◌≡◌, drop}
-use Rattle.flat_build.specs.State.{are_new}
+use Rattle.flat_form.specs.State.{are_new}
 use Rattle.flat_steps.proofs.take.are_new.Given as goal
 
 abbrev pub invariant-loop-p : goal.invariant-loop-p

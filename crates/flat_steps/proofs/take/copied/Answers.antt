@@ -2,8 +2,8 @@ use Rattle.std.proofs.Common.{List, sym, ap, ◌∙◌, subst}
 use Rattle.flat_core.specs.declared.step.WireId.{WireId}
 use Rattle.bit_arith.specs.Built.{all_made}
 use Rattle.bit_arith.specs.Calls.{AreTargets}
-use Rattle.flat_build.specs.State.{wires_in}
-use Rattle.flat_build.proofs.Giving.{in_made}
+use Rattle.flat_form.specs.State.{wires_in}
+use Rattle.flat_form.proofs.Giving.{in_made}
 use Rattle.flat_steps.proofs.take.copied.Goals as goal
 
 pub returns-clause-targets : goal.returns-clause-targets

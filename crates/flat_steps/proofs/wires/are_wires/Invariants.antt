@@ -1,5 +1,5 @@
 use Rattle.std.proofs.Common.{◌≡◌, drop}
-use Rattle.flat_build.specs.State.{are_wires}
+use Rattle.flat_form.specs.State.{are_wires}
 use Rattle.flat_steps.proofs.wires.are_wires.Given as goal
 
 abbrev pub invariant-loop-p : goal.invariant-loop-p

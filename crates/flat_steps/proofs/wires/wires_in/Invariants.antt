@@ -1,5 +1,5 @@
 use Rattle.std.proofs.Common.{◌≡◌, ◌++◌, drop}
-use Rattle.flat_build.specs.State.{wires_in}
+use Rattle.flat_form.specs.State.{wires_in}
 use Rattle.flat_steps.proofs.wires.wires_in.Given as goal
 
 abbrev pub invariant-loop-p : goal.invariant-loop-p

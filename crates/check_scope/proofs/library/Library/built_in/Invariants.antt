@@ -1,5 +1,5 @@
 use Rattle.std.proofs.Common.{◌≡◌, drop}
-use Rattle.check_scope.specs.Uses.{built_in}
+use Rattle.silq_types.specs.Calls.{built_in}
 use Rattle.check_scope.proofs.library.Library.built_in.Given as goal
 
 -- the rest tells

@@ -7,7 +7,7 @@ use Rattle.silq_types.specs.Types.{shape_bits}
 use Rattle.bit_arith.specs.Built.{begun}
 use Rattle.bit_arith.specs.Calls.{Refused}
 use Rattle.bit_arith.proofs.Chained.{refused_later}
-use Rattle.flat_build.specs.Flat.{input_wires, inputs}
+use Rattle.flat_form.specs.Flat.{input_wires, inputs}
 use Rattle.flat_steps.proofs.Inputs.{inputs_grows}
 use Rattle.flat_steps.proofs.state.Flattening.begin.Goals as goal
 

@@ -1,7 +1,7 @@
 use Rattle.std.proofs.Common.{◌≡◌, ◌++◌, drop, reverse, None}
 use Rattle.flat_core.specs.Drafts.{empty_draft}
 use Rattle.bit_arith.specs.Built.{Setting, begun}
-use Rattle.flat_build.specs.Flat.{inputs}
+use Rattle.flat_form.specs.Flat.{inputs}
 use Rattle.flat_steps.proofs.state.Flattening.begin.Given as goal
 
 abbrev pub invariant-loop-shape : goal.invariant-loop-shape

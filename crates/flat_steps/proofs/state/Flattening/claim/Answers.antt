@@ -1,9 +1,9 @@
 use Rattle.std.proofs.Common.{◌≡◌, sym, ap, subst}
 use Rattle.silq_mean.specs.Effect.{claim}
 use Rattle.bit_arith.specs.Built.{begun}
-use Rattle.flat_build.specs.State.{Flattening, first, last}
-use Rattle.flat_build.specs.declared.known.Known.TheVariants.{Shown}
-use Rattle.flat_build.specs.Flat.{known_in}
+use Rattle.flat_form.specs.State.{Flattening, first, last}
+use Rattle.flat_form.specs.declared.known.Known.TheVariants.{Shown}
+use Rattle.flat_form.specs.Flat.{known_in}
 use Rattle.flat_steps.specs.Ready.{Ready}
 use Rattle.flat_steps.proofs.Changing.{claims_by}
 use Rattle.flat_steps.proofs.state.Flattening.claim.Goals as goal

@@ -2,7 +2,7 @@ use Rattle.std.proofs.Common.{[]}
 use Rattle.bit_arith.specs.Rows.{flip}
 use Rattle.bit_arith.proofs.Grows.{flip_x}
 use Rattle.bit_arith.proofs.Going.{refused_out}
-use Rattle.flat_build.specs.State.{last, drop_last}
+use Rattle.flat_form.specs.State.{last, drop_last}
 use Rattle.flat_steps.proofs.Holding.{Gate, GateGrows, wire_refused}
 use Rattle.flat_steps.proofs.state.Flattening.flip_last.Goals as goal
 

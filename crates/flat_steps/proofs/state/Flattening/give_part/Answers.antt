@@ -1,8 +1,8 @@
 use Rattle.std.proofs.Common.{ℕ, sym, ap, ◌∙◌, subst}
 use Rattle.silq_mean.specs.Env.{found}
-use Rattle.flat_build.specs.declared.known.Known.TheVariants.{Absent}
-use Rattle.flat_build.specs.State.{Flattening}
-use Rattle.flat_build.specs.Flat.{use_part}
+use Rattle.flat_form.specs.declared.known.Known.TheVariants.{Absent}
+use Rattle.flat_form.specs.State.{Flattening}
+use Rattle.flat_form.specs.Flat.{use_part}
 use Rattle.flat_steps.specs.Sizes.{IsSized}
 use Rattle.flat_steps.specs.contracts.state.Flattening.{the_view}
 use Rattle.flat_steps.proofs.Using.{sized_in, used_is}

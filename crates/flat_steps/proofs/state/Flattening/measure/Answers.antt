@@ -4,13 +4,13 @@ use Rattle.flat_core.specs.declared.step.End.TheVariants.{Measured}
 use Rattle.bit_arith.specs.Built.{begun}
 use Rattle.bit_arith.specs.Calls.{Building}
 use Rattle.bit_arith.specs.Does.{Below}
-use Rattle.flat_build.specs.declared.known.TypedBits.{TypedBits}
-use Rattle.flat_build.specs.Flat.{end_all}
+use Rattle.flat_form.specs.declared.known.TypedBits.{TypedBits}
+use Rattle.flat_form.specs.Flat.{end_all}
 use Rattle.flat_steps.specs.Held.{Held}
 use Rattle.flat_steps.specs.contracts.state.Flattening.{the_view}
 use Rattle.flat_steps.proofs.Holding.{given_state}
 use Rattle.bit_arith.proofs.Going.{refused_out}
-use Rattle.flat_build.specs.State.{Flattening, last, drop_last, wires_in}
+use Rattle.flat_form.specs.State.{Flattening, last, drop_last, wires_in}
 use Rattle.flat_steps.proofs.Measures.{value_refused, ends_there, measure_refused, measure_given}
 use Rattle.flat_steps.proofs.state.Flattening.measure.Goals as goal
 

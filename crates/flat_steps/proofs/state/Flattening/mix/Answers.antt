@@ -1,7 +1,7 @@
 use Rattle.bit_arith.specs.Rows.{had}
 use Rattle.bit_arith.proofs.Grows.{had_x}
 use Rattle.bit_arith.proofs.Going.{refused_out}
-use Rattle.flat_build.specs.State.{last, drop_last}
+use Rattle.flat_form.specs.State.{last, drop_last}
 use Rattle.flat_steps.proofs.Holding.{GateGrows, wire_refused}
 use Rattle.flat_steps.proofs.state.Flattening.mix.Goals as goal
 

@@ -1,7 +1,7 @@
 use Rattle.std.proofs.Common.{sym, ◌∙◌, subst}
 use Rattle.bit_arith.specs.Built.{begun}
-use Rattle.flat_build.specs.State.{Flattening}
-use Rattle.flat_build.specs.Good.{Good}
+use Rattle.flat_form.specs.State.{Flattening}
+use Rattle.flat_form.specs.Good.{Good}
 use Rattle.flat_steps.proofs.Receiving.{received_safe}
 use Rattle.flat_steps.proofs.state.Flattening.receive.Goals as goal
 

@@ -1,6 +1,6 @@
 use Rattle.std.proofs.Common.{sym, ap, ◌∙◌, subst}
-use Rattle.flat_build.specs.Flat.{repeated}
-use Rattle.flat_build.specs.Good.{Good}
+use Rattle.flat_form.specs.Flat.{repeated}
+use Rattle.flat_form.specs.Good.{Good}
 use Rattle.flat_steps.proofs.Holding.{repeated_there}
 use Rattle.flat_steps.proofs.state.Flattening.repeat_last.Goals as goal
 

@@ -1,7 +1,7 @@
 use Rattle.std.proofs.Common.{sym, ap, ◌∙◌, subst}
-use Rattle.flat_build.specs.State.{Flattening, last}
-use Rattle.flat_build.specs.Good.{Good}
-use Rattle.flat_build.specs.Fine.{IsOf, MayTake}
+use Rattle.flat_form.specs.State.{Flattening, last}
+use Rattle.flat_form.specs.Good.{Good}
+use Rattle.flat_form.specs.Fine.{IsOf, MayTake}
 use Rattle.flat_steps.proofs.Holding.{held_last}
 use Rattle.flat_steps.proofs.state.Flattening.take_last.Goals as goal
 

@@ -3,8 +3,8 @@ use Rattle.bit_arith.specs.Built.{made, negated}
 use Rattle.bit_arith.specs.Rows.{turn}
 use Rattle.bit_arith.proofs.Grows.{turn_x, x_then}
 use Rattle.bit_arith.proofs.Going.{refused_out}
-use Rattle.flat_build.specs.State.{last, drop_last}
-use Rattle.flat_build.specs.Flat.{turn_both}
+use Rattle.flat_form.specs.State.{last, drop_last}
+use Rattle.flat_form.specs.Flat.{turn_both}
 use Rattle.flat_steps.proofs.Holding.{GateGrows, wire_refused}
 use Rattle.flat_steps.proofs.state.Flattening.turn_by.Goals as goal
 

@@ -1,8 +1,8 @@
 use Rattle.std.proofs.Common.{◌∷◌, sym, ap, ◌∙◌, subst, List}
-use Rattle.flat_build.specs.declared.known.Known.{Known}
-use Rattle.flat_build.specs.State.{Flattening, last, drop_last}
-use Rattle.flat_build.specs.Good.{Good}
-use Rattle.flat_build.specs.Fine.{MayJoin}
+use Rattle.flat_form.specs.declared.known.Known.{Known}
+use Rattle.flat_form.specs.State.{Flattening, last, drop_last}
+use Rattle.flat_form.specs.Good.{Good}
+use Rattle.flat_form.specs.Fine.{MayJoin}
 use Rattle.flat_steps.specs.contracts.state.Flattening.{the_view}
 use Rattle.flat_steps.proofs.Joining.{can_join}
 use Rattle.flat_steps.proofs.state.Flattening.two_operands.Goals as goal

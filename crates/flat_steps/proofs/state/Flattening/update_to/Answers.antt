@@ -1,9 +1,9 @@
 use Rattle.std.proofs.Common.{◌≡◌, sym, ◌∙◌, subst}
 use Rattle.silq_mean.specs.Effect.{step, update_to}
 use Rattle.bit_arith.specs.Built.{begun}
-use Rattle.flat_build.specs.State.{Flattening}
-use Rattle.flat_build.specs.declared.known.Known.TheVariants.{Shown}
-use Rattle.flat_build.specs.Flat.{known_in}
+use Rattle.flat_form.specs.State.{Flattening}
+use Rattle.flat_form.specs.declared.known.Known.TheVariants.{Shown}
+use Rattle.flat_form.specs.Flat.{known_in}
 use Rattle.flat_steps.specs.Ready.{Ready}
 use Rattle.flat_steps.proofs.Changing.{updates_by}
 use Rattle.flat_steps.proofs.state.Flattening.update_to.Goals as goal

@@ -1,5 +1,5 @@
 use Rattle.std.proofs.Common.{get_or, sym, ap, ◌∙◌}
-use Rattle.flat_build.specs.declared.known.Known.TheVariants.{Absent}
+use Rattle.flat_form.specs.declared.known.Known.TheVariants.{Absent}
 use Rattle.flat_steps.proofs.Places.{not_placed, placed}
 use Rattle.flat_steps.proofs.variables.Block.get.Goals as goal
 

@@ -1,6 +1,6 @@
 use Rattle.std.proofs.Common.{◌++◌, drop, sym, ap, ◌∙◌}
 use Rattle.std.proofs.lemmas.List.{append-nil}
-use Rattle.flat_build.specs.Flat.{paired}
+use Rattle.flat_form.specs.Flat.{paired}
 use Rattle.flat_steps.proofs.Turned.{none_paired}
 use Rattle.flat_steps.proofs.variables.Block.of_values.Goals as goal
 

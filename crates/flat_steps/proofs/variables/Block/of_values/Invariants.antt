@@ -1,5 +1,5 @@
 use Rattle.std.proofs.Common.{◌≡◌, ◌++◌, drop}
-use Rattle.flat_build.specs.Flat.{paired}
+use Rattle.flat_form.specs.Flat.{paired}
 use Rattle.flat_steps.proofs.variables.Block.of_values.Given as goal
 
 abbrev pub invariant-loop-name : goal.invariant-loop-name

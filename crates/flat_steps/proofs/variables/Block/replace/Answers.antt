@@ -1,7 +1,7 @@
 use Rattle.std.proofs.Common.{◌≡◌, None, Some, set, get_or, sym, ap, ◌∙◌}
 use Rattle.std.specs.List.{position}
 use Rattle.silq_types.specs.Types.{same_name}
-use Rattle.flat_build.specs.declared.known.Known.TheVariants.{Absent}
+use Rattle.flat_form.specs.declared.known.Known.TheVariants.{Absent}
 use Rattle.flat_steps.proofs.Places.{not_placed, placed}
 use Rattle.flat_steps.proofs.variables.Block.replace.Goals as goal
 

@@ -1,5 +1,5 @@
 use Rattle.std.proofs.Common.{drop, sym, ap, ◌∙◌}
-use Rattle.flat_build.specs.Flat.{bind_all}
+use Rattle.flat_form.specs.Flat.{bind_all}
 use Rattle.flat_steps.proofs.Turned.{none_bound}
 use Rattle.flat_steps.proofs.variables.Variables.bind_all.Goals as goal
 

@@ -1,5 +1,5 @@
 use Rattle.std.proofs.Common.{◌≡◌, drop}
-use Rattle.flat_build.specs.Flat.{bind_all}
+use Rattle.flat_form.specs.Flat.{bind_all}
 use Rattle.flat_steps.proofs.variables.Variables.bind_all.Given as goal
 
 abbrev pub invariant-loop-name : goal.invariant-loop-name

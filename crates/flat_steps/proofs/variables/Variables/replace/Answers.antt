@@ -1,6 +1,6 @@
 use Rattle.std.proofs.Common.{◌≡◌, false, reverse, sym, ap, ◌∙◌, subst}
 use Rattle.silq_mean.specs.Env.{is_in_reach}
-use Rattle.flat_build.specs.declared.known.Known.TheVariants.{Absent}
+use Rattle.flat_form.specs.declared.known.Known.TheVariants.{Absent}
 use Rattle.flat_steps.specs.Reach.{IsInnermost}
 use Rattle.flat_steps.proofs.Places.{not_found, not_its, found_to, its_to}
 use Rattle.flat_steps.proofs.variables.Variables.replace.Goals as goal

@@ -1,0 +1,10 @@
+pub mod Samples
+pub mod Both
+pub mod Numbers
+pub mod Pieces
+pub mod Digits
+pub mod Bits
+pub mod Kept
+pub mod Later
+pub mod Giving
+pub mod Goods
