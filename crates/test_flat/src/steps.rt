@@ -62,7 +62,7 @@ fn one_bit(alloc: Global) -> Result<Flattening, LimitFault>
 }
 
 // A copy stands on a new wire.
-#[tactic(auto, using(crate::proofs::OneBit::ready_at_first))]
+#[tactic(auto, using(crate::proofs::OneBit::ready_bit))]
 fn copied(alloc: Global) -> Result<(usize, Option<u32>), LimitFault> {
     let mut state = one_bit(alloc)?;
     state.copy_last()?;
@@ -70,7 +70,7 @@ fn copied(alloc: Global) -> Result<(usize, Option<u32>), LimitFault> {
 }
 
 // A negation needs no wire.
-#[tactic(auto, using(crate::proofs::OneBit::ready_at_first))]
+#[tactic(auto, using(crate::proofs::OneBit::ready_bit))]
 fn negated(alloc: Global) -> Result<(usize, Option<u32>), LimitFault> {
     let mut state = one_bit(alloc)?;
     state.one_operand(UnaryOp::Not)?;
@@ -78,7 +78,7 @@ fn negated(alloc: Global) -> Result<(usize, Option<u32>), LimitFault> {
 }
 
 // A phase leaves the values as they are.
-#[tactic(auto, using(crate::proofs::OneBit::ready_at_first))]
+#[tactic(auto, using(crate::proofs::OneBit::ready_bit))]
 fn turned(alloc: Global) -> Result<(usize, Option<u32>), LimitFault> {
     let mut state = one_bit(alloc)?;
     state.turn_all(3)?;
@@ -86,7 +86,7 @@ fn turned(alloc: Global) -> Result<(usize, Option<u32>), LimitFault> {
 }
 
 // A variable keeps the wires of a value that is its own.
-#[tactic(auto, using(crate::proofs::OneBit::ready_at_first))]
+#[tactic(auto, using(crate::proofs::OneBit::ready_bit))]
 fn received(alloc: Global) -> Result<(usize, Option<u32>), LimitFault> {
     let mut state = one_bit(alloc)?;
     state.receive(Receiver::Variable)?;
@@ -94,7 +94,7 @@ fn received(alloc: Global) -> Result<(usize, Option<u32>), LimitFault> {
 }
 
 // In a body the argument is no value under way.
-#[tactic(auto, using(crate::proofs::OneBit::ready_at_first))]
+#[tactic(auto, using(crate::proofs::OneBit::ready_bit))]
 fn called(alloc: Global) -> Result<(usize, Option<u32>), LimitFault> {
     let mut state = one_bit(alloc)?;
     state.enter_body(&[NameId { number: 1 }])?;
@@ -102,7 +102,7 @@ fn called(alloc: Global) -> Result<(usize, Option<u32>), LimitFault> {
 }
 
 // The condition of a branch is no value under way.
-#[tactic(auto, using(crate::proofs::OneBit::good_at_first, crate::proofs::OneBit::bit_at_first))]
+#[tactic(auto, using(crate::proofs::OneBit::good_at_bit, crate::proofs::OneBit::last_is_bit))]
 fn chosen(alloc: Global) -> Result<(usize, Option<u32>), LimitFault> {
     let mut state = one_bit(alloc)?;
     let choice = state.first_branch()?;

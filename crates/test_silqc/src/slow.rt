@@ -1,5 +1,7 @@
 //! Files and sinks that take one byte at a time.
 
+ghost use Rattle.std.specs.Prelude.{◌≡◌, ℕ, List};
+
 use silq_io::{Failed, Files, Sink};
 
 /// Files that give, and a sink that takes, one byte at a time.
