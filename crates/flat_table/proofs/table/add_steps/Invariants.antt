@@ -1,7 +1,0 @@
--- The steps left make what all of them make.
-use Rattle.std.proofs.Common.{◌≡◌, drop}
-use Rattle.flat_table.specs.Table.{with_steps}
-use Rattle.flat_table.proofs.table.add_steps.Given as goal
-
-abbrev pub invariant-loop-entry : goal.invariant-loop-entry
-invariant-loop-entry l = with_steps l.fn.draft l.steps ≡ with_steps l.draft (drop l.entry-index l.steps)

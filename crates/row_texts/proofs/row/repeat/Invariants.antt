@@ -1,8 +1,0 @@
--- The text so far is that of the rounds so far.
-use Rattle.std.proofs.Common.{◌≡◌}
-use Rattle.std.specs.String.{string_bytes}
-use Rattle.row_texts.specs.Spelled.{times}
-use Rattle.row_texts.proofs.row.repeat.Given as goal
-
-abbrev pub invariant-loop : goal.invariant-loop
-invariant-loop l = string_bytes l.all ≡ times l.counter l.text

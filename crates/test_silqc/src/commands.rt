@@ -1,0 +1,239 @@
+//! Commands, and how each has to end: its status, its text and its note.
+
+use crate::slow::Slow;
+use silq_io::{MemFiles, MemSink, Words};
+use silqc::silqc;
+use silqc::status::Status;
+use std::alloc::{AllocError, Global};
+
+const ONE: &[u8] = b"def main(x:B):B { x := H(x); return x; }";
+
+const ONE_TEXT: &[u8] =
+    b"OPENQASM 2.0;\ninclude \"qelib1.inc\";\nqreg q[1];\n// silqc in 0 q[0]\nh q[0];\n// silqc out 0 q[0]\n";
+
+const TWO: &[u8] = b"def main(a:B, b:B):B\xc3\x97B { a := H(a); b := X(b); return (a, b); }";
+
+const TWO_TEXT: &[u8] =
+    b"OPENQASM 2.0;\ninclude \"qelib1.inc\";\nqreg q[2];\n// silqc in 0 q[0]\n// silqc in 1 q[1]\nh q[0];\nx q[1];\n// silqc out 0 q[0]\n// silqc out 1 q[1]\n";
+
+// The words of a command.
+fn words_of(alloc: Global, words: &[&str]) -> Result<Words, AllocError> {
+    let mut list = Words::new(alloc);
+    for word in words {
+        list.push(word)?;
+    }
+    Ok(list)
+}
+
+// The file `one.slq` with these bytes, whose calls with these numbers fail.
+fn file_of(alloc: Global, bytes: &[u8], fails: &[u64]) -> Result<MemFiles, AllocError> {
+    let name = String::from_str(alloc, "one.slq")?;
+    let mut files = Vec::new(alloc);
+    files.push((name, Vec::from_slice(alloc, bytes)?))?;
+    MemFiles::new(alloc, files, Vec::from_slice(alloc, fails)?)
+}
+
+// A command over `one.slq`, and how it has to end.
+#[derive(Clone, Copy)]
+struct Case<'a> {
+    words: &'a [&'a str],
+    bytes: &'a [u8],
+    file_fails: &'a [u64],
+    room: usize,
+    code: u8,
+    out: &'a [u8],
+    note: &'a [u8],
+}
+
+const COMPILE: &[&str] = &["compile", "one.slq", "main", "--budget", "1"];
+
+// A command of these words that is refused with a note.
+fn no_job<'a>(words: &'a [&'a str]) -> Case<'a> {
+    Case {
+        words,
+        bytes: ONE,
+        file_fails: &[],
+        room: 200,
+        code: 2,
+        out: b"",
+        note: b"silqc: the words are not a job\n",
+    }
+}
+
+// These bytes compiled to a text.
+fn compiled<'a>(bytes: &'a [u8], out: &'a [u8]) -> Case<'a> {
+    Case {
+        words: COMPILE,
+        bytes,
+        file_fails: &[],
+        room: 200,
+        code: 0,
+        out,
+        note: b"",
+    }
+}
+
+// These bytes refused with a note.
+fn refused<'a>(bytes: &'a [u8], code: u8, note: &'a [u8]) -> Case<'a> {
+    Case {
+        words: COMPILE,
+        bytes,
+        file_fails: &[],
+        room: 200,
+        code,
+        out: b"",
+        note,
+    }
+}
+
+// A check of these bytes, and how it has to end.
+fn checked<'a>(bytes: &'a [u8], code: u8, note: &'a [u8]) -> Case<'a> {
+    Case {
+        words: &["check", "one.slq", "main"],
+        ..refused(bytes, code, note)
+    }
+}
+
+// Whether a command ends as its case says.
+fn is_met(alloc: Global, case: &Case) -> Result<bool, AllocError> {
+    let words = words_of(alloc, case.words)?;
+    let mut files = file_of(alloc, case.bytes, case.file_fails)?;
+    let mut out = MemSink::new(alloc, case.room, Vec::new(alloc))?;
+    let mut notes = MemSink::new(alloc, 200, Vec::new(alloc))?;
+    let status = silqc(alloc, &words, &mut files, &mut out, &mut notes);
+    Ok(status.code() == case.code && out.bytes() == case.out && notes.bytes() == case.note)
+}
+
+// The number of the first case that ends otherwise, from 0.
+fn first_missed(alloc: Global, cases: &[Case]) -> Option<usize> {
+    for (number, case) in cases.iter().enumerate() {
+        if !is_met(alloc, case).unwrap_or(false) {
+            return Some(number);
+        }
+    }
+    None
+}
+
+#[test]
+fn commands(rt: HostRuntime) {
+    let unread = b"silqc: reading failed\n".as_slice();
+    let unbuilt = b"silqc: not built yet\n".as_slice();
+    let cases = [
+        no_job(&[]),
+        no_job(&["compile", "one.slq", "main", "--budget", "0"]),
+        no_job(&["make", "one.slq", "main", "--budget", "1"]),
+        Case {
+            words: &["compile", "two.slq", "main", "--budget", "1"],
+            ..refused(ONE, 3, unread)
+        },
+        Case {
+            file_fails: &[3],
+            ..refused(ONE, 3, unread)
+        },
+        Case {
+            room: 40,
+            out: &ONE_TEXT[..40],
+            ..refused(ONE, 11, b"silqc: writing failed\n")
+        },
+        compiled(ONE, ONE_TEXT),
+        compiled(
+            b"/* H */ def main(x:\xf0\x9d\x94\xb9):B{// here\n x:=H(x);return x;}",
+            ONE_TEXT,
+        ),
+        Case {
+            words: &["compile", "one.slq", "main", "--budget", "2"],
+            ..compiled(TWO, TWO_TEXT)
+        },
+        refused(TWO, 10, b"silqc: over budget: least 2, budget 1\n"),
+        refused(b"def main() { y := H(0:B); }", 15, unbuilt),
+        refused(b"", 15, unbuilt),
+        refused(
+            b"def main(x:B) { x = H(x); }",
+            4,
+            b"silqc: 1:19: syntax: form\n",
+        ),
+        refused(b"def \xc3", 4, b"silqc: 1:5: syntax: utf8\n"),
+        refused(
+            b"\xf0\x9d\x94\xb9\n\xc3\x97\xff",
+            4,
+            b"silqc: 2:2: syntax: utf8\n",
+        ),
+        refused(
+            b"def main(x:B):B {\n x /* ",
+            4,
+            b"silqc: 2:4: syntax: comment\n",
+        ),
+        refused(
+            b"def main(x:B):B { x := 9223372036854775808; return x; }",
+            4,
+            b"silqc: 1:24: syntax: number\n",
+        ),
+    ];
+    assert_eq!(rt; first_missed(rt.alloc(), &cases), None);
+}
+
+#[test]
+fn checks(rt: HostRuntime) {
+    let sized = b"def main[n:!N](x:B):B { return x; }".as_slice();
+    let cases = [
+        no_job(&["check", "one.slq"]),
+        no_job(&["check", "one.slq", "main", "1234567890123456789"]),
+        checked(ONE, 0, b""),
+        Case {
+            words: &["check", "one.slq", "main", "003"],
+            ..checked(sized, 0, b"")
+        },
+        checked(sized, 6, b"silqc: 1:1: type: K21\n"),
+        checked(
+            b"def main() { y := H(0:B); }",
+            6,
+            b"silqc: 1:27: type: K11\n",
+        ),
+        checked(b"", 5, b"silqc: 1:1: names: K1\n"),
+        checked(
+            b"def main(x:B):B { x := rotX(x); return x; }",
+            7,
+            b"silqc: 1:24: unsupported: rotX\n",
+        ),
+        checked(
+            b"def main() { for i in [0..1000000) { phase(0); } }",
+            8,
+            b"silqc: limit: walked 1000001\n",
+        ),
+    ];
+    assert_eq!(rt; first_missed(rt.alloc(), &cases), None);
+}
+
+// How a command ends that reads and writes one byte at a time, and whether it writes the text of `ONE`.
+fn ends_slowly(alloc: Global) -> Result<(Status, bool), AllocError> {
+    let words = words_of(alloc, &["compile", "one.slq", "main", "--budget", "000001"])?;
+    let mut files = Slow {
+        inner: file_of(alloc, ONE, &[])?,
+    };
+    let mut out = Slow {
+        inner: MemSink::new(alloc, 200, Vec::new(alloc))?,
+    };
+    let mut notes = MemSink::new(alloc, 200, Vec::new(alloc))?;
+    let status = silqc(alloc, &words, &mut files, &mut out, &mut notes);
+    Ok((status, out.inner.bytes() == ONE_TEXT))
+}
+
+#[test]
+fn one_byte_at_a_time(rt: HostRuntime) {
+    let ending = ends_slowly(rt.alloc());
+    assert!(rt; matches!(ending, Ok((Status::Done, true))));
+}
+
+// Whether a text of so many blanks ends a command with this status and note.
+fn blanks_end(alloc: Global, count: usize, code: u8, note: &[u8]) -> Result<bool, AllocError> {
+    let blanks = vec![in alloc; b' '; count]?;
+    is_met(alloc, &refused(&blanks, code, note))
+}
+
+#[test]
+fn the_longest_text(rt: HostRuntime) {
+    let alloc = rt.alloc();
+    let longest = blanks_end(alloc, 1_048_576, 15, b"silqc: not built yet\n");
+    let longer = blanks_end(alloc, 1_048_577, 4, b"silqc: 1:1: syntax: long\n");
+    assert!(rt; matches!((longest, longer), (Ok(true), Ok(true))));
+}
