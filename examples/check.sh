@@ -32,5 +32,5 @@ rows() {
 if [ "${1-}" = --rows ]; then
     rows
 else
-    rows | (cd "$top/crates/test_check" && rt try)
+    rows | (cd "$top/crates/test_check" && rt try --seconds 600)
 fi
