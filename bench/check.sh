@@ -4,7 +4,7 @@
 # the peak memory in megabytes.
 # Usage: bench/check.sh
 top=$(cd "$(dirname "$0")/.." && pwd) || exit 1
-"$top/silqc" compile "$top/examples/one.slq" main --budget 1 >/dev/null || exit 1
+"$top/silqc" --prove || exit 1
 program=$top/crates/silqc_bin/out/silqc_bin
 file=/tmp/silqc_check.$$
 

@@ -3,7 +3,7 @@
 # with N statements. Prints the size of the file, the seconds and the peak memory in megabytes.
 # Usage: bench/parse.sh [N..]
 top=$(cd "$(dirname "$0")/.." && pwd) || exit 1
-"$top/silqc" compile "$top/examples/one.slq" main --budget 1 >/dev/null || exit 1
+"$top/silqc" --prove || exit 1
 program=$top/crates/silqc_bin/out/silqc_bin
 file=/tmp/silqc_parse.$$
 for n in ${*:-10000 20000 40000 80000}; do
