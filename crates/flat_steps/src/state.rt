@@ -78,7 +78,8 @@ impl Flattening {
     pub fn finish(self, ins: WireLists) -> Result<Flat, AllocError>
         requires wires { AllOf (λ ws. Below (length self.built.draft.wires) ws) (wire_lists (reverse self.values)) }
         requires ends { FitsEnds (finished (end_all Output (joined (wire_lists (reverse self.values))) self.built).draft ins (wire_lists (reverse self.values))) }
-        ensures { IfOk result (λ f. f ≡ finished (end_all Output (joined (wire_lists (reverse self.values))) self.built).draft ins (wire_lists (reverse self.values))) }
+        ensures form { IfOk result (λ f. f ≡ finished (end_all Output (joined (wire_lists (reverse self.values))) self.built).draft ins (wire_lists (reverse self.values))) }
+        ensures within { self.built.over ≡ None }
     {
         let outs = self.wire_lists()?;
         let Flattening {
