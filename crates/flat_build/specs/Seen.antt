@@ -1,5 +1,5 @@
 -- What a body sees, what its parts do, and the job of a function.
-use Rattle.std.specs.Prelude.{ℕ, Bool, ◌-ℤ◌, if◌then◌else◌, map, List, [], ◌∷◌, ◌++◌, Option, Some, None, ℤ}
+use Rattle.std.specs.Prelude.{ℕ, Bool, false, ◌-ℤ◌, if◌then◌else◌, cond, map, List, [], ◌∷◌, ◌++◌, Option, Some, None, ℤ}
 use Rattle.silq_tree.specs.declared.node.NameId.{NameId}
 use Rattle.silq_tree.specs.declared.node.ExprId.{ExprId}
 use Rattle.silq_tree.specs.declared.node.StmtId.{StmtId}
@@ -19,9 +19,9 @@ use Rattle.silq_types.specs.declared.need.Need.{Need}
 use Rattle.silq_types.specs.declared.need.Need.TheVariants.{Held, Consumed}
 use Rattle.silq_types.specs.declared.built_in.BuiltIn.{BuiltIn}
 use Rattle.silq_mean.specs.declared.receiver.Receiver.{Receiver}
-use Rattle.silq_mean.specs.declared.receiver.Receiver.TheVariants.{Variable, CallResult}
+use Rattle.silq_mean.specs.declared.receiver.Receiver.TheVariants.{Variable, CallResult, EntryOutput}
 use Rattle.silq_mean.specs.Effect.{Effect, nothing, ◌>>◌, statement, step, claim, choice, one_operand, two_operands, receive, assign_to, assign_in_turn, update_to, end_name, end_compared, enter_body, leave_body}
-use Rattle.silq_mean.specs.Meaning.{Scope, functions, parameters_of, expr, exprs, items, called, gate, body, stmt, stmts, in_block, otherwise, rounds, static_value, static_values, body_of, names_of, params_of, takers_of}
+use Rattle.silq_mean.specs.Meaning.{Scope, functions, parameters_of, expr, exprs, items, called, gate, stmt, stmts, in_block, otherwise, rounds, static_value, static_values, body_of, names_of, params_of, takers_of, type_of, give_held}
 use Rattle.silq_mean.specs.Table.{Job, job_of}
 use Rattle.flat_build.specs.declared.body.Body.{Body}
 
@@ -43,6 +43,20 @@ seen_in l b = seen_at l b.this b.statics b.results
 -- the job of the function with a number
 abbrev pub job_at : Shelf → ℕ → List ℤ → Job
 job_at l n statics = job_of (record { words = l.words; funs = functions_of l }) statics (Some (found_at l n))
+
+-- what the body of the function with a number sees with static values, as an entry or in a call
+abbrev pub instance_in : Shelf → ℕ → List ℤ → Bool → Body
+instance_in l m values entry =
+    let statics = paired (function_at l m).statics values in
+    record { this = m; statics = statics; results = map (λ t. cond entry EntryOutput CallResult (type_of statics t)) (function_at l m).results }
+
+-- the body of its function, with the last values as its environment
+abbrev pub run_in : Shelf → Body → Effect
+run_in l b = step (enter_body (names_of (params_of (function_at l b.this) b.statics))) >> body_of (function_at l b.this).body (seen_in l b)
+
+-- and then its const parameters' values
+abbrev pub entry_in : Shelf → Body → Effect
+entry_in l b = run_in l b >> give_held (params_of (function_at l b.this) b.statics)
 
 -- ---- what the parts of a body do
 
@@ -106,21 +120,22 @@ module _ (l : Shelf) (b : Body) where
   abbrev pub built_in_call_in : BuiltIn → List ExprId → Effect
   built_in_call_in word args = exprs_in args Held (needs_of_built_in word) [] >> gate word
 
+  -- what the body of the function with a number sees in a call
+  abbrev pub callee_in : ℕ → List ExprId → Body
+  callee_in m ss = instance_in l m (numbers_in ss) false
+
+  -- the arguments of a call of another body
+  abbrev pub arguments_in : Body → List ExprId → Effect
+  arguments_in inner args = exprs_in args Held (needs_of_own (Some (found_at l inner.this))) (takers_of (params_of (function_at l inner.this) inner.statics))
+
   -- a call of the function with a number
   abbrev pub own_call_in : ℕ → List ExprId → List ExprId → Effect
-  own_call_in m ss args =
-      let statics = paired (function_at l m).statics (numbers_in ss) in
-      exprs_in args Held (needs_of_own (Some (found_at l m))) (takers_of (params_of (function_at l m) statics))
-      >> (body l.words (before_at l m) (functions l.words (before_at l m)) CallResult (function_at l m) statics >> step leave_body)
+  own_call_in m ss args = arguments_in (callee_in m ss) args >> (run_in l (callee_in m ss) >> step leave_body)
 
   abbrev pub choose_in : ExprId → List StmtId → Else → Effect
   choose_in e ids other =
       if is_static b.statics (expr_at l.nodes e) then taken_in (is_true (static_value b.statics (expr_at l.nodes e))) ids other
       else (expr_in e Held >> choice (block_in ids) (else_in other))
-
-  -- the body of its function, with the last values as its environment
-  abbrev pub run_in : Effect
-  run_in = step (enter_body (names_of (params_of (function_at l b.this) b.statics))) >> body_of (function_at l b.this).body (seen_in l b)
 
 abbrev pub with_value : Body → NameId → ℤ → Body
 with_value b x v = record b { statics = b.statics ++ (x, v) ∷ [] }

@@ -11,18 +11,40 @@ ghost use Rattle.silq_mean.specs.declared.receiver.Receiver.TheVariants.{Variabl
 ghost use Rattle.bit_arith.specs.Calls.{Refused};
 ghost use Rattle.flat_form.specs.Flat.{flat};
 ghost use Rattle.flat_steps.specs.Ready.{Ready};
-ghost use Rattle.flat_build.specs.Seen.{items_in, assign_in, spread_in, update_in, forget_in, return_in, line_in};
+ghost use Rattle.flat_build.specs.Seen.{stmt_in, items_in, assign_in, spread_in, update_in, forget_in, return_in, line_in, acts};
 
+use crate::block::{choose, unroll};
 use crate::body::Body;
 use crate::expr::{expr, index_values, receive, values};
+use crate::written::eighths;
 use check_scope::Library;
 use silq_types::Need;
 use flat_steps::Flattening;
 use silq_io::LimitFault;
 use silq_mean::Receiver;
-use silq_tree::{Expr, ExprId, NameId, PlaceNode, Stmt, UpdateOp};
+use silq_tree::{Expr, ExprId, NameId, PlaceNode, Stmt, StmtId, UpdateOp};
 use silq_types::List;
 use std::alloc::{AllocError, Global};
+
+/// Flattens a statement, on its line.
+#[cycle(walk)]
+pub(crate) fn statement(
+    library: &Library,
+    body: &Body,
+    state: &mut Flattening,
+    id: StmtId,
+) -> Result<(), LimitFault>
+    requires id { id.number < length library.now.nodes.stmts }
+    requires this { body.now.this < length library.now.funs }
+    requires ready { Ready (stmt_in library.now body.now id) state.old }
+    ensures ok { OnOk result (state.new ≡ flat (stmt_in library.now body.now id) state.old) }
+    ensures refused { IfErr result (λ f. Refused f (flat (stmt_in library.now body.now id) state.old).built) }
+{
+    let outer = state.begin_statement(line_of(library.tree().stmt(id)))?;
+    act(library, body, state, id)?;
+    state.end_statement(outer);
+    Ok(())
+}
 
 /// The line of a statement.
 fn line_of(node: &Stmt) -> u32
@@ -41,7 +63,70 @@ fn line_of(node: &Stmt) -> u32
     }
 }
 
+/// What a statement does on its line.
+#[cycle(walk)]
+fn act(
+    library: &Library,
+    body: &Body,
+    state: &mut Flattening,
+    id: StmtId,
+) -> Result<(), LimitFault>
+    requires id { id.number < length library.now.nodes.stmts }
+    requires this { body.now.this < length library.now.funs }
+    requires ready { Ready (acts (stmt_in library.now body.now id)) state.old }
+    ensures ok { OnOk result (state.new ≡ flat (acts (stmt_in library.now body.now id)) state.old) }
+    ensures refused { IfErr result (λ f. Refused f (flat (acts (stmt_in library.now body.now id)) state.old).built) }
+{
+    match library.tree().stmt(id) {
+        Stmt::Assign { target, value, .. } => assign(library, body, state, *target, *value),
+        Stmt::Spread { names, value, .. } => {
+            spread(library, body, state, names.as_slice(), *value)
+        }
+        Stmt::Update {
+            target,
+            op,
+            value,
+            ..
+        } => update(library, body, state, *target, *op, *value),
+        Stmt::Forget { name, value, .. } => forget(library, body, state, *name, *value),
+        Stmt::Phase { angle, .. } => {
+            state.turn_all(eighths(library.tree(), &body.statics, *angle))
+        }
+        Stmt::If {
+            cond,
+            then,
+            other,
+            ..
+        } => choose(
+            library,
+            body,
+            state,
+            *cond,
+            then.items.as_slice(),
+            other,
+        ),
+        Stmt::For {
+            name,
+            low,
+            high,
+            body: inner,
+            ..
+        } => unroll(
+            library,
+            body,
+            state,
+            *name,
+            *low,
+            *high,
+            inner.items.as_slice(),
+        ),
+        Stmt::Return { value, .. } => returned(library, body, state, *value),
+        Stmt::Call { call, .. } => expr(library, body, state, *call, Need::Consumed),
+    }
+}
+
 /// `:=` at a variable or a part.
+#[cycle(walk)]
 fn assign(
     library: &Library,
     body: &Body,
@@ -64,6 +149,7 @@ fn assign(
 }
 
 /// `:=` at a tuple of names.
+#[cycle(walk)]
 fn spread(
     library: &Library,
     body: &Body,
@@ -94,6 +180,7 @@ fn variables(alloc: Global, names: &[NameId]) -> Result<List<Receiver>, AllocErr
 }
 
 /// The values of a tuple, each of them taken over, or that of another expression.
+#[cycle(walk)]
 fn items(
     library: &Library,
     body: &Body,
@@ -123,6 +210,7 @@ fn items(
 }
 
 /// `+=`, `-=` or `^=`.
+#[cycle(walk)]
 fn update(
     library: &Library,
     body: &Body,
@@ -145,6 +233,7 @@ fn update(
 }
 
 /// `forget`, without or with a value.
+#[cycle(walk)]
 fn forget(
     library: &Library,
     body: &Body,
@@ -169,6 +258,7 @@ fn forget(
 }
 
 /// `return`, without or with values.
+#[cycle(walk)]
 fn returned(
     library: &Library,
     body: &Body,
