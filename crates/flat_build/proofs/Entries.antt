@@ -64,6 +64,10 @@ module _ (l : Shelf) (n : ℕ) (statics : List ℤ) (lt : n < length l.funs) (b 
   abbrev first : Flattening
   first = begin job.shapes
 
+  -- the wires of what the entry gives
+  abbrev outs : List WireId
+  outs = joined (wire_lists (reverse (flat job.effect first).values))
+
   told : job ≡ whole_job l b
   told = job_is l n statics lt ∙ ap (λ x. whole_job l x) (sym is)
 
@@ -80,7 +84,7 @@ module _ (l : Shelf) (n : ℕ) (statics : List ℤ) (lt : n < length l.funs) (b 
     pub begin_refused : (f : LimitFault) → Refused f (begin shapes).built → Refused f (record { draft = empty_draft; over = (flattened job).over })
     begin_refused Memory r = tt
     begin_refused (Limit over) r =
-        ends_over Output _ (flat job.effect first).built ∙ stays job.effect first over (subst (λ x. (begin x).built.over ≡ Some over) shapes_are r)
+        ends_over Output outs (flat job.effect first).built ∙ stays job.effect first over (subst (λ x. (begin x).built.over ≡ Some over) shapes_are r)
 
     module _ (s : Flattening) (e : s ≡ begin shapes) where
       start_is : s ≡ first
@@ -97,7 +101,7 @@ module _ (l : Shelf) (n : ℕ) (statics : List ℤ) (lt : n < length l.funs) (b 
       pub entry_refused : (f : LimitFault) → Refused f (flat (entry_in l b) s).built → Refused f (record { draft = empty_draft; over = (flattened job).over })
       entry_refused Memory r = tt
       entry_refused (Limit over) r =
-          ends_over Output _ (flat job.effect first).built ∙ (sym (ap (λ (u : Flattening). u.built.over) (end_is (flat (entry_in l b) s) refl)) ∙ r)
+          ends_over Output outs (flat job.effect first).built ∙ (sym (ap (λ (u : Flattening). u.built.over) (end_is (flat (entry_in l b) s) refl)) ∙ r)
 
       module _ (t : Flattening) (k : t ≡ flat (entry_in l b) s) where
         pub end_wires : FineJob job → AllOf (λ ws. Below (length t.built.draft.wires) ws) (wire_lists (reverse t.values))
@@ -113,4 +117,4 @@ module _ (l : Shelf) (n : ℕ) (statics : List ℤ) (lt : n < length l.funs) (b 
             ∙ ap (λ (u : Flattening). finished (end_all Output (joined (wire_lists (reverse u.values))) u.built).draft (wire_lists (reverse first.values)) (wire_lists (reverse u.values))) (end_is t k)
 
         pub form_within : t.built.over ≡ None → (flattened job).over ≡ None
-        form_within w = ends_over Output _ (flat job.effect first).built ∙ (sym (ap (λ (u : Flattening). u.built.over) (end_is t k)) ∙ w)
+        form_within w = ends_over Output outs (flat job.effect first).built ∙ (sym (ap (λ (u : Flattening). u.built.over) (end_is t k)) ∙ w)

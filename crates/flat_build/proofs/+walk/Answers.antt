@@ -24,6 +24,7 @@ use Rattle.flat_build.proofs.Acts.{line_told, act_refused, statement_done, told_
 use Rattle.flat_build.proofs.Blocks.{one_ready, one_refused, one_more, all_done, told_else_block, told_else_choice, else_ids, else_same, else_one, told_static_choice, told_run_choice, taken_first, taken_other, loop_still, lt_told, ge_told, next_number, loop_start, round_ready, round_refused, round_more, rounds_over, distance_less}
 use Rattle.std.proofs.lemmas.Bool.{eqb-true}
 use Rattle.std.proofs.Math.Facts.{sfits_to_z}
+use Rattle.std.specs.Prelude.{pos, ◌+ℤ◌}
 use Rattle.flat_build.proofs.Choosing.{first_ready, first_refused, second_good, second_safe, second_refused, other_ready, other_refused, choice_done, refused_start}
 use Rattle.flat_build.proofs.Owning.{arguments_ready, arguments_refused, run_ready, run_refused, leave_is, told_run, told_arguments}
 use Rattle.flat_build.proofs.Statements.{act_ready, count_refused}
@@ -432,7 +433,7 @@ pub block::unroll-returns-then-is_empty-clause-ok : goal.block::unroll-returns-t
 block::unroll-returns-then-is_empty-clause-ok t c = loop_still c.args.library.now c.args.body.now c.args.name c.args.low c.args.high c.args.ids.now c.args.state.now (eqb-true (length c.args.ids.now) 0 (sym c.if-is_empty.ensures))
 
 pub block::unroll-loop-value-init : goal.block::unroll-loop-value-init
-block::unroll-loop-value-init t c = ?
+block::unroll-loop-value-init t c = let f : SFits w64 c.static_value-past.result = search rules in let g : SFits w64 c.static_value-value.result = search rules in loop_start c.args.library.now c.args.body.now c.args.name c.args.low c.args.high c.args.ids.now c.args.state.now c.tree.result.now c.tree-2.result.now (to_z w64 (of_z w64 c.static_value-past.result)) (to_z w64 (of_z w64 c.static_value-value.result)) c.tree.ensures (to_z-of_z w64 c.static_value-past.result f ∙ c.static_value-past.ensures) c.tree-2.ensures (to_z-of_z w64 c.static_value-value.result g ∙ c.static_value-value.ensures) c.requires.ready
 
 pub block::unroll-round-requires : goal.block::unroll-round-requires
 block::unroll-round-requires t c = ((let below = level_less c.args.body.now.this (length c.args.library.now.nodes.exprs) (length c.args.library.now.nodes.stmts) (8 * length c.args.library.now.nodes.exprs + (8 * stmts_top c.args.ids.now + 2)) (8 * length c.args.library.now.nodes.exprs + (8 * stmts_top c.args.ids.now + 4)) (omega arith) in omega (arith, c.decreases, below)), (c.requires.ids, (c.requires.this, round_ready c.args.library.now c.args.body.now c.args.name c.args.ids.now _ _ _ _ c.loop-value.invariant (lt_told (to_z w64 c.loop-value.value-bits) _ c.loop-value-test.true))))
@@ -441,7 +442,7 @@ pub block::unroll-returns-in_err-round-clause-refused : goal.block::unroll-retur
 block::unroll-returns-in_err-round-clause-refused t c = if_err_from _ _ _ c.from_residual.ensures.1 (round_refused c.args.library.now c.args.body.now c.args.name c.args.ids.now _ _ _ _ c.loop-value.invariant (lt_told (to_z w64 c.loop-value.value-bits) _ c.loop-value-test.true) _ c.in_err-round.ensures.refused)
 
 pub block::unroll-loop-value-smaller : goal.block::unroll-loop-value-smaller
-block::unroll-loop-value-smaller t c = ?
+block::unroll-loop-value-smaller t c = distance_less (to_z w64 (of_z w64 c.static_value-past.result)) (to_z w64 c.loop-value.value-bits) (to_z w64 (of_z w64 ((to_z w64 c.loop-value.value-bits) +ℤ pos 1))) (lt_told (to_z w64 c.loop-value.value-bits) _ c.loop-value-test.true) (next_number (to_z w64 c.loop-value.value-bits) _ (search rules) (sfits_to_z c.loop-value.auto.value) (lt_told (to_z w64 c.loop-value.value-bits) _ c.loop-value-test.true))
 
 pub block::unroll-loop-value-preserved : goal.block::unroll-loop-value-preserved
 block::unroll-loop-value-preserved t c = round_more c.args.library.now c.args.body.now c.args.name c.args.ids.now _ _ _ _ c.loop-value.invariant (lt_told (to_z w64 c.loop-value.value-bits) _ c.loop-value-test.true) _ _ (next_number (to_z w64 c.loop-value.value-bits) _ (search rules) (sfits_to_z c.loop-value.auto.value) (lt_told (to_z w64 c.loop-value.value-bits) _ c.loop-value-test.true)) c.in_ok-round.ensures.ok
