@@ -1,5 +1,5 @@
 -- What a statement does, by the form of its node.
-use Rattle.std.proofs.Common.{◌≡◌, ℕ, ◌+◌, ◌<◌, ◌≤◌, List, [], ◌∷◌, ◌++◌, length, Option, Some, None, IfSome, refl, sym, ap, ◌∙◌, subst, arith}
+use Rattle.std.proofs.Common.{◌≡◌, ℕ, ◌<◌, ◌≤◌, List, [], ◌∷◌, length, Option, Some, None, IfSome, refl, sym, ap, ◌∙◌, subst, arith}
 use Rattle.silq_io.specs.declared.limit.LimitFault.{LimitFault}
 use Rattle.silq_tree.specs.declared.node.NameId.{NameId}
 use Rattle.silq_tree.specs.declared.node.ExprId.{ExprId}
@@ -13,14 +13,14 @@ use Rattle.silq_tree.specs.declared.node.Stmt.{Stmt}
 use Rattle.silq_tree.specs.declared.node.Stmt.TheVariants as nodes
 use Rattle.silq_tree.specs.Syntax.{Expression, Statement}
 use Rattle.silq_tree.specs.Arena.{Forest, expr_at, stmt_at}
-use Rattle.silq_tree.specs.Standing.{part_of, place_of, stmt_grown}
-use Rattle.silq_tree.specs.Children.{AreExprsBelow, AreStmtsBelow, stmt_exprs, stmt_stmts, else_stmts, place_exprs, listed, HasFirst, StmtHasFirst}
+use Rattle.silq_tree.specs.Standing.{part_of, stmt_grown}
+use Rattle.silq_tree.specs.Children.{AreExprsBelow, AreStmtsBelow, stmt_exprs, stmt_stmts, else_stmts, place_exprs, HasFirst, StmtHasFirst}
 use Rattle.silq_tree.proofs.Lists.{stmts_top, stmts_top_le, exprs_below_front, exprs_below_back, stmts_below_front, stmts_below_back, stmts_below_more}
 use Rattle.check_scope.specs.Library.{Shelf}
 use Rattle.silq_types.specs.Types.{place_name}
 use Rattle.silq_types.specs.declared.need.Need.TheVariants.{Held, Consumed}
 use Rattle.silq_mean.specs.declared.receiver.Receiver.TheVariants.{Variable}
-use Rattle.silq_mean.specs.Effect.{Effect, ◌>>◌, statement, step, claim, receive, assign_to, update_to, turn_all, end_compared}
+use Rattle.silq_mean.specs.Effect.{◌>>◌, statement, step, receive, assign_to, update_to, turn_all}
 use Rattle.silq_mean.specs.Meaning.{Scope, stmt, eighths}
 use Rattle.bit_arith.specs.Calls.{Refused}
 use Rattle.flat_form.specs.State.{Flattening}

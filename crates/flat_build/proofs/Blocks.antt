@@ -1,5 +1,5 @@
 -- Blocks, static choices and loops.
-use Rattle.std.proofs.Common.{◌≡◌, ℕ, zero, suc, ◌+◌, ◌-◌, ◌<◌, ◌≤◌, Bool, true, false, cond, List, [], ◌∷◌, length, drop, get_or, refl, sym, ap, ◌∙◌, subst, arith, rules, w64, to_z, of_z, SFits}
+use Rattle.std.proofs.Common.{◌≡◌, ℕ, zero, suc, ◌+◌, ◌<◌, ◌≤◌, Bool, true, false, cond, List, [], ◌∷◌, length, drop, get_or, refl, sym, ap, ◌∙◌, subst, arith, rules, w64, to_z, of_z, SFits}
 use Rattle.std.specs.Prelude.{ℤ, pos, negsuc, ◌+ℤ◌, ◌-ℤ◌, ◌<ℤ◌, ◌≤ℤ◌}
 use Rattle.std.specs.Int.Signed.{lt_z}
 use Rattle.std.proofs.lemmas.Int.{ints, by_lt_z, to_z-of_z}
@@ -13,14 +13,14 @@ use Rattle.silq_tree.specs.declared.node.Else.{Else}
 use Rattle.silq_tree.specs.declared.node.Else.TheVariants as elses
 use Rattle.silq_tree.specs.Arena.{Forest, expr_at, stmt_at}
 use Rattle.silq_tree.specs.Children.{AreStmtsBelow, else_stmts}
-use Rattle.silq_tree.specs.Syntax.{Statements, done}
+use Rattle.silq_tree.specs.Syntax.{Statements}
 use Rattle.silq_tree.proofs.Lists.{statements_of-end}
 use Rattle.static_num.specs.Static.{is_static, is_true}
 use Rattle.check_scope.specs.Library.{Shelf}
 use Rattle.silq_types.specs.Programs.{distance}
 use Rattle.silq_types.specs.declared.need.Need.TheVariants.{Held}
-use Rattle.silq_mean.specs.Effect.{Effect, nothing, ◌>>◌, choice}
-use Rattle.silq_mean.specs.Meaning.{stmts, rounds, in_block, static_value}
+use Rattle.silq_mean.specs.Effect.{Effect, ◌>>◌, choice}
+use Rattle.silq_mean.specs.Meaning.{stmts, in_block, static_value}
 use Rattle.bit_arith.specs.Calls.{Refused}
 use Rattle.flat_form.specs.State.{Flattening}
 use Rattle.flat_form.specs.Flat.{flat}

@@ -1,5 +1,5 @@
 -- Entries.
-use Rattle.std.proofs.Common.{◌≡◌, ℕ, ◌<◌, true, List, [], ◌∷◌, length, map, reverse, Option, Some, None, ℤ, refl, sym, ap, ◌∙◌, subst}
+use Rattle.std.proofs.Common.{◌≡◌, ℕ, ◌<◌, true, List, [], ◌∷◌, length, map, reverse, Some, None, ℤ, refl, sym, ap, ◌∙◌, subst}
 use Rattle.silq_tree.specs.Syntax.{Function}
 use Rattle.silq_types.specs.declared.types.Shape.{Shape}
 use Rattle.silq_types.specs.Programs.{paired}
@@ -11,7 +11,6 @@ use Rattle.silq_mean.specs.Table.{Job}
 use Rattle.flat_core.specs.declared.step.WireId.{WireId}
 use Rattle.flat_core.specs.declared.step.End.{End}
 use Rattle.flat_core.specs.declared.step.End.TheVariants.{Output}
-use Rattle.flat_core.specs.Form.{FlatForm}
 use Rattle.flat_core.specs.Drafts.{empty_draft, with_end, finished}
 use Rattle.bit_arith.specs.Built.{Built}
 use Rattle.bit_arith.specs.Calls.{no_target, Refused}

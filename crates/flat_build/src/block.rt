@@ -16,10 +16,10 @@ use crate::expr::expr;
 use crate::statement::statement;
 use crate::written::{is_static, static_value};
 use check_scope::Library;
-use silq_types::Need;
 use flat_steps::Flattening;
 use silq_io::LimitFault;
 use silq_tree::{Else, ExprId, NameId, StmtId};
+use silq_types::Need;
 
 /// Flattens statements in turn.
 #[cycle(walk)]

@@ -15,10 +15,10 @@ use crate::expr::values;
 use crate::written::{names, paired, results, static_values, takers};
 use check_scope::Library;
 use check_scope::uses::needs_of_own;
-use silq_types::{BuiltIn, Need};
 use flat_steps::Flattening;
 use silq_io::LimitFault;
 use silq_tree::{ExprId, NameId};
+use silq_types::{BuiltIn, Need};
 use std::alloc::AllocError;
 
 /// The arguments of a call, and the call.
@@ -105,12 +105,7 @@ fn apply(state: &mut Flattening, word: BuiltIn) -> Result<(), LimitFault>
 }
 
 /// What the body of a called function sees.
-fn callee(
-    library: &Library,
-    body: &Body,
-    fun: u32,
-    statics: &[ExprId],
-) -> Result<Body, AllocError>
+fn callee(library: &Library, body: &Body, fun: u32, statics: &[ExprId]) -> Result<Body, AllocError>
     requires statics { AreExprsBelow (length library.now.nodes.exprs) statics.now }
     requires fun { fun < length library.now.funs }
     ensures { IfOk result (λ inner. inner ≡ callee_in library.now body.now fun statics.now) }
@@ -195,11 +190,7 @@ fn own_call(
 
 /// The body of a function, with the last values as its environment.
 #[cycle(walk)]
-pub(crate) fn run(
-    library: &Library,
-    body: &Body,
-    state: &mut Flattening,
-) -> Result<(), LimitFault>
+pub(crate) fn run(library: &Library, body: &Body, state: &mut Flattening) -> Result<(), LimitFault>
     requires this { body.now.this < length library.now.funs }
     requires ready { Ready (run_in library.now body.now) state.old }
     ensures ok { OnOk result (state.new ≡ flat (run_in library.now body.now) state.old) }

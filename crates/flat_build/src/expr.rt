@@ -13,12 +13,11 @@ use crate::body::Body;
 use crate::call::call;
 use crate::written::{is_static, scalar_of, static_value, static_values};
 use check_scope::Library;
-use silq_types::Need;
 use flat_steps::Flattening;
 use silq_io::LimitFault;
 use silq_mean::Receiver;
 use silq_tree::{BinaryOp, Expr, ExprId, PlaceNode, UnaryOp};
-use silq_types::List;
+use silq_types::{List, Need};
 use std::alloc::{AllocError, Global};
 
 /// Flattens an expression in its use.

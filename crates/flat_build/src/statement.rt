@@ -18,12 +18,11 @@ use crate::body::Body;
 use crate::expr::{expr, index_values, receive, values};
 use crate::written::eighths;
 use check_scope::Library;
-use silq_types::Need;
 use flat_steps::Flattening;
 use silq_io::LimitFault;
 use silq_mean::Receiver;
 use silq_tree::{Expr, ExprId, NameId, PlaceNode, Stmt, StmtId, UpdateOp};
-use silq_types::List;
+use silq_types::{List, Need};
 use std::alloc::{AllocError, Global};
 
 /// Flattens a statement, on its line.
@@ -65,12 +64,7 @@ fn line_of(node: &Stmt) -> u32
 
 /// What a statement does on its line.
 #[cycle(walk)]
-fn act(
-    library: &Library,
-    body: &Body,
-    state: &mut Flattening,
-    id: StmtId,
-) -> Result<(), LimitFault>
+fn act(library: &Library, body: &Body, state: &mut Flattening, id: StmtId) -> Result<(), LimitFault>
     requires id { id.number < length library.now.nodes.stmts }
     requires this { body.now.this < length library.now.funs }
     requires ready { Ready (acts (stmt_in library.now body.now id)) state.old }
@@ -97,14 +91,7 @@ fn act(
             then,
             other,
             ..
-        } => choose(
-            library,
-            body,
-            state,
-            *cond,
-            then.items.as_slice(),
-            other,
-        ),
+        } => choose(library, body, state, *cond, then.items.as_slice(), other),
         Stmt::For {
             name,
             low,

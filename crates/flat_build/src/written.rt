@@ -15,11 +15,10 @@ ghost use Rattle.silq_mean.specs.Meaning as meaning;
 ghost use Rattle.flat_build.specs.Written.{size_told, scalar_told, shape_told, shape_by, node_type, param_taker, param_shape, held_names as names_held, held_nodes};
 
 use check_scope::Library;
-use silq_types::Need;
 use silq_mean::Receiver;
 use silq_tree::node::{Mark, ParamNode, ScalarNode, TypeNode};
 use silq_tree::{ExprId, NameId, Spot, Tree};
-use silq_types::{List, Scalar, Shape, Ty};
+use silq_types::{List, Need, Scalar, Shape, Ty};
 use static_num::{StaticFault, Statics, angle, eval};
 use std::alloc::{AllocError, Global};
 

@@ -9,10 +9,10 @@ ghost use Rattle.flat_steps.specs.Ready.{Ready};
 use crate::state::Flattening;
 use crate::uses::{Use, assigned, used};
 use crate::variables::as_variable;
-use silq_types::Need;
 use flat_form::Known;
 use silq_io::LimitFault;
 use silq_tree::NameId;
+use silq_types::Need;
 
 impl Flattening {
     /// Gives the number of a static expression.

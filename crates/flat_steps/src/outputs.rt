@@ -11,8 +11,8 @@ use crate::ends::end_all;
 use crate::uses::operands_of;
 use crate::wires::wires_in;
 use bit_arith::{Builder, Operand};
-use flat_form::Known;
 use flat_core::{End, WireList, WireLists};
+use flat_form::Known;
 use std::alloc::{AllocError, Global};
 
 /// The wires that show each value.

@@ -14,10 +14,10 @@ use crate::take::{copied, taken};
 use crate::typed::typed_as;
 use crate::wires::are_wires;
 use bit_arith::Builder;
-use silq_types::Need;
 use flat_form::{Known, TypedBits};
 use silq_io::LimitFault;
 use silq_mean::Receiver;
+use silq_types::Need;
 use std::alloc::{AllocError, Global};
 
 // A static value takes the type for which it is taken over.

@@ -12,9 +12,8 @@ ghost use Rattle.flat_steps.specs.Sizes.{HasBits, IsSized};
 use crate::copying::copied_operands;
 use crate::parts::{bits, part_of, part_shape, part_start};
 use bit_arith::Operand;
-use silq_types::Need;
 use flat_form::{Known, TypedBits};
-use silq_types::List;
+use silq_types::{List, Need};
 use std::alloc::{AllocError, Global};
 
 /// What the use of a variable gives.

@@ -4,17 +4,17 @@ use Rattle.flat_build.proofs.Carrying.{claim_ready, ready_after, if_err_from, re
 use Rattle.flat_build.proofs.Forms.{told_items, told_single, tuple_below, told_static, told_dynamic, told_pi, told_call, told_tuple, told_unary, told_binary, statics_below, args_below, unary_below, left_below, right_below}
 use Rattle.flat_build.proofs.Levels.{level_less, level_call, level}
 use Rattle.flat_build.proofs.Walking.{item_ready, item_refused, taken_ready, taken_refused, items_more}
-use Rattle.flat_build.specs.Seen.{expr_in, exprs_in, call_in, built_in_call_in, own_call_in, forget_in, indices_in, items_in, return_in, stmt_in, stmts_in, block_in, else_in, taken_in, choose_in, acts, with_value, arguments_in, run_in}
+use Rattle.flat_build.specs.Seen.{expr_in, exprs_in, call_in, built_in_call_in, own_call_in, forget_in, indices_in, items_in, return_in, stmt_in, stmts_in, block_in, else_in, taken_in, choose_in, acts, arguments_in, run_in}
 use Rattle.flat_form.specs.Flat.{flat}
 use Rattle.flat_steps.proofs.Stays.{refused_first}
 use Rattle.flat_steps.specs.Ready.{Ready}
-use Rattle.silq_mean.specs.Effect.{nothing, ◌>>◌, step, one_operand, two_operands, assign_in_turn, update_to, claim, end_compared, receive, assign_to, choice, enter_block, leave_block, leave_body, enter_body}
+use Rattle.silq_mean.specs.Effect.{nothing, ◌>>◌, step, one_operand, two_operands, assign_in_turn, update_to, claim, end_compared, receive, assign_to, choice, enter_block, leave_block, enter_body}
 use Rattle.silq_mean.specs.Meaning.{gate, taken_by, in_block}
 use Rattle.silq_mean.specs.declared.receiver.Receiver.TheVariants.{Variable}
 use Rattle.silq_tree.proofs.Lists.{exprs_top, expr_below_top, expr_below, stmts_top, stmt_below_top, stmt_below, stmts_top_le}
 use Rattle.silq_types.specs.Calls.{needs_of_built_in}
 use Rattle.silq_types.specs.declared.need.Need.TheVariants.{Consumed, Held}
-use Rattle.std.proofs.Common.{IfErr, sym, subst, length, map, ap, ◌∙◌, rules, w64, SFits, ◌≡◌, ◌+◌, ◌*◌, max, [], get_or, OnOk, arith, refl, to_z, of_z, ◌<◌, IfSome, ◌∷◌}
+use Rattle.std.proofs.Common.{IfErr, sym, subst, length, map, ap, ◌∙◌, rules, w64, SFits, ◌≡◌, ◌+◌, ◌*◌, max, [], get_or, OnOk, arith, refl, to_z, of_z, ◌<◌, IfSome}
 use Rattle.std.proofs.lemmas.Int.{to_z-of_z}
 use Rattle.silq_tree.specs.Arena.{Forest}
 use Rattle.silq_tree.specs.Children.{AreStmtsBelow, else_stmts}

@@ -1,4 +1,4 @@
-use Rattle.std.proofs.Common.{◌≡◌, ◌+◌, ◌*◌, max, length, drop}
+use Rattle.std.proofs.Common.{◌+◌, ◌*◌, max, length, drop}
 use Rattle.std.specs.Prelude.{◌-ℤ◌}
 use Rattle.silq_tree.specs.Children.{else_stmts}
 use Rattle.silq_tree.proofs.Lists.{exprs_top, stmts_top}

@@ -1,4 +1,4 @@
-use Rattle.std.proofs.Common.{◌≡◌, length, reverse, sym, ap, ◌∙◌, subst}
+use Rattle.std.proofs.Common.{sym, ◌∙◌, subst}
 use Rattle.flat_core.specs.Drafts.{FitsEnds}
 use Rattle.flat_build.proofs.Carrying.{if_err_from}
 use Rattle.flat_build.proofs.Entries.{body_there, begin_refused, entry_ready, entry_refused, end_wires, form_is, form_within}

@@ -1,5 +1,3 @@
-use Rattle.std.proofs.Common.{◌≡◌}
-use Rattle.flat_form.specs.Flat.{flat}
 use Rattle.flat_build.specs.Written.{give_names}
 use Rattle.flat_build.proofs.Carrying.{if_err_from, onward_start}
 use Rattle.flat_build.proofs.Giving.{name_ready, name_refused, name_more, names_done}
