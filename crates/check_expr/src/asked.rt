@@ -1,7 +1,6 @@
 //! What is asked of an argument or of a returned value.
 
-use silq_types::Need;
-use silq_types::Ty;
+use silq_types::{Need, Ty};
 
 /// How a value is used, and its type where one is fixed.
 #[derive(Clone, Copy, PartialEq, Eq)]

@@ -25,14 +25,12 @@ use crate::values::{alone, broken, is_static, one_value, static_number};
 use check_scope::context::Context;
 use check_scope::fault::{CheckFault, ExprFault};
 use check_scope::library::Library;
-use silq_types::Need;
 use check_scope::obey::obey;
 use check_scope::places::known_names;
 use check_scope::rule;
-use silq_types::BuiltIn;
 use silq_io::What;
 use silq_tree::{Expr, ExprId, Mark, Spot, Tree};
-use silq_types::{Known, Origin, Scalar, Shape, Ty, Value};
+use silq_types::{BuiltIn, Known, Need, Origin, Scalar, Shape, Ty, Value};
 use std::alloc::Global;
 
 /// The fault of something that is not supported.

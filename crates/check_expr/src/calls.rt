@@ -17,10 +17,9 @@ use crate::values::broken;
 use check_scope::context::Context;
 use check_scope::fault::ExprFault;
 use check_scope::library::Library;
-use silq_types::Need;
 use check_scope::rule;
 use silq_tree::{ExprId, NameId, Spot};
-use silq_types::Known;
+use silq_types::{Known, Need};
 
 /// The values of a call of the function with this name.
 #[cycle(expression)]

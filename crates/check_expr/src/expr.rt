@@ -25,12 +25,11 @@ use crate::values::{
 use check_scope::context::Context;
 use check_scope::fault::{CheckFault, ExprFault};
 use check_scope::library::Library;
-use silq_types::Need;
 use check_scope::places::use_place;
 use check_scope::rule;
 use silq_tree::node::{PlaceNode, ScalarNode};
 use silq_tree::{BinaryOp, Expr, ExprId, Spot, UnaryOp};
-use silq_types::{Known, List, Shape, Ty, Value};
+use silq_types::{Known, List, Need, Shape, Ty, Value};
 use std::alloc::Global;
 
 /// The values of an expression; a call or a tuple may have none or several.

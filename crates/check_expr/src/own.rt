@@ -26,14 +26,13 @@ use check_scope::context::Context;
 use check_scope::fault::ExprFault;
 use check_scope::header::{Header, header_types};
 use check_scope::library::Library;
-use silq_types::Need;
 use check_scope::obey::obey;
 use check_scope::places::needed;
 use check_scope::rule;
 use check_scope::spots::spot_of;
 use check_scope::uses::{UseList, argument_parts, consume_held, consume_twice, needs_of_own};
 use silq_tree::{ExprId, FunId, Mark, NameId, Spot};
-use silq_types::{InstanceKey, Known, List, Origin, Param, Returned, StaticList, Ty, Value};
+use silq_types::{InstanceKey, Known, List, Need, Origin, Param, Returned, StaticList, Ty, Value};
 use static_num::Statics;
 use std::alloc::{AllocError, Global};
 

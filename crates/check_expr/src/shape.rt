@@ -27,10 +27,9 @@ use check_scope::header::scalar_type;
 use check_scope::library::Library;
 use check_scope::part_types::part_type;
 use check_scope::unknown::variable;
-use silq_types::BuiltIn;
 use silq_tree::node::{PlaceNode, ScalarNode};
 use silq_tree::{BinaryOp, Expr, ExprId, FunId, NameId, Spot};
-use silq_types::{InstanceKey, Known, Part, Returned, Shape, StaticList, Ty, TyList};
+use silq_types::{BuiltIn, InstanceKey, Known, Part, Returned, Shape, StaticList, Ty, TyList};
 use static_num::eval;
 use std::alloc::{AllocError, Global};
 

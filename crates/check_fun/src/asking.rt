@@ -12,9 +12,8 @@ use check_expr::expr::{ValueList, expr};
 use check_scope::context::Context;
 use check_scope::fault::{CheckFault, ExprFault};
 use check_scope::library::Library;
-use silq_types::Need;
 use silq_tree::ExprId;
-use silq_types::Ty;
+use silq_types::{Need, Ty};
 
 /// The values of an expression.
 #[cycle(statement)]

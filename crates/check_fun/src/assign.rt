@@ -26,12 +26,11 @@ use check_expr::values::is_tuple;
 use check_scope::context::Context;
 use check_scope::fault::CheckFault;
 use check_scope::library::Library;
-use silq_types::Need;
 use check_scope::rule;
 use check_scope::spots::spot_of;
 use silq_tree::node::PlaceNode;
 use silq_tree::{ExprId, NameId, Spot};
-use silq_types::{Origin, Part, Ty, Value, Var};
+use silq_types::{Need, Origin, Part, Ty, Value, Var};
 
 /// How one value is used, where a tuple is misplaced.
 pub(crate) fn lone_consumed(is_tuple: bool) -> Need

@@ -27,12 +27,11 @@ use crate::tally::Tally;
 use check_scope::context::{Context, PartList};
 use check_scope::fault::CheckFault;
 use check_scope::library::Library;
-use silq_types::Need;
 use check_scope::rule;
 use check_scope::spots::spot_of;
 use check_scope::uses::uses_of;
 use silq_tree::{Block, Else, ExprId, NameId, Spot, StmtId};
-use silq_types::{Part, Shape, Ty};
+use silq_types::{Need, Part, Shape, Ty};
 use static_num::{StaticFault, eval};
 
 /// Checks statements in turn.

@@ -25,13 +25,12 @@ use check_expr::values::{is_same_shape, is_tuple};
 use check_scope::context::Context;
 use check_scope::fault::CheckFault;
 use check_scope::library::Library;
-use silq_types::Need;
 use check_scope::rule;
 use check_scope::spots::spot_of;
 use silq_io::What;
 use silq_tree::node::PlaceNode;
 use silq_tree::{ExprId, Mark, NameId, Spot};
-use silq_types::{Origin, Part, Value};
+use silq_types::{Need, Origin, Part, Value};
 use static_num::{AngleFault, angle};
 
 /// Whether a value may be dropped.

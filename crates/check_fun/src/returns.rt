@@ -21,9 +21,8 @@ use check_expr::values::is_tuple;
 use check_scope::context::Context;
 use check_scope::fault::CheckFault;
 use check_scope::library::Library;
-use silq_types::Need;
 use silq_tree::ExprId;
-use silq_types::{List, Ty, TyList, Value};
+use silq_types::{List, Need, Ty, TyList, Value};
 
 /// The types of the results.
 fn wanted(library: &Library, cx: &Context) -> Result<TyList, CheckFault>

@@ -20,10 +20,10 @@ use crate::update::update_part;
 use check_scope::context::Context;
 use check_scope::fault::CheckFault;
 use check_scope::library::Library;
-use silq_types::Need;
 use check_scope::rule;
 use silq_tree::node::PlaceNode;
 use silq_tree::{ExprId, NameId, Spot, Stmt, StmtId};
+use silq_types::Need;
 
 /// Counts and checks a statement.
 #[cycle(statement)]

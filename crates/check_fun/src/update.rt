@@ -25,12 +25,11 @@ use check_expr::values::{is_same_shape, is_tuple};
 use check_scope::context::Context;
 use check_scope::fault::CheckFault;
 use check_scope::library::Library;
-use silq_types::Need;
 use check_scope::rule;
 use check_scope::spots::spot_of;
 use silq_tree::node::PlaceNode;
 use silq_tree::{ExprId, NameId, Spot, UpdateOp};
-use silq_types::{Part, Shape, Ty, Value};
+use silq_types::{Need, Part, Shape, Ty, Value};
 
 /// Whether the variable with this part is consumed.
 pub(crate) fn consumed_there(cx: &Context, part: Part) -> bool

@@ -13,8 +13,6 @@ use Rattle.check_scope.specs.declared.uses.Use.{Use}
 use Rattle.silq_types.specs.declared.need.Need.TheVariants as needs
 use Rattle.check_scope.specs.Context.{Scope, part_at, variable, overlaps, find_var, part_type}
 
-
-
 abbrev pub needs_of : Scope → NameId → List Need
 needs_of sc f = needs_of_found (built_in sc.words f) (find_fun sc.before f)
 

@@ -9,8 +9,8 @@ ghost use Rattle.silq_types.specs.Calls.{built_in, find_fun};
 ghost use Rattle.silq_types.specs.Words.{built_ins, named, words_of};
 
 use crate::name_index::NameIndex;
-use silq_types::BuiltIn;
 use silq_tree::{Fun, FunId, NameId, Names, Program, Tree};
+use silq_types::BuiltIn;
 use std::alloc::{AllocError, Global};
 use std::marker::Model;
 

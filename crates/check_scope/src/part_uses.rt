@@ -12,13 +12,12 @@ ghost use Rattle.check_scope.specs.Steps.{Reads, Stops};
 
 use crate::context::Context;
 use crate::fault::{CheckFault, ExprFault};
-use silq_types::Need;
 use crate::obey::obey;
 use crate::part_types::part_type;
 use crate::rule;
 use crate::unknown::variable;
 use silq_tree::Spot;
-use silq_types::{Origin, Part, Ty, Value, Var};
+use silq_types::{Need, Origin, Part, Ty, Value, Var};
 
 /// Whether a use of this type moves the value: a classical one is copied.
 fn is_moved(need: Need, ty: Ty) -> bool

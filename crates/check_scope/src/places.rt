@@ -14,7 +14,6 @@ ghost use Rattle.check_scope.specs.Steps.{Reads, Stops};
 use crate::context::Context;
 use crate::fault::{CheckFault, ExprFault};
 use crate::library::Library;
-use silq_types::Need;
 use crate::obey::obey;
 pub use crate::part_types::part_type;
 use crate::part_uses::use_found;
@@ -24,7 +23,7 @@ use crate::unknown::first_unknown;
 pub use crate::unknown::is_known_name;
 use silq_tree::node::PlaceNode;
 use silq_tree::{ExprId, Spot};
-use silq_types::{Part, Value};
+use silq_types::{Need, Part, Value};
 use static_num::eval;
 
 /// Each name in an expression is known; else the first that is not breaks its rule at its own place.

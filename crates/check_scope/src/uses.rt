@@ -16,13 +16,11 @@ ghost use Rattle.check_scope.specs.Uses.{uses, all_uses, scalar_uses, place_use,
 use crate::context::Context;
 use crate::header::is_held;
 use crate::library::Library;
-use silq_types::Need;
 use crate::part_types::part_type;
 use crate::parts::overlaps;
-use silq_types::BuiltIn;
 use silq_tree::node::{Expr, Mark, ParamNode, PlaceNode, ScalarNode};
 use silq_tree::{ExprId, NameId};
-use silq_types::{List, Part, Var};
+use silq_types::{BuiltIn, List, Need, Part, Var};
 use static_num::eval;
 use std::alloc::{AllocError, Global};
 

@@ -3,7 +3,7 @@ use Rattle.std.proofs.Common.{◌≡◌, ℕ, zero, suc, ◌+◌, ◌<◌, ◌^�
 use Rattle.std.proofs.lemmas.List.Elements.{Contains-push_cases}
 use Rattle.std.proofs.lemmas.Option.{same_Some}
 use Rattle.graph_core.specs.declared.vertex.Vertex.{Vertex}
-use Rattle.graph_core.specs.declared.vertex.EdgeKind.TheVariants.{Target, Control, Availability}
+use Rattle.graph_core.specs.declared.vertex.EdgeKind.TheVariants.{Target}
 use Rattle.graph_core.specs.declared.graph.VertexId.{VertexId}
 use Rattle.graph_core.specs.declared.graph.Arrow.{Arrow}
 use Rattle.graph_core.specs.Arena.{Arena, IsArena, IsFreeFor, with_arrows, control, availability, use_arrows}

@@ -1,11 +1,13 @@
-//! The graph as an arena: its vertices and its edges in the order in which they were added.
+//! The graph as an arena: its vertices and its edges in the order in which they were added, with the edges at each vertex
+//! linked in two lists.
 
 ghost use Rattle.std.specs.Prelude.{◌≡◌, ◌+◌, ◌-◌, ◌^◌, ◌<◌, [], ◌∷◌, ◌++◌, length, slice_get, Contains, true, false, IfOk, IfSome, OnErr};
 ghost use Rattle.std.specs.List.Sorted.{IsPermutation};
 ghost use Rattle.graph_core.specs.Arena.{IsArena, IsFreeFor, with_vertex, with_arrows, control, availability, use_arrows};
 ghost use Rattle.graph_core.specs.EdgesAt.{edges_at};
 
-use crate::edges::{Edges, edges_among};
+use crate::edges::{Edges, edges_linked};
+use crate::links::{EdgeRow, VertexRow, link_both, link_edge};
 use crate::vertex::{EdgeKind, Vertex};
 use std::alloc::{AllocError, Global};
 use std::marker::Model;
@@ -33,18 +35,20 @@ pub struct Arrow {
 /// A graph on vertices.
 #[derive(Drop)]
 pub struct Graph {
-    vertices: Vec<Vertex>,
-    arrows: Vec<Arrow>,
+    vertices: Vec<VertexRow>,
+    edges: Vec<EdgeRow>,
 }
 
 impl Model for Graph {
-    ghost use Rattle.graph_core.specs.Arena.{Arena, IsArena};
+    ghost use Rattle.graph_core.specs.Arena.{Arena};
 
     ghost Value = { Arena };
 
-    ghost view = { λ g. record { vertices = g.vertices.items; arrows = g.arrows.items } };
+    ghost use Rattle.graph_core.specs.Links.{IsStored, arena_in};
 
-    ghost invariant = { λ g. IsArena (record { vertices = g.vertices.items; arrows = g.arrows.items }) };
+    ghost view = { λ g. arena_in g.vertices.items g.edges.items };
+
+    ghost invariant = { λ g. IsStored g.vertices.items g.edges.items };
 }
 
 impl Graph {
@@ -54,7 +58,7 @@ impl Graph {
     {
         Graph {
             vertices: Vec::new(alloc),
-            arrows: Vec::new(alloc),
+            edges: Vec::new(alloc),
         }
     }
 
@@ -71,7 +75,7 @@ impl Graph {
         requires { v.number < length self.now.vertices }
         ensures { slice_get self.now.vertices v.number ≡ Some result }
     {
-        self.vertices[v.number as usize]
+        self.vertices[v.number as usize].vertex
     }
 
     /// The edges that leave a vertex.
@@ -79,7 +83,8 @@ impl Graph {
         requires { v.number < length self.now.vertices }
         ensures { IsPermutation (edges_at false v self.now.arrows) result }
     {
-        edges_among(self.arrows.as_slice(), v, false)
+        let first = self.vertices[v.number as usize].first.leaving;
+        edges_linked(&self.edges, v, false, first)
     }
 
     /// The edges that enter a vertex.
@@ -87,7 +92,8 @@ impl Graph {
         requires { v.number < length self.now.vertices }
         ensures { IsPermutation (edges_at true v self.now.arrows) result }
     {
-        edges_among(self.arrows.as_slice(), v, true)
+        let first = self.vertices[v.number as usize].first.entering;
+        edges_linked(&self.edges, v, true, first)
     }
 
     /// Adds a vertex, under the next id.
@@ -98,7 +104,8 @@ impl Graph {
         ensures refused { OnErr result (self.new ≡ self.old) }
     {
         let number = self.vertices.len() as u32;
-        self.vertices.push(v)?;
+        let row = VertexRow::new(v);
+        self.vertices.push(row)?;
         Ok(VertexId { number })
     }
 
@@ -114,8 +121,10 @@ impl Graph {
         ensures added { IfOk result (λ id. (id.number ≡ length self.old.arrows) × (self.new ≡ with_arrows self.old (record { from = from; to = to; kind = kind } ∷ []))) }
         ensures refused { OnErr result (self.new ≡ self.old) }
     {
-        let number = self.arrows.len() as u32;
-        self.arrows.push(Arrow { from, to, kind })?;
+        let number = self.edges.len() as u32;
+        let edge = EdgeRow::new(Arrow { from, to, kind });
+        self.edges.push(edge)?;
+        link_edge(&mut self.vertices, &mut self.edges, EdgeId { number });
         Ok(EdgeId { number })
     }
 
@@ -133,25 +142,38 @@ impl Graph {
         ensures added { IfOk result (λ id. (id.number ≡ length self.old.arrows) × (self.new ≡ with_arrows self.old (use_arrows holder user next))) }
         ensures refused { OnErr result (self.new ≡ self.old) }
     {
-        let number = self.arrows.len() as u32;
-        let control = Arrow {
+        match next {
+            None => self.add_edge(holder, user, EdgeKind::Control),
+            Some(next) => self.add_both(holder, user, next),
+        }
+    }
+
+    // Adds both edges of a use, or neither.
+    fn add_both(
+        &mut self,
+        holder: VertexId,
+        user: VertexId,
+        next: VertexId,
+    ) -> Result<EdgeId, AllocError>
+        requires free { IsFreeFor self.old (control holder user) }
+        requires next_free { IsFreeFor self.old (availability user next) }
+        requires room { length self.old.arrows + 2 < 2 ^ 32 }
+        ensures added { IfOk result (λ id. (id.number ≡ length self.old.arrows) × (self.new ≡ with_arrows self.old (control holder user ∷ availability user next ∷ []))) }
+        ensures refused { OnErr result (self.new ≡ self.old) }
+    {
+        let number = self.edges.len() as u32;
+        let control = EdgeRow::new(Arrow {
             from: holder,
             to: user,
             kind: EdgeKind::Control,
-        };
-        match next {
-            None => {
-                self.arrows.push(control)?;
-            }
-            Some(next) => {
-                let availability = Arrow {
-                    from: user,
-                    to: next,
-                    kind: EdgeKind::Availability,
-                };
-                self.arrows.extend_from_slice(&[control, availability])?;
-            }
-        }
+        });
+        let availability = EdgeRow::new(Arrow {
+            from: user,
+            to: next,
+            kind: EdgeKind::Availability,
+        });
+        self.edges.extend_from_slice(&[control, availability])?;
+        link_both(&mut self.vertices, &mut self.edges, EdgeId { number });
         Ok(EdgeId { number })
     }
 }

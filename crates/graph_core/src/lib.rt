@@ -4,6 +4,7 @@
 pub mod edges;
 pub mod graph;
 pub mod laws;
+mod links;
 pub mod vertex;
 
 pub use edges::Edges;

@@ -1,7 +1,6 @@
 //! What takes values over.
 
-use silq_types::Need;
-use silq_types::Ty;
+use silq_types::{Need, Ty};
 
 /// What takes a value over.
 #[derive(Clone, Copy, PartialEq, Eq)]

@@ -1,18 +1,18 @@
 -- What one more statement does to an arena.
-use Rattle.std.proofs.Common.{◌≡◌, ℕ, ◌+◌, ◌<◌, ◌≤◌, List, [], ◌∷◌, ◌++◌, length, length-append, refl, sym, ◌∙◌, ap, subst, append_assoc, arith}
+use Rattle.std.proofs.Common.{◌≡◌, ◌+◌, ◌≤◌, List, [], ◌∷◌, length, length-append, sym, ◌∙◌, ap, subst, arith}
 use Rattle.silq_tree.specs.declared.node.ExprId.{ExprId}
 use Rattle.silq_tree.specs.declared.node.StmtId.{StmtId}
 use Rattle.silq_tree.specs.declared.node.Stmt.{Stmt}
-use Rattle.silq_tree.specs.Arena.{Forest, IsArena, KeepsTrees, expr_at, stmt_at, with_stmt}
+use Rattle.silq_tree.specs.Arena.{Forest, IsArena, expr_at, stmt_at}
 use Rattle.silq_tree.specs.Standing.{stmt_grown}
 use Rattle.silq_tree.specs.Children.{stmt_exprs, stmt_stmts}
 use Rattle.silq_tree.proofs.Arenas.{stmt_made}
 use Rattle.silq_grammar.specs.declared.token.Token.{Token}
-use Rattle.silq_parse.specs.Grown.{Grew}
-use Rattle.silq_parse.specs.Reads.{IsBounded}
-use Rattle.silq_parse.specs.Added.{AreFree}
+use Rattle.expr_parse.specs.Grown.{Grew}
+use Rattle.expr_parse.specs.Reads.{IsBounded}
+use Rattle.expr_parse.specs.Added.{AreFree}
 use Rattle.silq_parse.specs.AddedStatement.{AreFreeStmts, IsAddedStmt}
-use Rattle.silq_parse.proofs.Growing.{may_name, may_name_stmts, grew_stmt}
+use Rattle.expr_parse.proofs.Growing.{may_name, may_name_stmts, grew_stmt}
 
 pub added_stands : {mid new : Forest} {s : Stmt} {id : StmtId} → IsAddedStmt mid new s id → stmt_at new id ≡ stmt_grown (expr_at mid) (stmt_at mid) s
 added_stands {mid} {new} {s} {id} a = subst (λ w. stmt_at w id ≡ stmt_grown (expr_at mid) (stmt_at mid) s) (sym a.is) (stmt_made mid s id a.number)

@@ -1,5 +1,5 @@
 -- What the functions for statements that begin with a name have read.
-use Rattle.std.proofs.Common.{◌≡◌, ℕ, ◌+◌, ◌<◌, ◌≤◌, List, [], ◌∷◌, ◌++◌, Option, Some, None, length, length-append, refl, sym, ◌∙◌, ap, subst, append_assoc, arith}
+use Rattle.std.proofs.Common.{◌≡◌, ◌+◌, List, [], ◌∷◌, ◌++◌, Option, Some, None, length, length-append, refl, sym, ◌∙◌, ap, append_assoc, arith}
 use Rattle.silq_tree.specs.declared.node.ExprId.{ExprId}
 use Rattle.silq_tree.specs.declared.node.StmtId.{StmtId}
 use Rattle.silq_tree.specs.declared.node.NameId.{NameId}
@@ -18,14 +18,14 @@ use Rattle.silq_grammar.specs.declared.token.Token.TheVariants.{Name, Fixed}
 use Rattle.silq_grammar.specs.declared.token.Terminal.TheVariants as t
 use Rattle.silq_grammar.specs.Grammar.{Place, whole, part, part_of_part, Call, plain, with_statics, assign, update, call}
 use Rattle.silq_grammar.specs.Grammar as g
-use Rattle.silq_grammar.specs.Spelled.{expr_text, stmt_text, place_text, call_text}
+use Rattle.silq_grammar.specs.Spelled.{stmt_text, place_text, call_text}
 use Rattle.silq_grammar.specs.Trees.{expr_tree, stmt_tree, place_tree, call_tree}
-use Rattle.silq_parse.specs.Grown.{Grew}
-use Rattle.silq_parse.specs.Reads.{IsBounded, ReadsExpr, ReadsStmt, ReadsPart}
-use Rattle.silq_parse.specs.Parts.{Change, change, change_text, change_tree, changed_node, Changed}
-use Rattle.silq_parse.specs.Added.{AreFree}
+use Rattle.expr_parse.specs.Grown.{Grew}
+use Rattle.expr_parse.specs.Reads.{IsBounded, ReadsExpr, ReadsStmt, ReadsPart}
+use Rattle.silq_parse.specs.Parts.{Change, change, change_text, change_tree, changed_node}
+use Rattle.expr_parse.specs.Added.{AreFree}
 use Rattle.silq_parse.specs.AddedStatement.{IsAddedStmt}
-use Rattle.silq_parse.proofs.Growing.{grew_nothing, grew_then}
+use Rattle.expr_parse.proofs.Growing.{grew_then}
 use Rattle.silq_parse.proofs.AddedStatements.{added_stands, added_grew, added_bounded, free}
 use Rattle.silq_parse.proofs.SimpleReads.{one_more, behind_text}
 

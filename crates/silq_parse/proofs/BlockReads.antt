@@ -1,30 +1,28 @@
 -- What the functions for blocks, and for the statements that hold them, have read.
-use Rattle.std.proofs.Common.{◌≡◌, ℕ, ◌+◌, ◌<◌, ◌≤◌, List, [], ◌∷◌, ◌++◌, Option, Some, None, length, length-append, refl, sym, ◌∙◌, ap, subst, append_assoc, append-nil, arith}
+use Rattle.std.proofs.Common.{◌≡◌, List, [], ◌∷◌, ◌++◌, refl, sym, ◌∙◌, ap, subst, append_assoc, append-nil, arith}
 use Rattle.silq_tree.specs.declared.node.ExprId.{ExprId}
 use Rattle.silq_tree.specs.declared.node.StmtId.{StmtId}
 use Rattle.silq_tree.specs.declared.node.NameId.{NameId}
 use Rattle.silq_tree.specs.declared.node.Spot.{Spot}
 use Rattle.silq_tree.specs.declared.node.Block as nodes
 use Rattle.silq_tree.specs.declared.node.Else.{Else}
-use Rattle.silq_tree.specs.declared.node.Else.TheVariants as elses
-use Rattle.silq_tree.specs.declared.node.Stmt.{Stmt}
 use Rattle.silq_tree.specs.declared.node.Stmt.TheVariants as stmts
 use Rattle.silq_tree.specs.Syntax as tree
-use Rattle.silq_tree.specs.Arena.{Forest, IsArena, KeepsTrees, expr_at, stmt_at}
-use Rattle.silq_tree.specs.Standing.{stmt_grown, statements_of, block_of, otherwise_of}
-use Rattle.silq_tree.specs.Children.{else_stmts, stmt_exprs, stmt_stmts, AreStmtsBelow}
+use Rattle.silq_tree.specs.Arena.{Forest, IsArena, expr_at, stmt_at}
+use Rattle.silq_tree.specs.Standing.{statements_of, block_of, otherwise_of}
+use Rattle.silq_tree.specs.Children.{else_stmts}
 use Rattle.silq_grammar.specs.declared.token.Token.{Token}
 use Rattle.silq_grammar.specs.declared.token.Token.TheVariants.{Name, Fixed}
 use Rattle.silq_grammar.specs.declared.token.Terminal.TheVariants as t
 use Rattle.silq_grammar.specs.Grammar as g
 use Rattle.silq_grammar.specs.Spelled.{expr_text, stmt_text, stmts_text, block_text, choice_text}
 use Rattle.silq_grammar.specs.Trees.{expr_tree, stmt_tree, stmts_tree, block_tree, block_end, choice_tree}
-use Rattle.silq_parse.specs.Grown.{Grew}
-use Rattle.silq_parse.specs.Reads.{IsBounded, ReadsExpr, ReadsStmt, ReadsPart}
-use Rattle.silq_parse.specs.Parts.{Rest, missing, with_block, with_choice, rest_text, rest_tree, Between, between, between_text, between_tree, Range}
+use Rattle.expr_parse.specs.Grown.{Grew}
+use Rattle.expr_parse.specs.Reads.{IsBounded, ReadsExpr, ReadsStmt, ReadsPart}
+use Rattle.silq_parse.specs.Parts.{Rest, missing, with_block, with_choice, rest_text, rest_tree, Between, between, between_text, between_tree}
 use Rattle.silq_parse.specs.AddedStatement.{IsAddedStmt, AreFreeStmts}
-use Rattle.silq_parse.specs.Added.{AreFree}
-use Rattle.silq_parse.proofs.Growing.{grew_nothing, grew_then, statements_kept}
+use Rattle.expr_parse.specs.Added.{AreFree}
+use Rattle.expr_parse.proofs.Growing.{grew_nothing, grew_then, statements_kept}
 use Rattle.silq_parse.proofs.AddedStatements.{added_stands, added_grew, added_bounded, free, free_stmts}
 use Rattle.silq_parse.proofs.SimpleReads.{one_more, behind_text}
 

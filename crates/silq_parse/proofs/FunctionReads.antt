@@ -1,5 +1,5 @@
 -- What the function for functions has read.
-use Rattle.std.proofs.Common.{◌≡◌, ℕ, ◌+◌, ◌<◌, ◌≤◌, ◌⊎◌, inl, inr, List, [], ◌∷◌, ◌++◌, length, length-append, map, flat_map, refl, sym, ◌∙◌, ap, subst, append_assoc, append-nil, arith}
+use Rattle.std.proofs.Common.{◌≡◌, ℕ, ◌+◌, ◌<◌, ◌≤◌, ◌⊎◌, inl, inr, List, [], ◌∷◌, ◌++◌, length, length-append, map, flat_map, sym, ◌∙◌, ap, subst, append_assoc, append-nil, arith}
 use Rattle.silq_tree.specs.declared.node.ExprId.{ExprId}
 use Rattle.silq_tree.specs.declared.node.StmtId.{StmtId}
 use Rattle.silq_tree.specs.declared.node.NameId.{NameId}
@@ -10,25 +10,23 @@ use Rattle.silq_tree.specs.declared.node.Block.{Block}
 use Rattle.silq_tree.specs.declared.node.Fun.{Fun}
 use Rattle.silq_tree.specs.declared.node.TypeNode.{TypeNode}
 use Rattle.silq_tree.specs.declared.node.ParamNode.{ParamNode}
-use Rattle.silq_tree.specs.Syntax as tree
 use Rattle.silq_tree.specs.Arena.{Forest, IsArena, KeepsTrees, expr_at, stmt_at, fun_at, expr_parents, stmt_parents, with_fun}
 use Rattle.silq_tree.specs.Standing.{type_of, param_of, block_of, fun_grown}
-use Rattle.silq_tree.specs.Children.{type_exprs, param_exprs, fun_exprs, fun_stmts, expr_count, stmt_count}
-use Rattle.silq_tree.proofs.Lists.{exprs_below_front, exprs_below_more}
+use Rattle.silq_tree.specs.Children.{type_exprs, param_exprs, fun_exprs, fun_stmts}
 use Rattle.silq_tree.proofs.Arenas.{expr_parents-with_fun, stmt_parents-with_fun, kept_with_fun, fun_made}
 use Rattle.silq_grammar.specs.declared.token.Token.{Token}
 use Rattle.silq_grammar.specs.declared.token.Token.TheVariants.{Name, Fixed}
 use Rattle.silq_grammar.specs.declared.token.Terminal.TheVariants as t
 use Rattle.silq_grammar.specs.Grammar as g
-use Rattle.silq_grammar.specs.Spelled.{block_text, static_part_text, param_part_text, mark_text, result_part_text, function_text}
+use Rattle.silq_grammar.specs.Spelled.{block_text, static_part_text, param_part_text, mark_text, result_part_text}
 use Rattle.silq_grammar.specs.Trees.{block_tree, static_part_tree, param_part_tree, mark_tree, result_part_tree, function_tree}
-use Rattle.silq_parse.specs.Grown.{Grew}
-use Rattle.silq_parse.specs.Reads.{IsBounded, ReadsPart}
+use Rattle.expr_parse.specs.Grown.{Grew}
+use Rattle.expr_parse.specs.Reads.{ReadsPart}
 use Rattle.silq_parse.specs.Parts.{SpellsStaticPart, SpellsMark}
-use Rattle.silq_parse.specs.Added.{AreFree}
+use Rattle.expr_parse.specs.Added.{AreFree}
 use Rattle.silq_parse.specs.AddedStatement.{AreFreeStmts}
-use Rattle.silq_parse.specs.Functions.{AreOwned, IsAddedFun, HasRoom, ReadsFunction}
-use Rattle.silq_parse.proofs.Growing.{grew_nothing, grew_then, kept_then}
+use Rattle.silq_parse.specs.Functions.{AreOwned, IsAddedFun, ReadsFunction}
+use Rattle.expr_parse.proofs.Growing.{grew_then, kept_then}
 use Rattle.silq_parse.proofs.AddedStatements.{free, free_stmts}
 use Rattle.silq_parse.proofs.SimpleReads.{one_more}
 use Rattle.silq_parse.proofs.TypeReads.{types_kept}

@@ -1,5 +1,5 @@
 -- What the functions for headers have read.
-use Rattle.std.proofs.Common.{◌≡◌, ℕ, ◌+◌, ◌<◌, ◌≤◌, Bool, true, false, List, [], ◌∷◌, ◌++◌, length, length-append, map, flat_map, refl, sym, ◌∙◌, ap, subst, append_assoc, append-nil, arith}
+use Rattle.std.proofs.Common.{◌≡◌, Bool, true, false, List, [], ◌∷◌, ◌++◌, length, map, flat_map, refl, sym, ◌∙◌, ap, subst, append_assoc, append-nil, arith}
 use Rattle.std.proofs.lemmas.Grind.{flat_map-append}
 use Rattle.std.proofs.lemmas.List.{map-append}
 use Rattle.silq_tree.specs.declared.node.ExprId.{ExprId}
@@ -8,7 +8,7 @@ use Rattle.silq_tree.specs.declared.node.Spot.{Spot}
 use Rattle.silq_tree.specs.declared.node.TypeNode.{TypeNode}
 use Rattle.silq_tree.specs.declared.node.ParamNode.{ParamNode}
 use Rattle.silq_tree.specs.Syntax as tree
-use Rattle.silq_tree.specs.Arena.{Forest, IsArena, KeepsTrees, expr_at}
+use Rattle.silq_tree.specs.Arena.{Forest, KeepsTrees, expr_at}
 use Rattle.silq_tree.specs.Standing.{type_of, param_of}
 use Rattle.silq_tree.specs.Children.{type_exprs, param_exprs, AreExprsBelow}
 use Rattle.silq_tree.proofs.Lists.{exprs_below_front, exprs_below_back}
@@ -16,12 +16,12 @@ use Rattle.silq_grammar.specs.declared.token.Token.{Token}
 use Rattle.silq_grammar.specs.declared.token.Token.TheVariants.{Name, Fixed}
 use Rattle.silq_grammar.specs.declared.token.Terminal.TheVariants as t
 use Rattle.silq_grammar.specs.Grammar as g
-use Rattle.silq_grammar.specs.Spelled.{type_text, result_text, param_text, params_text, statics_text, static_part_text, param_part_text, result_part_text}
-use Rattle.silq_grammar.specs.Trees.{type_tree, result_tree, param_tree, params_tree, statics_tree, static_part_tree, param_part_tree, result_part_tree}
-use Rattle.silq_parse.specs.Grown.{Grew}
-use Rattle.silq_parse.specs.Reads.{IsBounded, ReadsPart}
-use Rattle.silq_parse.specs.Parts.{SpellsStatic, SpellsStatics, SpellsStaticPart, Typed, typed_text, typed_tree}
-use Rattle.silq_parse.proofs.Growing.{grew_nothing, grew_then}
+use Rattle.silq_grammar.specs.Spelled.{type_text, result_text, param_text, params_text, statics_text, param_part_text, result_part_text}
+use Rattle.silq_grammar.specs.Trees.{type_tree, result_tree, param_tree, params_tree, statics_tree, param_part_tree, result_part_tree}
+use Rattle.expr_parse.specs.Grown.{Grew}
+use Rattle.expr_parse.specs.Reads.{ReadsPart}
+use Rattle.silq_parse.specs.Parts.{SpellsStatic, SpellsStatics, SpellsStaticPart, typed_text, typed_tree}
+use Rattle.expr_parse.proofs.Growing.{grew_nothing, grew_then}
 use Rattle.silq_parse.proofs.SimpleReads.{one_more, behind_text}
 use Rattle.silq_parse.proofs.TypeReads.{type_kept}
 

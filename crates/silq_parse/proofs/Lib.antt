@@ -2,14 +2,6 @@ pub mod Naming
 pub mod Spelt
 pub mod Few
 pub mod UnderWay
-pub mod Growing
-pub mod Signs
-pub mod Firsts
-pub mod Reading
-pub mod Passed
-pub mod Atoms
-pub mod Named
-pub mod Exits
 pub mod AddedStatements
 pub mod SimpleReads
 pub mod TupleNames

@@ -1,15 +1,14 @@
 -- Numbers of names among more names.
-use Rattle.std.proofs.Common.{◌≡◌, ℕ, zero, suc, ◌<◌, Bool, true, false, List, [], ◌∷◌, ◌++◌, Some, slice_get, if◌then◌else◌, refl, sym, ◌∙◌, ap}
+use Rattle.std.proofs.Common.{◌≡◌, ℕ, zero, suc, Bool, true, false, List, [], ◌∷◌, Some, slice_get, if◌then◌else◌, refl, sym, ap}
 use Rattle.std.specs.Str.{bytes_eq}
 use Rattle.std.proofs.lemmas.Slice.Eq.{bytes_eq-Decides}
 use Rattle.silq_tree.specs.declared.node.NameId.{NameId}
 use Rattle.silq_tree.specs.declared.node.Spot.{Spot}
-use Rattle.silq_tree.specs.Texts.{with_name, AreDifferent, KeepsNames}
+use Rattle.silq_tree.specs.Texts.{AreDifferent, KeepsNames}
 use Rattle.silq_tree.proofs.Interned.{different_with, kept_with}
 use Rattle.silq_lex.specs.declared.token.TokenKind.{TokenKind}
 use Rattle.silq_lex.specs.declared.token.TokenKind.TheVariants as kinds
 use Rattle.silq_lex.specs.Tokens.{Located}
-use Rattle.silq_grammar.specs.declared.token.Token.{Token}
 use Rattle.silq_grammar.specs.declared.token.Token.TheVariants.{Name}
 use Rattle.silq_parse.specs.Lexed.{index_of, name_in, named, names_with, token_as}
 

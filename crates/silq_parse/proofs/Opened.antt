@@ -1,15 +1,13 @@
 -- What is expected behind a sign that opens.
-use Rattle.std.proofs.Common.{◌≡◌, ◌+◌, ◌<◌, ◌≤◌, List, [], ◌∷◌, ◌∙◌, ap, cond, nat_lt, true, false, Bool, refl, arith}
+use Rattle.std.proofs.Common.{◌≡◌, ◌<◌, ◌≤◌, List, ◌∷◌, ◌∙◌, ap, arith}
 use Rattle.silq_tree.specs.declared.node.Spot.{Spot}
 use Rattle.silq_tree.specs.declared.node.NameId.{NameId}
 use Rattle.silq_grammar.specs.declared.token.Token.{Token}
 use Rattle.silq_grammar.specs.declared.token.Token.TheVariants.{Name, Fixed}
 use Rattle.silq_grammar.specs.declared.token.Terminal.TheVariants as t
-use Rattle.silq_grammar.specs.Machine.{Symbol, Expect, Closing, Ends, Statements, ABlock, ElseBody, ElseRest, ForgetPart, ForgetValue, AnyName, PhasePart, Bounds, ASize, ParamPart, Params, StaticPart, MoreStatics, an_expr, value, MoreNames, StartName, ReturnValue, AType, AScalar, SizePart, MoreResults, ResultPart, OneParam, MoreParams, MarkPart, Functions, nest}
-use Rattle.silq_grammar.specs.Outcome.{Outcome, Deep, outcome}
-
-taken : (ys : List Symbol) (here : List Token) (o : Outcome) → nest ys ≤ 64 → cond (nat_lt 64 (nest ys)) (Deep here) o ≡ o
-taken ys here o h = grind arith
+use Rattle.silq_grammar.specs.Machine.{Symbol, Expect, Closing, Ends, Statements, ABlock, ElseBody, ElseRest, ForgetPart, AnyName, PhasePart, Bounds, ASize, ParamPart, Params, StaticPart, MoreStatics, an_expr, value, MoreNames, StartName, ReturnValue, AType, AScalar, SizePart, MoreResults, ResultPart, OneParam, MoreParams, MarkPart, Functions, nest}
+use Rattle.silq_grammar.specs.Outcome.{outcome}
+use Rattle.expr_parse.proofs.Passed.{taken}
 
 pub bounds_open : (k : List Symbol) (ts r : List Token) (l : Spot) → ts ≡ Fixed t.LeftBracket l ∷ r → nest k < 64
     → outcome (Bounds ∷ k) ts ≡ outcome (an_expr (Expect t.Dots ∷ an_expr (Closing t.RightParen ∷ k))) r

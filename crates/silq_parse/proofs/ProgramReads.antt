@@ -1,9 +1,9 @@
 -- What the functions for whole programs have read.
-use Rattle.std.proofs.Common.{◌≡◌, ℕ, ◌+◌, ◌<◌, ◌≤◌, List, [], ◌∷◌, ◌++◌, length, length-append, map, refl, sym, ◌∙◌, ap, subst, append_assoc, append-nil, arith}
+use Rattle.std.proofs.Common.{◌≡◌, ℕ, ◌+◌, ◌≤◌, List, [], ◌∷◌, ◌++◌, length, length-append, map, refl, sym, ◌∙◌, ap, subst, append_assoc, append-nil, arith}
 use Rattle.std.proofs.lemmas.List.{map-append}
 use Rattle.silq_tree.specs.declared.node.FunId.{FunId}
 use Rattle.silq_tree.specs.declared.node.Spot.{Spot}
-use Rattle.silq_tree.specs.Arena.{Forest, KeepsTrees, fun_at, program_at}
+use Rattle.silq_tree.specs.Arena.{Forest, KeepsTrees, fun_at}
 use Rattle.silq_grammar.specs.declared.token.Token.{Token}
 use Rattle.silq_grammar.specs.declared.token.Token.TheVariants.{Fixed}
 use Rattle.silq_grammar.specs.declared.token.Terminal.TheVariants as t
@@ -11,7 +11,7 @@ use Rattle.silq_grammar.specs.Grammar.{Function, Program, no_function, function_
 use Rattle.silq_grammar.specs.Spelled.{function_text, program_text}
 use Rattle.silq_grammar.specs.Trees.{function_tree, program_tree}
 use Rattle.silq_grammar.specs.Outcome.{Fine, Syntax, outcome}
-use Rattle.silq_parse.specs.Functions.{AreOwned, HasRoom, ReadsFunction, ReadsFunctions, AreInOrder, IsParsed}
+use Rattle.silq_parse.specs.Functions.{ReadsFunction, ReadsFunctions, AreInOrder, IsParsed}
 
 pub no_functions : (f : Forest) (ts : List Token) (ids : List FunId) → ids ≡ [] → ReadsFunctions f f ts ids ts
 no_functions f ts ids e = subst (λ w. ReadsFunctions f f ts w ts) (sym e) (record {

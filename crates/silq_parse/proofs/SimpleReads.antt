@@ -1,5 +1,5 @@
 -- What the functions for simple statements have read.
-use Rattle.std.proofs.Common.{◌≡◌, ℕ, ◌+◌, ◌<◌, ◌≤◌, List, [], ◌∷◌, ◌++◌, Option, Some, None, length, length-append, refl, sym, ◌∙◌, ap, subst, append_assoc, arith}
+use Rattle.std.proofs.Common.{◌≡◌, ◌+◌, List, [], ◌∷◌, ◌++◌, Option, Some, None, length, length-append, refl, sym, ◌∙◌, ap, append_assoc, arith}
 use Rattle.silq_tree.specs.declared.node.ExprId.{ExprId}
 use Rattle.silq_tree.specs.declared.node.StmtId.{StmtId}
 use Rattle.silq_tree.specs.declared.node.NameId.{NameId}
@@ -13,14 +13,13 @@ use Rattle.silq_tree.specs.Children.{listed}
 use Rattle.silq_grammar.specs.declared.token.Token.{Token}
 use Rattle.silq_grammar.specs.declared.token.Token.TheVariants.{Name, Fixed}
 use Rattle.silq_grammar.specs.declared.token.Terminal.TheVariants as t
-use Rattle.silq_grammar.specs.Grammar.{Expr, Stmt, spread, forget, forget_as, phase, return_nothing, return_value}
+use Rattle.silq_grammar.specs.Grammar.{Stmt, spread, forget, forget_as, phase, return_nothing, return_value}
 use Rattle.silq_grammar.specs.Spelled.{expr_text, stmt_text, names_text}
 use Rattle.silq_grammar.specs.Trees.{expr_tree, stmt_tree, names_tree}
-use Rattle.silq_parse.specs.Grown.{Grew}
-use Rattle.silq_parse.specs.Reads.{IsBounded, ReadsExpr, ReadsStmt, ReadsPart}
-use Rattle.silq_parse.specs.Parts.{Change, change, change_sign, change_text, change_tree, SpellsTuple, ForgetPart, no_value, a_value, forget_part_text, forget_part_tree, ReturnPart, nothing, something, return_part_text, return_part_tree, maybe}
+use Rattle.expr_parse.specs.Reads.{ReadsExpr, ReadsStmt, ReadsPart}
+use Rattle.silq_parse.specs.Parts.{change, change_sign, change_text, change_tree, SpellsTuple, ForgetPart, no_value, a_value, forget_part_text, forget_part_tree, ReturnPart, nothing, something, return_part_text, return_part_tree, maybe}
 use Rattle.silq_parse.specs.AddedStatement.{IsAddedStmt}
-use Rattle.silq_parse.proofs.Growing.{grew_nothing, grew_then}
+use Rattle.expr_parse.proofs.Growing.{grew_nothing}
 use Rattle.silq_parse.proofs.AddedStatements.{added_stands, added_grew, added_bounded}
 
 -- the length of a list that begins so

@@ -1,11 +1,11 @@
 -- What is expected where a token comes, or does not come.
-use Rattle.std.proofs.Common.{◌≡◌, Bool, true, false, List, [], ◌∷◌, refl}
+use Rattle.std.proofs.Common.{◌≡◌, true, false, List, [], ◌∷◌, refl}
 use Rattle.silq_grammar.specs.declared.token.Token.{Token}
 use Rattle.silq_grammar.specs.declared.token.Token.TheVariants.{Name, Number, Fixed}
 use Rattle.silq_grammar.specs.declared.token.Terminal.TheVariants as t
 use Rattle.silq_grammar.specs.Machine.{Symbol, Expect, Closing, ReturnValue, AType, AScalar, SizePart, Params, OneParam, MoreParams, an_expr}
 use Rattle.silq_grammar.specs.Outcome.{outcome}
-use Rattle.silq_parse.specs.Parts.{begins_with}
+use Rattle.expr_parse.specs.Begins.{begins_with}
 
 pub return_nothing_there : (k : List Symbol) (ts : List Token) → begins_with t.Semicolon ts ≡ true → outcome (ReturnValue ∷ Expect t.Semicolon ∷ k) ts ≡ outcome (Expect t.Semicolon ∷ k) ts
 unfolding outcome

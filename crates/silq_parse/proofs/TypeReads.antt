@@ -1,5 +1,5 @@
 -- What the functions for types have read.
-use Rattle.std.proofs.Common.{◌≡◌, ℕ, ◌+◌, ◌<◌, ◌≤◌, ℤ, Bool, true, false, List, [], ◌∷◌, ◌++◌, Option, Some, None, length, length-append, map, flat_map, refl, sym, ◌∙◌, ap, subst, append_assoc, append-nil, arith}
+use Rattle.std.proofs.Common.{◌≡◌, ℤ, Bool, true, false, List, [], ◌∷◌, ◌++◌, Option, Some, None, length, map, flat_map, refl, sym, ◌∙◌, ap, subst, append_assoc, append-nil, arith}
 use Rattle.std.proofs.lemmas.Grind.{flat_map-append}
 use Rattle.std.proofs.lemmas.List.{map-append}
 use Rattle.silq_tree.specs.declared.node.ExprId.{ExprId}
@@ -10,7 +10,7 @@ use Rattle.silq_tree.specs.declared.node.ScalarNode.TheVariants as scalars
 use Rattle.silq_tree.specs.declared.node.TypeNode.{TypeNode}
 use Rattle.silq_tree.specs.declared.node.Expr.TheVariants as exprs
 use Rattle.silq_tree.specs.Syntax as tree
-use Rattle.silq_tree.specs.Arena.{Forest, IsArena, KeepsTrees, expr_at}
+use Rattle.silq_tree.specs.Arena.{Forest, KeepsTrees, expr_at}
 use Rattle.silq_tree.specs.Standing.{scalar_of, type_of}
 use Rattle.silq_tree.specs.Standing as standing
 use Rattle.silq_tree.specs.Children.{listed, scalar_exprs, type_exprs, AreExprsBelow}
@@ -22,13 +22,13 @@ use Rattle.silq_grammar.specs.declared.token.Terminal.TheVariants as t
 use Rattle.silq_grammar.specs.Grammar as g
 use Rattle.silq_grammar.specs.Spelled.{expr_text, scalar_text, size_text, type_text, result_text}
 use Rattle.silq_grammar.specs.Trees.{expr_tree, scalar_tree, sized_tree, type_tree, result_tree}
-use Rattle.silq_parse.specs.Grown.{Grew}
-use Rattle.silq_parse.specs.Reads.{IsBounded, ReadsExpr, ReadsPart}
-use Rattle.silq_parse.specs.Parts.{maybe, size_tree, Sized, sized_text, sized_node_tree}
-use Rattle.silq_parse.specs.Added.{IsAdded}
-use Rattle.silq_parse.proofs.Growing.{grew_nothing, grew_then}
-use Rattle.silq_parse.proofs.Reading.{made, grew_by, same_stmts}
-use Rattle.silq_parse.proofs.Reading as reading
+use Rattle.expr_parse.specs.Grown.{Grew}
+use Rattle.expr_parse.specs.Reads.{ReadsExpr, ReadsPart}
+use Rattle.silq_parse.specs.Parts.{maybe, size_tree, sized_text, sized_node_tree}
+use Rattle.expr_parse.specs.Added.{IsAdded}
+use Rattle.expr_parse.proofs.Growing.{grew_nothing, grew_then}
+use Rattle.expr_parse.proofs.Reading.{made, grew_by, same_stmts}
+use Rattle.expr_parse.proofs.Reading as reading
 use Rattle.silq_parse.proofs.SimpleReads.{one_more, behind_text}
 
 pub number_size : {old new : Forest} {rest : List Token} {id : ExprId} (v : ℤ) (at c : Spot) → IsAdded old new (exprs.Number v None at) id

@@ -1,8 +1,7 @@
 -- A text whose tokens are being read.
-use Rattle.std.proofs.Common.{◌≡◌, ℕ, zero, suc, ◌+◌, ◌≤◌, Bool, true, false, List, [], ◌∷◌, ◌++◌, length, map, Option, Some, None, IfSome, if◌then◌else◌, subst, refl, sym, ◌∙◌, ap, arith, rules}
+use Rattle.std.proofs.Common.{◌≡◌, ℕ, suc, ◌+◌, ◌≤◌, Bool, true, false, List, [], ◌∷◌, ◌++◌, length, map, Option, Some, None, IfSome, if◌then◌else◌, subst, refl, sym, ◌∙◌, ap, arith}
 use Rattle.std.specs.List.{list_any}
 use Rattle.std.specs.Str.{chars, bytes_eq}
-use Rattle.silq_tree.specs.Texts.{with_name}
 use Rattle.silq_lex.specs.declared.token.TokenKind.{TokenKind}
 use Rattle.silq_lex.specs.declared.token.TokenKind.TheVariants as kinds
 use Rattle.silq_lex.specs.Tokens.{Located, Tokens, Ending, tokens_of, with_first, ends}

@@ -2,15 +2,6 @@ pub mod Spelling
 pub mod Lexed
 pub mod Endings
 pub mod Faults
-pub mod Stops
-pub mod Grown
-pub mod Reads
-pub mod Added
-pub mod Operands
-pub mod Opens
-pub mod Scalars
-pub mod Groups
-pub mod Targets
 pub mod Parts
 pub mod AddedStatement
 pub mod Functions

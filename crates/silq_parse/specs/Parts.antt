@@ -1,5 +1,5 @@
 -- Parts of derivations that the parser reads one by one.
-use Rattle.std.specs.Prelude.{◌≡◌, Bool, false, List, [], ◌∷◌, ◌++◌, Option, Some, None}
+use Rattle.std.specs.Prelude.{◌≡◌, Bool, List, [], ◌∷◌, ◌++◌, Option, Some, None}
 use Rattle.silq_tree.specs.declared.node.Spot.{Spot}
 use Rattle.silq_tree.specs.declared.node.NameId.{NameId}
 use Rattle.silq_tree.specs.declared.node.ExprId.{ExprId}
@@ -10,10 +10,9 @@ use Rattle.silq_tree.specs.declared.node.Stmt.TheVariants as nodes
 use Rattle.silq_tree.specs.declared.node.UpdateOp.{UpdateOp}
 use Rattle.silq_tree.specs.Syntax as tree
 use Rattle.silq_grammar.specs.declared.token.Token.{Token}
-use Rattle.silq_grammar.specs.declared.token.Token.TheVariants.{Name, Number, Fixed}
+use Rattle.silq_grammar.specs.declared.token.Token.TheVariants.{Name, Fixed}
 use Rattle.silq_grammar.specs.declared.token.Terminal.{Terminal}
 use Rattle.silq_grammar.specs.declared.token.Terminal.TheVariants as t
-use Rattle.silq_grammar.specs.Terminals.{same_terminal}
 use Rattle.silq_grammar.specs.Grammar.{Expr, NameList, Scalar, Type_, Statics, StaticPart, MarkPart, Size, no_size, number_size, named_size, paren_size, Block, Choice}
 use Rattle.silq_grammar.specs.Spelled.{update_sign, names_text, scalar_text, size_text, type_text, statics_text, static_part_text, mark_text, expr_text, block_text, choice_text}
 use Rattle.silq_grammar.specs.Trees.{names_tree, scalar_tree, sized_tree, type_tree, statics_tree, static_part_tree, mark_tree, expr_tree, block_tree, choice_tree}
@@ -120,13 +119,6 @@ between_tree (between l e d f r) = record { low = expr_tree e; high = expr_tree 
 abbrev pub changed_node : PlaceNode → Option UpdateOp → ExprId → Spot → stmts.Stmt
 changed_node place None value at = nodes.Assign place value at
 changed_node place (Some op) value at = nodes.Update place op value at
-
--- whether the first token is this one
-abbrev pub begins_with : Terminal → List Token → Bool
-begins_with wanted [] = false
-begins_with wanted (Name n s ∷ ts) = false
-begins_with wanted (Number v s ∷ ts) = false
-begins_with wanted (Fixed found s ∷ ts) = same_terminal found wanted
 
 -- scalar [ "^" size ]
 pub record Sized : Type 0 where

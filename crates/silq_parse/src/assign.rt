@@ -10,15 +10,15 @@ ghost use Rattle.silq_grammar.specs.Machine.{Symbol, StartName, Assigns, value, 
 ghost use Rattle.silq_grammar.specs.Outcome.{outcome};
 ghost use Rattle.silq_grammar.specs.Spelled.{stmt_text};
 ghost use Rattle.silq_grammar.specs.Trees.{stmt_tree};
-ghost use Rattle.silq_parse.specs.Stops.{StopsAt};
+ghost use Rattle.expr_parse.specs.Stops.{StopsAt};
 ghost use Rattle.silq_parse.specs.Parts.{change_sign, change_text, change_tree, changed_node};
-ghost use Rattle.silq_parse.specs.Reads.{ReadsExpr, ReadsStmt, ReadsPart};
+ghost use Rattle.expr_parse.specs.Reads.{ReadsExpr, ReadsStmt, ReadsPart};
 
-use crate::expr::expr;
-use crate::sign::sign;
 use crate::statement::add_statement;
-use crate::stop::Stop;
-use crate::target::{Target, behind_name};
+use expr_parse::expr::expr;
+use expr_parse::sign::sign;
+use expr_parse::stop::Stop;
+use expr_parse::target::{Target, behind_name};
 use silq_grammar::{Terminal, Token};
 use silq_tree::{ExprId, NameId, PlaceNode, Spot, Stmt, StmtId, Tree, UpdateOp};
 use std::alloc::Global;
@@ -30,21 +30,19 @@ fn change_sign<'t>(tokens: &'t [Token]) -> Result<(Option<UpdateOp>, Spot, &'t [
         (λ stop. StopsAt (outcome (Assigns ∷ k) tokens.now) stop) }
     ensures token { IfOk result (λ p. tokens.now ≡ Fixed (change_sign p.0) p.1 ∷ p.2.now) }
 {
-    match tokens {
-        [Token::Fixed(Terminal::Becomes, at), rest @ ..] => Ok((None, *at, rest)),
-        [Token::Fixed(Terminal::AddTo, at), rest @ ..] => Ok((Some(UpdateOp::Add), *at, rest)),
-        [Token::Fixed(Terminal::SubtractFrom, at), rest @ ..] => Ok((
-            Some(UpdateOp::Sub),
-            *at,
-            rest,
-        )),
-        [Token::Fixed(Terminal::XorTo, at), rest @ ..] => Ok((Some(UpdateOp::Xor), *at, rest)),
+    let [Token::Fixed(sign, at), rest @ ..] = tokens else {
+        return Err(Stop::Syntax(tokens));
+    };
+    match sign {
+        Terminal::Becomes => Ok((None, *at, rest)),
+        Terminal::AddTo => Ok((Some(UpdateOp::Add), *at, rest)),
+        Terminal::SubtractFrom => Ok((Some(UpdateOp::Sub), *at, rest)),
+        Terminal::XorTo => Ok((Some(UpdateOp::Xor), *at, rest)),
         _ => Err(Stop::Syntax(tokens)),
     }
 }
 
 /// An assignment or an update up to its semicolon.
-#[tactic(auto, unfolding(silq_grammar::specs::Outcome::outcome))]
 fn change<'t>(
     alloc: Global,
     tree: &mut Tree,
@@ -81,7 +79,6 @@ fn changed(target: PlaceNode, op: Option<UpdateOp>, value: ExprId, at: Spot) -> 
 }
 
 /// A statement that begins with a name, from behind it.
-#[tactic(auto, unfolding(silq_grammar::specs::Outcome::outcome))]
 pub(crate) fn named<'t>(
     alloc: Global,
     tree: &mut Tree,

@@ -11,23 +11,22 @@ ghost use Rattle.silq_grammar.specs.Machine.{Symbol, Expect, Closing, AnyName, A
 ghost use Rattle.silq_grammar.specs.Outcome.{outcome};
 ghost use Rattle.silq_grammar.specs.Spelled.{stmt_text, stmts_text, block_text, choice_text};
 ghost use Rattle.silq_grammar.specs.Trees.{stmt_tree, stmts_tree, block_tree, choice_tree};
-ghost use Rattle.silq_parse.specs.Stops.{StopsAt};
+ghost use Rattle.expr_parse.specs.Stops.{StopsAt};
 ghost use Rattle.silq_parse.specs.Parts.{Between, between_text, between_tree, rest_text, rest_tree};
-ghost use Rattle.silq_parse.specs.Reads.{ReadsExpr, ReadsStmt, ReadsPart};
+ghost use Rattle.expr_parse.specs.Reads.{ReadsExpr, ReadsStmt, ReadsPart};
 
 use crate::assign::named;
-use crate::expr::expr;
-use crate::sign::{name, sign};
 use crate::simple::{forget, phase, return_rest, spread};
 use crate::statement::add_statement;
-use crate::stop::{Stop, deeper};
+use expr_parse::expr::expr;
+use expr_parse::sign::{name, sign};
+use expr_parse::stop::{Stop, deeper};
 use silq_grammar::{Terminal, Token};
 use silq_tree::{Block, Else, ExprId, Spot, Stmt, StmtId, StmtIds, Tree};
 use std::alloc::Global;
 
 /// Statements up to a token with which none begins.
 #[cycle(statement)]
-#[tactic(auto, unfolding(silq_grammar::specs::Outcome::outcome))]
 fn statements<'t>(
     alloc: Global,
     tree: &mut Tree,
@@ -75,38 +74,40 @@ fn statement<'t>(
             let p = named(alloc, tree, rest, *name, *at, room)?;
             Ok(Some(p))
         }
-        [Token::Fixed(Terminal::LeftParen, at), rest @ ..] => {
-            let _inside = deeper(tokens, room)?;
-            let p = spread(alloc, tree, rest, *at, room)?;
-            Ok(Some(p))
-        }
-        [Token::Fixed(Terminal::Forget, at), rest @ ..] => {
-            let p = forget(alloc, tree, rest, *at, room)?;
-            Ok(Some(p))
-        }
-        [Token::Fixed(Terminal::Phase, at), rest @ ..] => {
-            let p = phase(alloc, tree, rest, *at, room)?;
-            Ok(Some(p))
-        }
-        [Token::Fixed(Terminal::If, at), rest @ ..] => {
-            let p = choice(alloc, tree, rest, *at, room)?;
-            Ok(Some(p))
-        }
-        [Token::Fixed(Terminal::For, at), rest @ ..] => {
-            let p = loop_rest(alloc, tree, rest, *at, room)?;
-            Ok(Some(p))
-        }
-        [Token::Fixed(Terminal::Return, at), rest @ ..] => {
-            let p = return_rest(alloc, tree, rest, *at, room)?;
-            Ok(Some(p))
-        }
+        [Token::Fixed(word, at), rest @ ..] => match word {
+            Terminal::LeftParen => {
+                let _inside = deeper(tokens, room)?;
+                let p = spread(alloc, tree, rest, *at, room)?;
+                Ok(Some(p))
+            }
+            Terminal::Forget => {
+                let p = forget(alloc, tree, rest, *at, room)?;
+                Ok(Some(p))
+            }
+            Terminal::Phase => {
+                let p = phase(alloc, tree, rest, *at, room)?;
+                Ok(Some(p))
+            }
+            Terminal::If => {
+                let p = choice(alloc, tree, rest, *at, room)?;
+                Ok(Some(p))
+            }
+            Terminal::For => {
+                let p = loop_rest(alloc, tree, rest, *at, room)?;
+                Ok(Some(p))
+            }
+            Terminal::Return => {
+                let p = return_rest(alloc, tree, rest, *at, room)?;
+                Ok(Some(p))
+            }
+            _ => Ok(None),
+        },
         _ => Ok(None),
     }
 }
 
 /// Statements and the brace that closes them.
 #[cycle(statement)]
-#[tactic(auto, unfolding(silq_grammar::specs::Outcome::outcome))]
 fn inner<'t>(
     alloc: Global,
     tree: &mut Tree,
@@ -154,7 +155,6 @@ pub(crate) fn block<'t>(
 
 /// A choice, from behind its `if`.
 #[cycle(statement)]
-#[tactic(auto, unfolding(silq_grammar::specs::Outcome::outcome))]
 fn choice<'t>(
     alloc: Global,
     tree: &mut Tree,
@@ -236,13 +236,16 @@ fn else_body<'t>(
     ensures arena { OnOk result (IsArena tree.new) }
     ensures shorter { IfOk result (λ p. length p.1.now < length tokens.now) }
 {
-    match tokens {
-        [Token::Fixed(Terminal::LeftBrace, _open), rest @ ..] => {
+    let [Token::Fixed(word, at), rest @ ..] = tokens else {
+        return Err(Stop::Syntax(tokens));
+    };
+    match word {
+        Terminal::LeftBrace => {
             let inside = deeper(tokens, room)?;
             let (body, rest) = inner(alloc, tree, rest, inside)?;
             Ok((Else::Block(body), rest))
         }
-        [Token::Fixed(Terminal::If, at), rest @ ..] => {
+        Terminal::If => {
             let inside = deeper(tokens, room)?;
             let (id, rest) = choice(alloc, tree, rest, *at, inside)?;
             Ok((Else::Choice(id), rest))
@@ -280,7 +283,6 @@ fn bounds<'t>(
 
 /// A loop, from behind its `for`.
 #[cycle(statement)]
-#[tactic(auto, unfolding(silq_grammar::specs::Outcome::outcome))]
 fn loop_rest<'t>(
     alloc: Global,
     tree: &mut Tree,

@@ -7,16 +7,16 @@ ghost use Rattle.silq_grammar.specs.declared.token.Token.TheVariants.{Fixed};
 ghost use Rattle.silq_grammar.specs.declared.token.Terminal.TheVariants as t;
 ghost use Rattle.silq_grammar.specs.Machine.{Symbol, AnyName, StaticPart, ParamPart, MarkPart, ResultPart, ABlock, nest};
 ghost use Rattle.silq_grammar.specs.Outcome.{outcome};
-ghost use Rattle.silq_parse.specs.Stops.{StopsAt};
-ghost use Rattle.silq_parse.specs.Added.{AreFree};
+ghost use Rattle.expr_parse.specs.Stops.{StopsAt};
+ghost use Rattle.expr_parse.specs.Added.{AreFree};
 ghost use Rattle.silq_parse.specs.AddedStatement.{AreFreeStmts};
 ghost use Rattle.silq_parse.specs.Functions.{IsAddedFun, ReadsFunction};
-ghost use Rattle.silq_parse.specs.declared.stop.Stop.TheVariants as stops;
+ghost use Rattle.expr_parse.specs.declared.stop.Stop.TheVariants as stops;
 
 use crate::block::block;
 use crate::header::{mark, param_part, result_part, static_part};
-use crate::sign::name;
-use crate::stop::Stop;
+use expr_parse::sign::name;
+use expr_parse::stop::Stop;
 use silq_grammar::Token;
 use silq_tree::{Fun, FunId, Spot, Tree};
 use std::alloc::Global;
@@ -35,7 +35,6 @@ fn add_function<'t>(tree: &mut Tree, f: Fun) -> Result<FunId, Stop<'t>>
 }
 
 /// A function, from behind its `def`.
-#[tactic(auto, unfolding(silq_grammar::specs::Outcome::outcome))]
 pub(crate) fn function<'t>(
     alloc: Global,
     tree: &mut Tree,

@@ -11,19 +11,18 @@ ghost use Rattle.silq_grammar.specs.Machine.{Symbol, Expect, Closing, AnyName, A
 ghost use Rattle.silq_grammar.specs.Outcome.{outcome};
 ghost use Rattle.silq_grammar.specs.Spelled.{param_text, params_text, param_part_text, mark_text, result_part_text};
 ghost use Rattle.silq_grammar.specs.Trees.{param_tree, params_tree, param_part_tree, mark_tree, result_part_tree};
-ghost use Rattle.silq_parse.specs.Stops.{StopsAt};
+ghost use Rattle.expr_parse.specs.Stops.{StopsAt};
 ghost use Rattle.silq_parse.specs.Parts.{SpellsStatic, SpellsStatics, SpellsStaticPart, SpellsMark, typed_text, typed_tree};
-ghost use Rattle.silq_parse.specs.Reads.{ReadsPart};
+ghost use Rattle.expr_parse.specs.Reads.{ReadsPart};
 
-use crate::sign::{name, optional, sign};
-use crate::stop::{Stop, deeper};
 use crate::types::{results, written_type};
+use expr_parse::sign::{name, optional, sign};
+use expr_parse::stop::{Stop, deeper};
 use silq_grammar::{Terminal, Token};
 use silq_tree::{Mark, NameId, NameIds, ParamNode, ParamNodes, Spot, Tree, TypeNodes};
 use std::alloc::Global;
 
 /// A static parameter.
-#[tactic(auto, unfolding(silq_grammar::specs::Outcome::outcome))]
 fn static_param<'t>(tokens: &'t [Token]) -> Result<(NameId, &'t [Token]), Stop<'t>>
     ensures machine { (k : List Symbol) → nest k ≤ 64 → MatchResult result (λ p. outcome (AnyName ∷ Expect t.Colon ∷ Expect t.Bang ∷ Expect t.Natural ∷ k) tokens.now ≡ outcome k p.1.now)
         (λ stop. StopsAt (outcome (AnyName ∷ Expect t.Colon ∷ Expect t.Bang ∷ Expect t.Natural ∷ k) tokens.now) stop) }
@@ -84,7 +83,6 @@ pub(crate) fn static_part<'t>(
 }
 
 /// The type of a parameter, with the sign before it.
-#[tactic(auto, unfolding(silq_grammar::specs::Outcome::outcome))]
 fn typed<'t>(
     alloc: Global,
     tree: &mut Tree,
@@ -226,10 +224,13 @@ pub(crate) fn mark<'t>(tokens: &'t [Token]) -> (Mark, &'t [Token])
     ensures reads { SpellsMark result.0 tokens.now result.1.now }
     ensures no_longer { length result.1.now ≤ length tokens.now }
 {
-    match tokens {
-        [Token::Fixed(Terminal::Lifted, _at), rest @ ..] => (Mark::Lifted, rest),
-        [Token::Fixed(Terminal::Qfree, _at), rest @ ..] => (Mark::Qfree, rest),
-        [Token::Fixed(Terminal::Mfree, _at), rest @ ..] => (Mark::Mfree, rest),
+    let [Token::Fixed(word, _at), rest @ ..] = tokens else {
+        return (Mark::Plain, tokens);
+    };
+    match word {
+        Terminal::Lifted => (Mark::Lifted, rest),
+        Terminal::Qfree => (Mark::Qfree, rest),
+        Terminal::Mfree => (Mark::Mfree, rest),
         _ => (Mark::Plain, tokens),
     }
 }

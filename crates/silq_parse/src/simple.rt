@@ -9,14 +9,14 @@ ghost use Rattle.silq_grammar.specs.Machine.{Symbol, Expect, Closing, AnyName, M
 ghost use Rattle.silq_grammar.specs.Outcome.{outcome};
 ghost use Rattle.silq_grammar.specs.Spelled.{stmt_text, expr_text, names_text};
 ghost use Rattle.silq_grammar.specs.Trees.{stmt_tree, expr_tree, names_tree};
-ghost use Rattle.silq_parse.specs.Stops.{StopsAt};
+ghost use Rattle.expr_parse.specs.Stops.{StopsAt};
 ghost use Rattle.silq_parse.specs.Parts.{SpellsTuple, forget_part_text, forget_part_tree, return_part_text, return_part_tree, maybe};
-ghost use Rattle.silq_parse.specs.Reads.{ReadsExpr, ReadsStmt, ReadsPart};
+ghost use Rattle.expr_parse.specs.Reads.{ReadsExpr, ReadsStmt, ReadsPart};
 
-use crate::expr::expr;
-use crate::sign::{begins, name, sign};
 use crate::statement::add_statement;
-use crate::stop::{Stop, deeper};
+use expr_parse::expr::expr;
+use expr_parse::sign::{begins, name, sign};
+use expr_parse::stop::{Stop, deeper};
 use silq_grammar::{Terminal, Token};
 use silq_tree::{ExprId, NameId, NameIds, Spot, Stmt, StmtId, Tree};
 use std::alloc::Global;
@@ -46,7 +46,6 @@ fn tuple_names<'t>(alloc: Global, tokens: &'t [Token]) -> Result<(NameIds, &'t [
 }
 
 /// An assignment to a tuple, from behind its parenthesis.
-#[tactic(auto, unfolding(silq_grammar::specs::Outcome::outcome))]
 pub(crate) fn spread<'t>(
     alloc: Global,
     tree: &mut Tree,
@@ -180,7 +179,6 @@ fn return_value<'t>(
 }
 
 /// A return, from behind its word.
-#[tactic(auto, unfolding(silq_grammar::specs::Outcome::outcome))]
 pub(crate) fn return_rest<'t>(
     alloc: Global,
     tree: &mut Tree,

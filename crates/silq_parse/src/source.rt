@@ -6,12 +6,12 @@ ghost use Rattle.silq_parse.specs.declared.fault.ParseFault.TheVariants as fault
 ghost use Rattle.silq_parse.specs.Endings.{ending_of};
 ghost use Rattle.silq_parse.specs.Faults.{fault_by, first_fault};
 ghost use Rattle.silq_parse.specs.Stands.{StandsFor};
-ghost use Rattle.silq_parse.specs.Stops.{StopsAt};
+ghost use Rattle.expr_parse.specs.Stops.{StopsAt};
 
 use crate::fault::ParseFault;
 use crate::lexed::{Lexed, lex};
-use crate::stop::Stop;
 use crate::tokens::parse_tokens;
+use expr_parse::stop::Stop;
 use silq_grammar::Token;
 use silq_lex::{LexFault, Place};
 use silq_tree::{Program, Spot};

@@ -3,11 +3,11 @@
 ghost use Rattle.std.specs.Prelude.{◌≡◌, ◌+◌, ◌-◌, ◌^◌, ◌<◌, ◌≤◌, ℕ, List, [], ◌∷◌, ◌++◌, Option, Some, None, length, IfOk, IfErr, OnOk, OnErr, MatchResult, MatchOption};
 ghost use Rattle.silq_tree.specs.Arena.{IsArena};
 ghost use Rattle.silq_tree.specs.Children.{stmt_exprs, stmt_stmts, StmtHasFirst};
-ghost use Rattle.silq_parse.specs.Added.{AreFree};
+ghost use Rattle.expr_parse.specs.Added.{AreFree};
 ghost use Rattle.silq_parse.specs.AddedStatement.{AreFreeStmts, IsAddedStmt};
-ghost use Rattle.silq_parse.specs.declared.stop.Stop.TheVariants as stops;
+ghost use Rattle.expr_parse.specs.declared.stop.Stop.TheVariants as stops;
 
-use crate::stop::Stop;
+use expr_parse::stop::Stop;
 use silq_tree::{Stmt, StmtId, Tree};
 
 /// Adds a statement.

@@ -4,11 +4,11 @@ ghost use Rattle.std.specs.Prelude.{◌≡◌, ◌+◌, ◌-◌, ◌^◌, ◌<�
 ghost use Rattle.silq_tree.specs.Arena.{IsArena};
 ghost use Rattle.silq_grammar.specs.Machine.{Symbol, Functions, nest};
 ghost use Rattle.silq_grammar.specs.Outcome.{outcome, program_outcome, Fine};
-ghost use Rattle.silq_parse.specs.Stops.{StopsAt};
+ghost use Rattle.expr_parse.specs.Stops.{StopsAt};
 ghost use Rattle.silq_parse.specs.Functions.{ReadsFunctions, IsParsed};
 
 use crate::function::function;
-use crate::stop::Stop;
+use expr_parse::stop::Stop;
 use silq_grammar::{Terminal, Token};
 use silq_tree::{FunIds, Tree};
 use std::alloc::Global;

@@ -12,15 +12,15 @@ ghost use Rattle.silq_grammar.specs.Machine.{Symbol, Closing, AType, AScalar, Si
 ghost use Rattle.silq_grammar.specs.Outcome.{outcome};
 ghost use Rattle.silq_grammar.specs.Spelled.{size_text, type_text, result_text};
 ghost use Rattle.silq_grammar.specs.Trees.{type_tree, result_tree};
-ghost use Rattle.silq_parse.specs.Stops.{StopsAt};
+ghost use Rattle.expr_parse.specs.Stops.{StopsAt};
 ghost use Rattle.silq_parse.specs.Parts.{maybe, size_tree, sized_text, sized_node_tree};
-ghost use Rattle.silq_parse.specs.Reads.{ReadsPart};
+ghost use Rattle.expr_parse.specs.Reads.{ReadsPart};
 
-use crate::expr::expr;
-use crate::node::{add, first_spot};
-use crate::scalar::scalar;
-use crate::sign::{optional, sign};
-use crate::stop::{Stop, deeper};
+use expr_parse::expr::expr;
+use expr_parse::node::{add, first_spot};
+use expr_parse::scalar::scalar;
+use expr_parse::sign::{optional, sign};
+use expr_parse::stop::{Stop, deeper};
 use silq_grammar::{Terminal, Token};
 use silq_tree::{Expr, ExprId, PlaceNode, ScalarNode, Spot, Tree, TypeNode, TypeNodes};
 use std::alloc::Global;
@@ -98,7 +98,6 @@ fn size<'t>(
 }
 
 /// A type behind its sign `!`, or without one; `at` is where it begins.
-#[tactic(auto, unfolding(silq_grammar::specs::Outcome::outcome))]
 fn sized<'t>(
     alloc: Global,
     tree: &mut Tree,

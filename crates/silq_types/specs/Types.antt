@@ -13,8 +13,6 @@ use Rattle.silq_types.specs.declared.types.Ty.{Ty}
 use Rattle.silq_types.specs.declared.values.Origin.{Origin}
 use Rattle.silq_types.specs.declared.values.Origin.TheVariants.{Held, Linear}
 
-
-
 -- the values of static parameters and loop variables, the innermost last
 abbrev pub Statics : Type 0
 Statics = List (NameId × ℤ)

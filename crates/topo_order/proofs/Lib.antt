@@ -4,6 +4,8 @@ pub mod Best
 pub mod Going
 pub mod Counters
 pub mod Lowered
+pub mod Tree
+pub mod Falling
 pub mod Least
 pub mod Walking
 pub mod WayVertices

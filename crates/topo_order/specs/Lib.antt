@@ -5,3 +5,4 @@ pub mod OrderOf
 pub mod Flags
 pub mod GivenCycle
 pub mod Laws
+pub mod ReadyTree

@@ -1,11 +1,16 @@
-//! The vertices that are ready, by one flag and one counter for each id.
+//! The ready vertices, kept so that the one that goes first is known.
+//!
+//! For n vertices the tree has 2 * n places. From place n on there is a leaf for each vertex, which has it where it is
+//! ready. Each place k below n has the vertex that goes first of those at the places 2 * k and 2 * k + 1, so place 1 has
+//! the one that goes first of all.
 
-ghost use Rattle.std.specs.Prelude.{◌≡◌, ◌<◌, ◌↔◌, ◌⊎◌, false, length, get_or, IsTrue, MatchOption};
+ghost use Rattle.std.specs.Prelude.{◌≡◌, ◌<◌, ◌↔◌, ◌⊎◌, None, Some, length, get_or, IsTrue, IfOk, MatchOption};
 ghost use Rattle.topo_order.specs.ReadyOrder.{GoesFirst};
-ghost use Rattle.topo_order.specs.Flags.{IsReadyAt, IsNextAt, is_flagged, vertex_of};
-ghost use Rattle.topo_order.specs.Waiting.{AreCounters};
+ghost use Rattle.topo_order.specs.Flags.{vertex_of};
+ghost use Rattle.topo_order.specs.ReadyTree.{IsFirstOf, IsTree, SetsLeaf, ShowsZeros, leaf_at, tree_at};
 
 use graph_core::{Graph, Vertex, VertexId};
+use std::alloc::{AllocError, Global};
 
 /// Whether `v` goes first of two ready vertices.
 pub fn goes_first(v: Vertex, u: Vertex) -> bool
@@ -20,15 +25,6 @@ pub fn goes_first(v: Vertex, u: Vertex) -> bool
         (_, Vertex::Reverse(_)) => false,
         (Vertex::Forward(v), Vertex::Forward(u)) => v.number <= u.number,
     }
-}
-
-/// Whether an id is not taken, and waits for nothing.
-fn is_ready(taken: &[bool], counters: &[u32], v: VertexId) -> bool
-    requires flags { v.number < length taken.now }
-    requires counters { v.number < length counters.now }
-    ensures { IsTrue result ↔ ((is_flagged taken.now v ≡ false) × (get_or counters.now v.number 0 ≡ 0)) }
-{
-    !taken[v.number as usize] && counters[v.number as usize] == 0
 }
 
 /// Of a vertex and another, if there is one, the one that goes first.
@@ -51,19 +47,68 @@ fn better(graph: &Graph, best: Option<VertexId>, v: VertexId) -> VertexId
     }
 }
 
-/// The ready vertex that goes first, if one is ready.
-pub fn first_ready(graph: &Graph, taken: &[bool], counters: &[u32]) -> Option<VertexId>
-    requires flags { length taken.now ≡ length graph.now.vertices }
-    requires counters { AreCounters graph.now taken.now counters.now }
-    ensures some { MatchOption result (length taken.now ≡ length taken.now) (λ v. IsNextAt graph.now taken.now v) }
-    ensures none { MatchOption result ((u : VertexId) → u.number < length graph.now.vertices → ¬ IsReadyAt graph.now taken.now u) (λ v. length taken.now ≡ length taken.now) }
+/// Of two vertices, where they are there, the one that goes first.
+fn first_of(graph: &Graph, a: Option<VertexId>, b: Option<VertexId>) -> Option<VertexId>
+    requires a_there { (u : VertexId) → a ≡ Some u → u.number < length graph.now.vertices }
+    requires b_there { (u : VertexId) → b ≡ Some u → u.number < length graph.now.vertices }
+    ensures { IsFirstOf graph.now a b result }
 {
-    let mut best = None;
+    match b {
+        None => a,
+        Some(v) => Some(better(graph, a, v)),
+    }
+}
+
+/// Writes the leaf of a vertex, and makes the places above it again.
+pub fn put_leaf(graph: &Graph, tree: &mut [Option<VertexId>], v: VertexId, now: Option<VertexId>)
+    requires there { v.number < length graph.now.vertices }
+    requires fits { (u : VertexId) → now ≡ Some u → u ≡ v }
+    requires tree { IsTree graph.now tree.old 0 }
+    ensures tree { IsTree graph.now tree.new 0 }
+    ensures leaves { SetsLeaf graph.now v now tree.old tree.new }
+{
+    let leaf = graph.len() + v.number as usize;
+    tree[leaf] = now;
+    let mut place = leaf / 2;
+    while place > 0 {
+        tree[place] = first_of(graph, tree[2 * place], tree[2 * place + 1]);
+        place /= 2;
+    }
+}
+
+// Writes the leaves of the vertices whose counter is 0.
+fn put_zeros(graph: &Graph, tree: &mut [Option<VertexId>], counters: &[u32])
+    requires sized { length counters.now ≡ length graph.now.vertices }
+    requires tree { IsTree graph.now tree.old 0 }
+    requires empty { (u : VertexId) → u.number < length graph.now.vertices → leaf_at graph.now tree.old u ≡ None }
+    ensures { ShowsZeros graph.now counters.now tree.new }
+{
     for i in 0..graph.len() {
-        let v = VertexId { number: i as u32 };
-        if is_ready(taken, counters, v) {
-            best = Some(better(graph, best, v));
+        if counters[i] == 0 {
+            let v = VertexId { number: i as u32 };
+            put_leaf(graph, tree, v, Some(v));
         }
     }
-    best
+}
+
+/// The tree of the vertices whose counter is 0.
+pub fn ready_tree(
+    alloc: Global,
+    graph: &Graph,
+    counters: &[u32],
+) -> Result<Vec<Option<VertexId>>, AllocError>
+    requires { length counters.now ≡ length graph.now.vertices }
+    ensures { IfOk result (λ tree. ShowsZeros graph.now counters.now tree.items) }
+{
+    let count = graph.len();
+    let mut tree = vec![in alloc; None; 2 * count]?;
+    put_zeros(graph, &mut tree, counters);
+    Ok(tree)
+}
+
+/// The ready vertex that goes first, if one is ready.
+pub fn first_ready(tree: &[Option<VertexId>]) -> Option<VertexId>
+    ensures { result ≡ tree_at tree.now 1 }
+{
+    if tree.len() > 1 { tree[1] } else { None }
 }

@@ -8,9 +8,9 @@ ghost use Rattle.topo_order.specs.OrderOf.{IsOrderOf, IfCycle};
 ghost use Rattle.topo_order.specs.GivenCycle.{IsGivenCycle};
 ghost use Rattle.topo_order.specs.declared.vertex_order.OrderFault.TheVariants.{Memory};
 
-use crate::counting::{count_down, first_counters};
+use crate::counting::{first_counters, take_vertex};
 use crate::left::least_left;
-use crate::ready::first_ready;
+use crate::ready::{first_ready, ready_tree};
 use crate::ring::given_cycle;
 use graph_core::{Graph, Vertex, VertexId};
 use std::alloc::{AllocError, AllocFailed, Global};
@@ -126,10 +126,11 @@ pub fn order(alloc: Global, graph: &Graph) -> Result<VertexOrder, OrderFault>
 {
     let mut taken = vec![in alloc; false; graph.len()]?;
     let mut counters = first_counters(alloc, graph)?;
+    let mut tree = ready_tree(alloc, graph, &counters)?;
     let mut ids = VertexOrder::new(alloc);
-    while let Some(v) = first_ready(graph, &taken, &counters) {
+    while let Some(v) = first_ready(&tree) {
         taken[v.number as usize] = true;
-        count_down(graph, &mut counters, v);
+        take_vertex(graph, &mut counters, &mut tree, v);
         ids.push(v)?;
     }
     match least_left(graph, &taken) {

@@ -1,5 +1,5 @@
 -- The stages of the Reverse vertices.
-use Rattle.std.proofs.Common.{◌≡◌, ℕ, zero, suc, ◌+◌, ◌-◌, ◌<◌, ◌≤◌, ◌⊎◌, ◌↔◌, Bool, true, false, cond, List, [], ◌∷◌, ◌++◌, map, reverse, length, drop, slice_set, Option, Some, None, Contains, refl, sym, ap, ◌∙◌, subst, inl, inr, arith, append-nil, append_assoc, add-one, drop-cons}
+use Rattle.std.proofs.Common.{◌≡◌, ℕ, ◌+◌, ◌-◌, ◌<◌, ◌≤◌, ◌⊎◌, ◌↔◌, Bool, true, false, cond, List, [], ◌∷◌, ◌++◌, map, reverse, length, drop, slice_set, Some, Contains, refl, sym, ap, ◌∙◌, subst, inl, inr, arith, append-nil, append_assoc, add-one, drop-cons}
 use Rattle.std.proofs.lemmas.Bool.{cases_Bool, cases_lt, both_ways}
 use Rattle.std.proofs.lemmas.List.{map-append, reverse-append}
 use Rattle.std.proofs.Math.Seq.{drop-length}
@@ -9,14 +9,13 @@ use Rattle.flat_core.specs.declared.step.StepId.{StepId}
 use Rattle.flat_core.specs.Form.{FlatForm}
 use Rattle.flat_core.specs.Label.{changes, same_wire, step_id, step_at, no_step}
 use Rattle.flat_core.specs.Ends.{dropped, undone, KeepsEnds}
-use Rattle.flat_core.proofs.Labels.{same_wire_is}
 use Rattle.graph_core.specs.declared.vertex.Vertex.{Vertex}
 use Rattle.graph_core.specs.declared.vertex.Vertex.TheVariants.{Forward, Reverse, Free}
 use Rattle.graph_core.specs.declared.graph.VertexId.{VertexId}
 use Rattle.graph_core.specs.Arena.{Arena, IsArena}
 use Rattle.graph_core.specs.Circuit.{steps_on_from}
 use Rattle.graph_core.proofs.Chains.{undone_dropped}
-use Rattle.unqomp.specs.Making.{vertex_id, target_of, forth, back, IsForth, IsBack, ids_on, IsStage, IsForthStage, IsBackStage}
+use Rattle.unqomp.specs.Making.{vertex_id, target_of, forth, back, IsForth, IsBack, ids_on, IsForthStage, IsBackStage}
 use Rattle.unqomp.specs.Linking.{linked}
 use Rattle.unqomp.proofs.Stages.{stage_more, stage_same}
 use Rattle.unqomp.proofs.Forth.{changes_target}

@@ -1,6 +1,6 @@
 -- The stages of the Forward vertices.
-use Rattle.std.proofs.Common.{◌≡◌, ℕ, zero, suc, ◌+◌, ◌<◌, ◌≤◌, ◌⊎◌, ◌↔◌, Bool, true, false, cond, List, [], ◌∷◌, ◌++◌, map, length, take, slice_get, slice_set, replicate, get_or, Option, Some, None, Contains, refl, sym, ap, ◌∙◌, subst, inl, inr, arith, length-append, append-nil, add-zero, add-suc, suc-add, add-one, zero-add, length-take-le}
-use Rattle.std.proofs.lemmas.Bool.{cases_Bool, cases_lt, cases_order}
+use Rattle.std.proofs.Common.{◌≡◌, ℕ, suc, ◌+◌, ◌<◌, ◌⊎◌, ◌↔◌, Bool, true, false, cond, List, [], ◌∷◌, ◌++◌, map, length, take, slice_get, slice_set, Some, None, Contains, refl, sym, ap, ◌∙◌, inl, inr, arith, length-append, append-nil, add-zero, add-suc, suc-add, zero-add, length-take-le}
+use Rattle.std.proofs.lemmas.Bool.{cases_lt}
 use Rattle.std.proofs.lemmas.List.{map-append, take_more}
 use Rattle.flat_core.specs.declared.step.Step.{Step}
 use Rattle.flat_core.specs.declared.step.Step.TheVariants.{X, H, P, M}
@@ -13,7 +13,7 @@ use Rattle.graph_core.specs.declared.vertex.Vertex.TheVariants.{Forward, Reverse
 use Rattle.graph_core.specs.declared.graph.VertexId.{VertexId}
 use Rattle.graph_core.specs.Arena.{Arena, IsArena, IsVertexOf, with_vertex}
 use Rattle.graph_core.specs.Circuit.{steps_on_from}
-use Rattle.unqomp.specs.Making.{vertex_id, target_of, forth, IsForth, ids_on, IsStage, IsForthStage}
+use Rattle.unqomp.specs.Making.{vertex_id, target_of, forth, IsForth, ids_on, IsForthStage}
 use Rattle.unqomp.specs.Linking.{linked}
 use Rattle.unqomp.proofs.Stages.{stage_more, stage_lone, stage_same, number, vertex_kept, vertex_new}
 

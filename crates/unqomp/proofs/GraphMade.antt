@@ -1,8 +1,7 @@
 -- The first stage, and what is made at the end.
-use Rattle.std.proofs.Common.{◌≡◌, ℕ, zero, suc, ◌+◌, ◌<◌, ◌≤◌, ◌↔◌, List, [], ◌∷◌, length, take, slice_get, get_or, replicate, Some, Contains, refl, sym, ap, ◌∙◌, subst, arith}
+use Rattle.std.proofs.Common.{◌≡◌, ℕ, zero, suc, List, [], length, get_or, replicate, Contains, refl, sym, ap, ◌∙◌, subst, arith}
 use Rattle.std.proofs.lemmas.List.{length-replicate}
 use Rattle.flat_core.specs.declared.step.WireId.{WireId}
-use Rattle.flat_core.specs.declared.step.StepId.{StepId}
 use Rattle.flat_core.specs.Form.{FlatForm}
 use Rattle.flat_core.specs.Sound.{IsFlat}
 use Rattle.flat_core.proofs.Kept.{keeps_ends}
@@ -16,9 +15,9 @@ use Rattle.graph_core.specs.Circuit.{Uses}
 use Rattle.graph_core.specs.Slots.{SlotEdge}
 use Rattle.graph_core.proofs.BySlots.{edges_by_slots}
 use Rattle.unqomp.specs.declared.uses.Use.{Use}
-use Rattle.unqomp.specs.GraphOf.{HasArrowOf, HasEdges, IsGraphOf}
+use Rattle.unqomp.specs.GraphOf.{HasEdges, IsGraphOf}
 use Rattle.unqomp.specs.UseList.{uses_before, InUses}
-use Rattle.unqomp.specs.Making.{forth, IsForth, ids_on, IsAlong, IsForthStage, IsWhole, bare}
+use Rattle.unqomp.specs.Making.{forth, IsForth, IsAlong, IsForthStage, IsWhole, bare}
 use Rattle.unqomp.proofs.Stages.{contains_nil}
 use Rattle.unqomp.proofs.UseEdges.{slot_map}
 use Rattle.unqomp.proofs.UseLists.{before_sound, before_whole}

@@ -1,18 +1,15 @@
 -- The stages of the Free vertices, and the whole.
-use Rattle.std.proofs.Common.{◌≡◌, ℕ, zero, suc, ◌+◌, ◌-◌, ◌<◌, ◌≤◌, ◌⊎◌, ◌↔◌, Bool, true, false, cond, ◌&&◌, ltb, List, [], ◌∷◌, ◌++◌, map, reverse, length, take, drop, get_or, slice_get, slice_set, replicate, Option, Some, None, Contains, refl, sym, ap, ◌∙◌, subst, inl, inr, arith, append-nil, append_assoc, ltb-true}
+use Rattle.std.proofs.Common.{◌≡◌, ℕ, ◌+◌, ◌-◌, ◌<◌, ◌≤◌, ◌⊎◌, ◌↔◌, Bool, true, false, cond, ◌&&◌, ltb, List, [], ◌∷◌, ◌++◌, map, length, slice_set, Contains, sym, ap, ◌∙◌, subst, inl, inr, arith, append-nil, append_assoc}
 use Rattle.std.proofs.Math.Bool.{and-true, and-false}
 use Rattle.std.proofs.Math.Seq.{take-length}
 use Rattle.std.proofs.Math.ListN.{get_or-eq_default}
-use Rattle.std.proofs.lemmas.Bool.{cases_Bool, cases_lt, cases_eq, both_ways, ltb-false, le-ltb, lt-ltb, ne_eqb}
-use Rattle.std.proofs.lemmas.Option.{none-some}
+use Rattle.std.proofs.lemmas.Bool.{cases_Bool, cases_lt, cases_eq, both_ways, le-ltb, lt-ltb, ne_eqb}
 use Rattle.flat_core.specs.declared.step.Step.{Step}
-use Rattle.flat_core.specs.declared.step.End.{End}
 use Rattle.flat_core.specs.declared.step.WireId.{WireId}
-use Rattle.flat_core.specs.declared.step.StepId.{StepId}
 use Rattle.flat_core.specs.Form.{FlatForm, WireForm}
-use Rattle.flat_core.specs.Label.{same_wire, wire_id, end_of, no_wire}
-use Rattle.flat_core.specs.Ends.{dropped, freed, undone, is_freed}
-use Rattle.flat_core.proofs.Labels.{same_wire_is, same_wire-refl}
+use Rattle.flat_core.specs.Label.{same_wire, wire_id, no_wire}
+use Rattle.flat_core.specs.Ends.{freed, is_freed}
+use Rattle.flat_core.proofs.Labels.{same_wire-refl}
 use Rattle.graph_core.specs.declared.vertex.Vertex.{Vertex}
 use Rattle.graph_core.specs.declared.vertex.Vertex.TheVariants.{Forward, Reverse, Free}
 use Rattle.graph_core.specs.declared.vertex.EdgeKind.{EdgeKind}
@@ -21,9 +18,9 @@ use Rattle.graph_core.specs.declared.graph.VertexId.{VertexId}
 use Rattle.graph_core.specs.Arena.{Arena, IsArena}
 use Rattle.graph_core.specs.Circuit.{IsVertex, steps_on_from, chain}
 use Rattle.graph_core.specs.Slots.{SlotEdge, in_chain, from_before, to_after}
-use Rattle.unqomp.specs.GraphOf.{HasArrowOf, HasEdges}
+use Rattle.unqomp.specs.GraphOf.{HasEdges}
 use Rattle.unqomp.specs.UseList.{InUses}
-use Rattle.unqomp.specs.Making.{vertex_id, forth, back, last, IsForth, IsBack, IsLast, ids_on, IsAlong, IsStage, IsForthStage, IsBackStage, IsLastStage, IsWhole, bare}
+use Rattle.unqomp.specs.Making.{vertex_id, forth, back, last, IsBack, IsLast, ids_on, IsAlong, IsStage, IsBackStage, IsLastStage, IsWhole, bare}
 use Rattle.unqomp.specs.Linking.{linked}
 use Rattle.unqomp.proofs.Ids.{ids_kept}
 use Rattle.unqomp.proofs.Stages.{stage_more, stage_same, contains_nil}

@@ -1,9 +1,7 @@
 -- A new vertex may be linked to the last one of its chain.
-use Rattle.std.proofs.Common.{◌≡◌, ℕ, ◌+◌, ◌<◌, get_or, List, [], ◌∷◌, ◌++◌, length, Some, Contains, sym, ap, ◌∙◌, subst, arith, length-append}
+use Rattle.std.proofs.Common.{◌≡◌, ℕ, ◌<◌, get_or, List, [], ◌∷◌, length, Some, ap, subst, arith, length-append}
 use Rattle.graph_core.specs.declared.vertex.Vertex.{Vertex}
-use Rattle.graph_core.specs.declared.vertex.EdgeKind.TheVariants.{Target}
 use Rattle.graph_core.specs.declared.graph.VertexId.{VertexId}
-use Rattle.graph_core.specs.declared.graph.Arrow.{Arrow}
 use Rattle.graph_core.specs.Arena.{Arena, IsArena, IsFreeFor, with_vertex}
 use Rattle.std.proofs.lemmas.List.{get_or_read}
 use Rattle.flat_core.specs.declared.step.Step.{Step}

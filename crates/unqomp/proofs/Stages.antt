@@ -1,16 +1,16 @@
 -- One more vertex in the making of a circuit graph.
-use Rattle.std.proofs.Common.{◌≡◌, ℕ, zero, suc, ◌+◌, ◌-◌, ◌<◌, ◌≤◌, ◌⊎◌, ◌↔◌, Bool, true, false, cond, List, [], ◌∷◌, ◌++◌, length, get_or, slice_get, slice_set, Option, Some, None, Contains, refl, sym, ap, ◌∙◌, subst, inl, inr, arith, length-append, length-set, get_or-set_same, get_or-set_other, add-zero}
-use Rattle.std.proofs.lemmas.Bool.{cases_Bool, cases_eq, ne_eqb}
-use Rattle.std.proofs.lemmas.Option.{same_Some, slice_get_within, none-some}
+use Rattle.std.proofs.Common.{◌≡◌, ℕ, suc, ◌+◌, ◌-◌, ◌<◌, ◌≤◌, ◌⊎◌, ◌↔◌, Bool, true, false, cond, List, [], ◌∷◌, ◌++◌, length, get_or, slice_get, slice_set, Option, Some, None, Contains, refl, sym, ap, ◌∙◌, subst, inl, inr, arith, length-append, length-set, get_or-set_same, get_or-set_other, add-zero}
+use Rattle.std.proofs.lemmas.Bool.{cases_eq, ne_eqb}
+use Rattle.std.proofs.lemmas.Option.{same_Some, slice_get_within}
 use Rattle.std.proofs.lemmas.List.Elements.{Contains-push, Contains-push_cases, Contains-append_left, Contains-append_right, Contains-append_cases}
 use Rattle.flat_core.specs.declared.step.WireId.{WireId}
 use Rattle.flat_core.specs.declared.step.StepId.{StepId}
 use Rattle.flat_core.specs.Form.{FlatForm}
-use Rattle.flat_core.specs.Label.{same_wire, wire_id, step_id}
+use Rattle.flat_core.specs.Label.{same_wire, wire_id}
 use Rattle.flat_core.proofs.Labels.{same_wire_is, same_wire-refl}
 use Rattle.flat_core.proofs.Places.{at_push}
 use Rattle.graph_core.specs.declared.vertex.Vertex.{Vertex}
-use Rattle.graph_core.specs.declared.vertex.Vertex.TheVariants.{Forward, Reverse, Free}
+use Rattle.graph_core.specs.declared.vertex.Vertex.TheVariants.{Forward}
 use Rattle.graph_core.specs.declared.vertex.EdgeKind.{EdgeKind}
 use Rattle.graph_core.specs.declared.vertex.EdgeKind.TheVariants.{Target, Control, Availability}
 use Rattle.graph_core.specs.declared.graph.VertexId.{VertexId}

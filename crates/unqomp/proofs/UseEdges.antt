@@ -1,11 +1,10 @@
 -- The edges of one more use.
-use Rattle.std.proofs.Common.{◌≡◌, ℕ, zero, suc, ◌+◌, ◌-◌, ◌<◌, ◌≤◌, ◌⊎◌, ◌↔◌, Bool, true, false, List, [], ◌∷◌, ◌++◌, length, slice_get, Option, Some, None, IfSome, Contains, refl, sym, ap, ap₂, ◌∙◌, subst, inl, inr, arith}
-use Rattle.std.proofs.lemmas.Option.{same_Some, slice_get_within, none-some}
+use Rattle.std.proofs.Common.{◌≡◌, ℕ, zero, suc, ◌-◌, ◌<◌, true, List, [], ◌∷◌, ◌++◌, length, slice_get, Option, Some, None, IfSome, Contains, refl, sym, ap, ◌∙◌, subst, inl, inr, arith}
+use Rattle.std.proofs.lemmas.Option.{same_Some, slice_get_within}
 use Rattle.std.proofs.lemmas.List.Elements.{Contains-push, Contains-push_cases, Contains-append_left, Contains-append_right, Contains-append_cases}
 use Rattle.flat_core.specs.declared.step.Step.{Step}
 use Rattle.flat_core.specs.declared.step.Step.TheVariants.{X, H, P, M}
 use Rattle.flat_core.specs.declared.step.WireId.{WireId}
-use Rattle.flat_core.specs.declared.step.StepId.{StepId}
 use Rattle.flat_core.specs.Form.{FlatForm}
 use Rattle.flat_core.specs.Label.{changes, step_at}
 use Rattle.flat_core.specs.Ends.{KeepsEnds}
@@ -16,7 +15,7 @@ use Rattle.graph_core.specs.declared.vertex.EdgeKind.{EdgeKind}
 use Rattle.graph_core.specs.declared.vertex.EdgeKind.TheVariants.{Target, Control, Availability}
 use Rattle.graph_core.specs.declared.graph.VertexId.{VertexId}
 use Rattle.graph_core.specs.declared.graph.Arrow.{Arrow}
-use Rattle.graph_core.specs.Arena.{Arena, IsArena, IsFreeFor, IsVertexOf, AreVerticesOf, with_arrows, control, availability, use_arrows}
+use Rattle.graph_core.specs.Arena.{Arena, IsArena, IsFreeFor, IsVertexOf, with_arrows, control, availability, use_arrows}
 use Rattle.graph_core.specs.Circuit.{chain}
 use Rattle.graph_core.specs.Slots.{slot, SlotEdge, in_chain, from_before, to_after}
 use Rattle.graph_core.proofs.Places.{some_at}
@@ -25,7 +24,7 @@ use Rattle.unqomp.specs.declared.uses.Use.{Use}
 use Rattle.unqomp.specs.GraphOf.{HasArrowOf, HasEdges}
 use Rattle.unqomp.specs.UseList.{InUses}
 use Rattle.unqomp.specs.Making.{ids_on, StandsOnce, next_arrows, held_arrows, slot_arrows, IsWhole, bare}
-use Rattle.unqomp.proofs.Ids.{length-ids, vertex_at, id_at}
+use Rattle.unqomp.proofs.Ids.{vertex_at, id_at}
 use Rattle.unqomp.proofs.Stages.{contains_nil, contains_one}
 
 -- a vertex stands on one chain only, once

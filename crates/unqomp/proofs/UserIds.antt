@@ -1,5 +1,5 @@
 -- The ids of users.
-use Rattle.std.proofs.Common.{◌≡◌, ℕ, ◌+◌, ◌-◌, ◌<◌, ◌≤◌, true, List, length, get_or, slice_get, Option, Some, None, IsSomeAnd, sym, ap, ◌∙◌, subst, arith, refl, []}
+use Rattle.std.proofs.Common.{◌≡◌, ℕ, ◌+◌, ◌-◌, ◌<◌, true, List, length, get_or, slice_get, Option, Some, IsSomeAnd, sym, ap, ◌∙◌, subst, arith, refl, []}
 use Rattle.std.proofs.lemmas.List.{get_or_read}
 use Rattle.flat_core.specs.declared.step.Step.{Step}
 use Rattle.flat_core.specs.declared.step.Step.TheVariants.{X, H, P, M}
@@ -10,13 +10,12 @@ use Rattle.flat_core.specs.Form.{FlatForm}
 use Rattle.flat_core.specs.Label.{changes, step_at, top, label_before}
 use Rattle.flat_core.specs.Ends.{undone, undone_step}
 use Rattle.flat_core.proofs.Labels.{same_wire-refl}
-use Rattle.graph_core.specs.declared.vertex.Vertex.{Vertex}
 use Rattle.graph_core.specs.declared.vertex.Vertex.TheVariants.{Forward, Reverse, Free}
 use Rattle.graph_core.specs.declared.graph.VertexId.{VertexId}
 use Rattle.graph_core.specs.Arena.{IsVertexOf}
 use Rattle.graph_core.specs.Circuit.{Uses, doing, undoing}
 use Rattle.graph_core.proofs.Chains.{on_at, from_on, reverse_at}
-use Rattle.unqomp.specs.Making.{vertex_id, target_of, ids_on, IsWhole, IsIdOf, bare}
+use Rattle.unqomp.specs.Making.{vertex_id, target_of, ids_on, IsIdOf, bare}
 use Rattle.unqomp.proofs.Ids.{id_at}
 
 -- what is changed is the target

@@ -3,3 +3,4 @@ pub mod UseList
 pub mod Example
 pub mod Making
 pub mod Linking
+pub mod UsesAdded

@@ -1,5 +1,5 @@
 -- A vertex more, with the Target edge from the last vertex of its chain.
-use Rattle.std.specs.Prelude.{◌≡◌, ◌-◌, ◌<◌, List, [], ◌∷◌, ◌++◌, length, slice_get, Option, Some, None, Contains}
+use Rattle.std.specs.Prelude.{◌≡◌, ◌-◌, ◌<◌, List, [], ◌∷◌, length, slice_get, Option, Some, None, Contains}
 use Rattle.graph_core.specs.declared.vertex.Vertex.{Vertex}
 use Rattle.graph_core.specs.declared.vertex.EdgeKind.TheVariants.{Target}
 use Rattle.graph_core.specs.declared.graph.VertexId.{VertexId}

@@ -1,5 +1,5 @@
 -- The uses of a flat form as a list.
-use Rattle.std.specs.Prelude.{◌≡◌, ℕ, zero, suc, Bool, true, false, cond, List, [], ◌∷◌, ◌++◌, map, length, Option, Some, None, Contains}
+use Rattle.std.specs.Prelude.{ℕ, zero, suc, cond, List, [], ◌++◌, map, Option, Contains}
 use Rattle.std.specs.Option.{option_to_list}
 use Rattle.flat_core.specs.declared.step.WireId.{WireId}
 use Rattle.flat_core.specs.declared.step.StepId.{StepId}

@@ -10,13 +10,14 @@ ghost use Rattle.graph_core.specs.Arena.{IsFreeFor, with_arrows};
 ghost use Rattle.graph_core.specs.declared.graph.Arrow.{Arrow};
 ghost use Rattle.unqomp.specs.GraphOf.{HasEdges};
 ghost use Rattle.unqomp.specs.UseList.{InUses, uses_before};
+ghost use Rattle.unqomp.specs.UsesAdded.{HasUses};
 ghost use Rattle.unqomp.specs.Making.{IsWhole, IsIdOf, slot_arrows, target_of};
 
 use crate::chain::Chain;
-use crate::uses::Use;
+use crate::uses::{Use, uses_of_step};
 use flat_core::{End, Flat, Step, StepId, WireId};
 use graph_core::{EdgeKind, Graph, Vertex, VertexId};
-use std::alloc::AllocError;
+use std::alloc::{AllocError, Global};
 
 // How many vertices of the chain of the wire come before the user.
 fn slot_of(flat: &Flat, u: Use) -> usize
@@ -82,26 +83,49 @@ fn add_at(graph: &mut Graph, chain: &Chain, user: VertexId, slot: usize) -> Resu
     Ok(())
 }
 
-/// Adds the edges of all uses.
-pub fn add_uses(
+// Adds the edges of the uses of a step.
+fn add_uses(
     flat: &Flat,
     graph: &mut Graph,
     chains: &[Chain],
-    uses: &[Use],
+    s: StepId,
+    uses: &mut Vec<Use>,
 ) -> Result<(), AllocError>
     requires sound { IsFlat flat.now }
-    requires all { uses.now ≡ uses_before flat.now (length flat.now.steps) }
+    requires there { s.number < length flat.now.steps }
     requires whole { IsWhole flat.now graph.old.vertices chains.now }
-    requires targets { HasEdges graph.old (SlotEdge flat.now (InUses [])) }
-    requires few { length graph.old.arrows ≤ 500000 }
-    ensures edges { OnOk result (HasEdges graph.new (SlotEdge flat.now (InUses uses.now))) }
+    requires so_far { HasUses flat.now graph.old (uses_before flat.now s.number) }
+    ensures added { OnOk result (HasUses flat.now graph.new (uses_before flat.now (s.number + 1))) }
     ensures vertices { OnOk result (graph.new.vertices ≡ graph.old.vertices) }
 {
-    for u in uses {
+    uses_of_step(flat, s, uses)?;
+    for u in uses.iter() {
         let _count = graph.len();
         let user = user_id(flat, chains, *u).unwrap();
         let slot = slot_of(flat, *u);
         add_at(graph, &chains[u.wire.number as usize], user, slot)?;
+    }
+    Ok(())
+}
+
+/// Adds the edges of all uses, step by step.
+pub fn add_all_uses(
+    alloc: Global,
+    flat: &Flat,
+    graph: &mut Graph,
+    chains: &[Chain],
+) -> Result<(), AllocError>
+    requires sound { IsFlat flat.now }
+    requires whole { IsWhole flat.now graph.old.vertices chains.now }
+    requires targets { HasEdges graph.old (SlotEdge flat.now (InUses [])) }
+    requires few { length graph.old.arrows ≤ 500000 }
+    ensures edges { OnOk result (HasEdges graph.new (SlotEdge flat.now (InUses (uses_before flat.now (length flat.now.steps))))) }
+    ensures vertices { OnOk result (graph.new.vertices ≡ graph.old.vertices) }
+{
+    let mut uses = Vec::new(alloc);
+    for i in 0..flat.steps() {
+        let s = StepId { number: i as u32 };
+        add_uses(flat, graph, chains, s, &mut uses)?;
     }
     Ok(())
 }

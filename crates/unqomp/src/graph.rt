@@ -3,8 +3,7 @@
 ghost use Rattle.std.specs.Prelude.{IfOk};
 ghost use Rattle.unqomp.specs.GraphOf.{IsGraphOf};
 
-use crate::edges::add_uses;
-use crate::uses::uses_of;
+use crate::edges::add_all_uses;
 use crate::vertices::{add_freeings, add_steps, add_undoings, no_chains};
 use flat_core::Flat;
 use graph_core::Graph;
@@ -20,7 +19,6 @@ pub fn graph_of(alloc: Global, flat: &Flat) -> Result<Graph, AllocError>
     add_steps(flat, &mut graph, &mut chains)?;
     add_undoings(flat, &mut graph, &mut chains)?;
     add_freeings(flat, &mut graph, &mut chains)?;
-    let uses = uses_of(alloc, flat)?;
-    add_uses(flat, &mut graph, &chains, &uses)?;
+    add_all_uses(alloc, flat, &mut graph, &chains)?;
     Ok(graph)
 }

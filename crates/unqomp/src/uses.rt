@@ -1,15 +1,15 @@
 //! The uses of a flat form.
 
-ghost use Rattle.std.specs.Prelude.{◌≡◌, ◌<◌, ◌++◌, length, true, false, IfOk, OnOk, IfSome, MatchOption};
+ghost use Rattle.std.specs.Prelude.{◌≡◌, ◌<◌, ◌++◌, length, true, false, OnOk, IfSome, MatchOption};
 ghost use Rattle.flat_core.specs.Label.{Names, step_at, used};
 ghost use Rattle.flat_core.specs.Ends.{undone};
 ghost use Rattle.flat_core.specs.Sound.{IsFlat};
 ghost use Rattle.unqomp.specs.Making.{target_of};
-ghost use Rattle.unqomp.specs.UseList.{uses_if_any, uses_by, uses_at, uses_before, wires_of_pair};
+ghost use Rattle.unqomp.specs.UseList.{uses_if_any, uses_by, uses_at, wires_of_pair};
 
 use flat_core::{End, Flat, Step, StepId, WireId};
 use graph_core::Vertex;
-use std::alloc::{AllocError, Global};
+use std::alloc::AllocError;
 
 /// A user needs a wire at a label.
 #[derive(Clone, Copy, PartialEq, Eq)]
@@ -70,26 +70,16 @@ fn push_uses(flat: &Flat, s: StepId, user: Vertex, uses: &mut Vec<Use>) -> Resul
     push_use(flat, s, user, second, uses)
 }
 
-// Adds the uses of a step, done and undone.
-fn push_step(flat: &Flat, s: StepId, uses: &mut Vec<Use>) -> Result<(), AllocError>
+/// The uses of a step, done and undone, in the place of those that the list had.
+pub fn uses_of_step(flat: &Flat, s: StepId, uses: &mut Vec<Use>) -> Result<(), AllocError>
     requires sound { IsFlat flat.now }
     requires there { s.number < length flat.now.steps }
-    ensures { OnOk result (uses.new.items ≡ uses.old.items ++ uses_at flat.now s) }
+    ensures { OnOk result (uses.new.items ≡ uses_at flat.now s) }
 {
+    uses.clear();
     push_uses(flat, s, Vertex::Forward(s), uses)?;
     match undone_target(flat, s) {
         None => Ok(()),
         Some(_) => push_uses(flat, s, Vertex::Reverse(s), uses),
     }
-}
-
-/// The uses of all steps, step by step.
-pub fn uses_of(alloc: Global, flat: &Flat) -> Result<Vec<Use>, AllocError>
-    ensures { IfOk result (λ uses. uses.items ≡ uses_before flat.now (length flat.now.steps)) }
-{
-    let mut uses = Vec::new(alloc);
-    for i in 0..flat.steps() {
-        push_step(flat, StepId { number: i as u32 }, &mut uses)?;
-    }
-    Ok(uses)
 }

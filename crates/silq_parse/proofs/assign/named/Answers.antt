@@ -1,12 +1,5 @@
-use Rattle.std.proofs.Common.{rules, ◌≡◌, ◌+◌, ◌-◌, ◌^◌, ◌<◌, ◌≤◌, ℕ, List, [], ◌∷◌, ◌++◌, Option, Some, None, length, map, flat_map, refl, sym, ap, ◌∙◌, arith, IfOk, MatchResult}
-use Rattle.std.proofs.lemmas.Grind.{common_steps}
-use Rattle.silq_tree.specs.Arena.{expr_at, stmt_at}
-use Rattle.silq_tree.specs.Standing.{expressions_of, place_of, statements_of, scalar_of, type_of}
-use Rattle.silq_grammar.specs.Outcome.{outcome}
-use Rattle.silq_grammar.specs.Machine.{Symbol, Expect, AnyName, Closing, Ends, Functions, StaticPart, MoreStatics, ParamPart, Params, OneParam, MoreParams, MarkPart, ResultPart, MoreResults, AType, AScalar, Width, SizePart, ASize, ABlock, Statements, MoreNames, ForgetPart, PhasePart, ForgetValue, Bounds, ReturnValue, ElseRest, ElseBody, StartName, StartBracket, StartIndex, Assigns, MoreExprs, CallPart, Arguments, value, an_expr, exprs, nest}
-use Rattle.silq_grammar.specs.declared.token.Terminal.TheVariants as t
-use Rattle.silq_grammar.specs.declared.token.Token.TheVariants.{Name, Number, Fixed}
-use Rattle.silq_parse.proofs.Exits.{stops, stops_behind, behind}
+use Rattle.std.proofs.Common.{◌∙◌, arith}
+use Rattle.expr_parse.proofs.Exits.{stops}
 use Rattle.silq_parse.proofs.AssignReads.{changed_free, assign_reads, call_reads}
 use Rattle.silq_parse.proofs.assign.named.Goals as goal
 

@@ -1,17 +1,14 @@
-use Rattle.std.proofs.Common.{rules, ◌≡◌, ◌+◌, ◌-◌, ◌^◌, ◌<◌, ◌≤◌, ℕ, List, [], ◌∷◌, ◌++◌, Option, Some, None, length, map, flat_map, refl, sym, ap, ◌∙◌, arith, IfOk, MatchResult}
+use Rattle.std.proofs.Common.{◌∷◌, refl, ◌∙◌, arith}
 use Rattle.std.proofs.lemmas.Grind.{common_steps}
-use Rattle.silq_tree.specs.Arena.{expr_at, stmt_at}
-use Rattle.silq_tree.specs.Standing.{expressions_of, place_of, statements_of, scalar_of, type_of}
 use Rattle.silq_grammar.specs.Outcome.{outcome}
-use Rattle.silq_grammar.specs.Machine.{Symbol, Expect, AnyName, Closing, Ends, Functions, StaticPart, MoreStatics, ParamPart, Params, OneParam, MoreParams, MarkPart, ResultPart, MoreResults, AType, AScalar, Width, SizePart, ASize, ABlock, Statements, MoreNames, ForgetPart, PhasePart, ForgetValue, Bounds, ReturnValue, ElseRest, ElseBody, StartName, StartBracket, StartIndex, Assigns, MoreExprs, CallPart, Arguments, value, an_expr, exprs, nest}
+use Rattle.silq_grammar.specs.Machine.{Expect, Closing, Ends, ABlock, Statements, Bounds, ElseRest}
 use Rattle.silq_grammar.specs.declared.token.Terminal.TheVariants as t
-use Rattle.silq_grammar.specs.declared.token.Token.TheVariants.{Name, Number, Fixed}
-use Rattle.silq_parse.proofs.Exits.{stops, stops_behind, behind}
-use Rattle.silq_parse.proofs.BlockReads.{no_statement, no_items, next_statement, one_statement, closed_block, part_of, stmt_of, no_else, else_block, else_choice, chosen, choice_free, choice_reads, between_reads, loop_reads}
-use Rattle.silq_parse.proofs.Opened.{bounds_open, block_open, else_block_open, else_choice_open, name_begins, spread_begins, forget_begins, phase_begins, choice_begins, loop_begins, return_begins}
-use Rattle.silq_parse.proofs.AddedStatements.{free_stmts}
-use Rattle.silq_parse.proofs.Growing.{grew_then}
-use Rattle.silq_parse.proofs.Passed.{ends_passed}
+use Rattle.expr_parse.proofs.Exits.{stops, stops_behind, behind}
+use Rattle.silq_parse.proofs.BlockReads.{no_items, next_statement, closed_block, part_of, stmt_of, else_block, else_choice, chosen, choice_free, choice_reads, loop_reads}
+use Rattle.silq_parse.proofs.Opened.{else_choice_open, name_begins, spread_begins, forget_begins, phase_begins, choice_begins, loop_begins, return_begins}
+use Rattle.silq_parse.proofs.AddedStatements.{free, free_stmts}
+use Rattle.expr_parse.proofs.Growing.{grew_then}
+use Rattle.expr_parse.proofs.Passed.{ends_passed}
 use Rattle.silq_parse.proofs.block.+statement.Goals as goal
 
 pub inner-returns-in_err-items-clause-machine : goal.inner-returns-in_err-items-clause-machine
@@ -77,6 +74,9 @@ loop_rest-returns-clause-machine n c = λ k h.
 pub loop_rest-returns-clause-reads : goal.loop_rest-returns-clause-reads
 loop_rest-returns-clause-reads n c = loop_reads c.args.at _ _ c.in_ok-name.ensures.token c.in_ok-rest.ensures.token c.in_ok-low.ensures.reads c.in_ok-body.ensures.reads c.in_ok-id.ensures.added
 
+pub loop_rest-add_statement-requires-clause-exprs : goal.loop_rest-add_statement-requires-clause-exprs
+loop_rest-add_statement-requires-clause-exprs n c = free c.in_ok-body.ensures.arena (grew_then c.in_ok-low.ensures.reads.grew c.in_ok-body.ensures.reads.grew)
+
 pub loop_rest-add_statement-requires-clause-stmts : goal.loop_rest-add_statement-requires-clause-stmts
 loop_rest-add_statement-requires-clause-stmts n c = free_stmts c.in_ok-body.ensures.arena (grew_then c.in_ok-low.ensures.reads.grew c.in_ok-body.ensures.reads.grew)
 
@@ -91,21 +91,21 @@ statements-loop-items-preserved n c = (
   (let s = rw c.in-Some.is at c.in_ok-id.ensures.shorter in omega (arith, s, c.loop-items.invariant.3)),
 )
 
-pub else_body-returns-in_err-id-in-Fixed-2-clause-machine : goal.else_body-returns-in_err-id-in-Fixed-2-clause-machine
+pub else_body-returns-in_err-id-in-If-clause-machine : goal.else_body-returns-in_err-id-in-If-clause-machine
 unfolding outcome
-else_body-returns-in_err-id-in-Fixed-2-clause-machine n c = λ k h.
-    stops_behind _ _ _ _ _ _ c.from_residual-in_err-id-in-Fixed-2.ensures.1 (refl) (c.in_err-id-in-Fixed-2.ensures.machine (Ends ∷ k) (omega arith)) (else_choice_open k _ _ c.in-Fixed-2.at (grind (arith, common_steps)) (omega arith))
+else_body-returns-in_err-id-in-If-clause-machine n c = λ k h.
+    stops_behind _ _ _ _ _ _ c.from_residual-in_err-id-in-If.ensures.1 (refl) (c.in_err-id-in-If.ensures.machine (Ends ∷ k) (omega arith)) (else_choice_open k _ _ c.in-Fixed.at (grind (arith, common_steps)) (omega arith))
 
-pub else_body-returns-in_ok-id-in-Fixed-2-clause-machine : goal.else_body-returns-in_ok-id-in-Fixed-2-clause-machine
+pub else_body-returns-in_ok-id-in-If-clause-machine : goal.else_body-returns-in_ok-id-in-If-clause-machine
 unfolding outcome
-else_body-returns-in_ok-id-in-Fixed-2-clause-machine n c = λ k h.
-    behind ((c.in_ok-id-in-Fixed-2.ensures.machine (Ends ∷ k) (omega arith)) ∙ (ends_passed k _)) (else_choice_open k _ _ c.in-Fixed-2.at (grind (arith, common_steps)) (omega arith))
+else_body-returns-in_ok-id-in-If-clause-machine n c = λ k h.
+    behind ((c.in_ok-id-in-If.ensures.machine (Ends ∷ k) (omega arith)) ∙ (ends_passed k _)) (else_choice_open k _ _ c.in-Fixed.at (grind (arith, common_steps)) (omega arith))
 
-pub else_body-returns-in_ok-id-in-Fixed-2-clause-reads : goal.else_body-returns-in_ok-id-in-Fixed-2-clause-reads
-else_body-returns-in_ok-id-in-Fixed-2-clause-reads n c = else_choice c.args.at c.args.end (stmt_of c.in_ok-id-in-Fixed-2.ensures.reads (grind (arith, common_steps)))
+pub else_body-returns-in_ok-id-in-If-clause-reads : goal.else_body-returns-in_ok-id-in-If-clause-reads
+else_body-returns-in_ok-id-in-If-clause-reads n c = else_choice c.args.at c.args.end (stmt_of c.in_ok-id-in-If.ensures.reads (grind (arith, common_steps)))
 
-pub else_body-returns-in_ok-body-in-Fixed-clause-reads : goal.else_body-returns-in_ok-body-in-Fixed-clause-reads
-else_body-returns-in_ok-body-in-Fixed-clause-reads n c = else_block c.args.at c.args.end (part_of (c.in_ok-body-in-Fixed.ensures.reads c.in-Fixed._open) (grind (arith, common_steps)))
+pub else_body-returns-in_ok-body-in-LeftBrace-clause-reads : goal.else_body-returns-in_ok-body-in-LeftBrace-clause-reads
+else_body-returns-in_ok-body-in-LeftBrace-clause-reads n c = else_block c.args.at c.args.end (part_of (c.in_ok-body-in-LeftBrace.ensures.reads c.in-Fixed.at) (grind (arith, common_steps)))
 
 pub statement-returns-in_err-p-in-Name-clause-machine : goal.statement-returns-in_err-p-in-Name-clause-machine
 unfolding outcome
@@ -120,80 +120,80 @@ statement-returns-in_ok-p-in-Name-clause-machine n c = λ k h.
 pub statement-returns-in_ok-p-in-Name-clause-reads : goal.statement-returns-in_ok-p-in-Name-clause-reads
 statement-returns-in_ok-p-in-Name-clause-reads n c = stmt_of c.in_ok-p-in-Name.ensures.reads (grind (arith, common_steps))
 
-pub statement-returns-in_err-p-in-Fixed-clause-machine : goal.statement-returns-in_err-p-in-Fixed-clause-machine
+pub statement-returns-in_err-p-in-LeftParen-clause-machine : goal.statement-returns-in_err-p-in-LeftParen-clause-machine
 unfolding outcome
-statement-returns-in_err-p-in-Fixed-clause-machine n c = λ k h.
-    stops_behind _ _ _ _ _ _ c.from_residual-in_err-p-in-Fixed.ensures.1 (refl) (c.in_err-p-in-Fixed.ensures.machine (Statements ∷ k) (omega arith)) (spread_begins k _ _ c.in-Fixed.at (grind (arith, common_steps)) (omega arith))
+statement-returns-in_err-p-in-LeftParen-clause-machine n c = λ k h.
+    stops_behind _ _ _ _ _ _ c.from_residual-in_err-p-in-LeftParen.ensures.1 (refl) (c.in_err-p-in-LeftParen.ensures.machine (Statements ∷ k) (omega arith)) (spread_begins k _ _ c.in-Fixed.at (grind (arith, common_steps)) (omega arith))
 
-pub statement-returns-in_ok-p-in-Fixed-clause-machine : goal.statement-returns-in_ok-p-in-Fixed-clause-machine
+pub statement-returns-in_ok-p-in-LeftParen-clause-machine : goal.statement-returns-in_ok-p-in-LeftParen-clause-machine
 unfolding outcome
-statement-returns-in_ok-p-in-Fixed-clause-machine n c = λ k h.
-    behind ((c.in_ok-p-in-Fixed.ensures.machine (Statements ∷ k) (omega arith))) (spread_begins k _ _ c.in-Fixed.at (grind (arith, common_steps)) (omega arith))
+statement-returns-in_ok-p-in-LeftParen-clause-machine n c = λ k h.
+    behind ((c.in_ok-p-in-LeftParen.ensures.machine (Statements ∷ k) (omega arith))) (spread_begins k _ _ c.in-Fixed.at (grind (arith, common_steps)) (omega arith))
 
-pub statement-returns-in_ok-p-in-Fixed-clause-reads : goal.statement-returns-in_ok-p-in-Fixed-clause-reads
-statement-returns-in_ok-p-in-Fixed-clause-reads n c = stmt_of c.in_ok-p-in-Fixed.ensures.reads (grind (arith, common_steps))
+pub statement-returns-in_ok-p-in-LeftParen-clause-reads : goal.statement-returns-in_ok-p-in-LeftParen-clause-reads
+statement-returns-in_ok-p-in-LeftParen-clause-reads n c = stmt_of c.in_ok-p-in-LeftParen.ensures.reads (grind (arith, common_steps))
 
-pub statement-returns-in_err-p-in-Fixed-2-clause-machine : goal.statement-returns-in_err-p-in-Fixed-2-clause-machine
+pub statement-returns-in_err-p-in-Forget-clause-machine : goal.statement-returns-in_err-p-in-Forget-clause-machine
 unfolding outcome
-statement-returns-in_err-p-in-Fixed-2-clause-machine n c = λ k h.
-    stops_behind _ _ _ _ _ _ c.from_residual-in_err-p-in-Fixed-2.ensures.1 (refl) (c.in_err-p-in-Fixed-2.ensures.machine (Statements ∷ k) (omega arith)) (forget_begins k _ _ c.in-Fixed-2.at (grind (arith, common_steps)) (omega arith))
+statement-returns-in_err-p-in-Forget-clause-machine n c = λ k h.
+    stops_behind _ _ _ _ _ _ c.from_residual-in_err-p-in-Forget.ensures.1 (refl) (c.in_err-p-in-Forget.ensures.machine (Statements ∷ k) (omega arith)) (forget_begins k _ _ c.in-Fixed.at (grind (arith, common_steps)) (omega arith))
 
-pub statement-returns-in_ok-p-in-Fixed-2-clause-machine : goal.statement-returns-in_ok-p-in-Fixed-2-clause-machine
+pub statement-returns-in_ok-p-in-Forget-clause-machine : goal.statement-returns-in_ok-p-in-Forget-clause-machine
 unfolding outcome
-statement-returns-in_ok-p-in-Fixed-2-clause-machine n c = λ k h.
-    behind ((c.in_ok-p-in-Fixed-2.ensures.machine (Statements ∷ k) (omega arith))) (forget_begins k _ _ c.in-Fixed-2.at (grind (arith, common_steps)) (omega arith))
+statement-returns-in_ok-p-in-Forget-clause-machine n c = λ k h.
+    behind ((c.in_ok-p-in-Forget.ensures.machine (Statements ∷ k) (omega arith))) (forget_begins k _ _ c.in-Fixed.at (grind (arith, common_steps)) (omega arith))
 
-pub statement-returns-in_ok-p-in-Fixed-2-clause-reads : goal.statement-returns-in_ok-p-in-Fixed-2-clause-reads
-statement-returns-in_ok-p-in-Fixed-2-clause-reads n c = stmt_of c.in_ok-p-in-Fixed-2.ensures.reads (grind (arith, common_steps))
+pub statement-returns-in_ok-p-in-Forget-clause-reads : goal.statement-returns-in_ok-p-in-Forget-clause-reads
+statement-returns-in_ok-p-in-Forget-clause-reads n c = stmt_of c.in_ok-p-in-Forget.ensures.reads (grind (arith, common_steps))
 
-pub statement-returns-in_err-p-in-Fixed-3-clause-machine : goal.statement-returns-in_err-p-in-Fixed-3-clause-machine
+pub statement-returns-in_err-p-in-Phase-clause-machine : goal.statement-returns-in_err-p-in-Phase-clause-machine
 unfolding outcome
-statement-returns-in_err-p-in-Fixed-3-clause-machine n c = λ k h.
-    stops_behind _ _ _ _ _ _ c.from_residual-in_err-p-in-Fixed-3.ensures.1 (refl) (c.in_err-p-in-Fixed-3.ensures.machine (Statements ∷ k) (omega arith)) (phase_begins k _ _ c.in-Fixed-3.at (grind (arith, common_steps)) (omega arith))
+statement-returns-in_err-p-in-Phase-clause-machine n c = λ k h.
+    stops_behind _ _ _ _ _ _ c.from_residual-in_err-p-in-Phase.ensures.1 (refl) (c.in_err-p-in-Phase.ensures.machine (Statements ∷ k) (omega arith)) (phase_begins k _ _ c.in-Fixed.at (grind (arith, common_steps)) (omega arith))
 
-pub statement-returns-in_ok-p-in-Fixed-3-clause-machine : goal.statement-returns-in_ok-p-in-Fixed-3-clause-machine
+pub statement-returns-in_ok-p-in-Phase-clause-machine : goal.statement-returns-in_ok-p-in-Phase-clause-machine
 unfolding outcome
-statement-returns-in_ok-p-in-Fixed-3-clause-machine n c = λ k h.
-    behind ((c.in_ok-p-in-Fixed-3.ensures.machine (Statements ∷ k) (omega arith))) (phase_begins k _ _ c.in-Fixed-3.at (grind (arith, common_steps)) (omega arith))
+statement-returns-in_ok-p-in-Phase-clause-machine n c = λ k h.
+    behind ((c.in_ok-p-in-Phase.ensures.machine (Statements ∷ k) (omega arith))) (phase_begins k _ _ c.in-Fixed.at (grind (arith, common_steps)) (omega arith))
 
-pub statement-returns-in_ok-p-in-Fixed-3-clause-reads : goal.statement-returns-in_ok-p-in-Fixed-3-clause-reads
-statement-returns-in_ok-p-in-Fixed-3-clause-reads n c = stmt_of c.in_ok-p-in-Fixed-3.ensures.reads (grind (arith, common_steps))
+pub statement-returns-in_ok-p-in-Phase-clause-reads : goal.statement-returns-in_ok-p-in-Phase-clause-reads
+statement-returns-in_ok-p-in-Phase-clause-reads n c = stmt_of c.in_ok-p-in-Phase.ensures.reads (grind (arith, common_steps))
 
-pub statement-returns-in_err-p-in-Fixed-4-clause-machine : goal.statement-returns-in_err-p-in-Fixed-4-clause-machine
+pub statement-returns-in_err-p-in-If-clause-machine : goal.statement-returns-in_err-p-in-If-clause-machine
 unfolding outcome
-statement-returns-in_err-p-in-Fixed-4-clause-machine n c = λ k h.
-    stops_behind _ _ _ _ _ _ c.from_residual-in_err-p-in-Fixed-4.ensures.1 (refl) (c.in_err-p-in-Fixed-4.ensures.machine (Statements ∷ k) (omega arith)) (choice_begins k _ _ c.in-Fixed-4.at (grind (arith, common_steps)) (omega arith))
+statement-returns-in_err-p-in-If-clause-machine n c = λ k h.
+    stops_behind _ _ _ _ _ _ c.from_residual-in_err-p-in-If.ensures.1 (refl) (c.in_err-p-in-If.ensures.machine (Statements ∷ k) (omega arith)) (choice_begins k _ _ c.in-Fixed.at (grind (arith, common_steps)) (omega arith))
 
-pub statement-returns-in_ok-p-in-Fixed-4-clause-machine : goal.statement-returns-in_ok-p-in-Fixed-4-clause-machine
+pub statement-returns-in_ok-p-in-If-clause-machine : goal.statement-returns-in_ok-p-in-If-clause-machine
 unfolding outcome
-statement-returns-in_ok-p-in-Fixed-4-clause-machine n c = λ k h.
-    behind ((c.in_ok-p-in-Fixed-4.ensures.machine (Statements ∷ k) (omega arith))) (choice_begins k _ _ c.in-Fixed-4.at (grind (arith, common_steps)) (omega arith))
+statement-returns-in_ok-p-in-If-clause-machine n c = λ k h.
+    behind ((c.in_ok-p-in-If.ensures.machine (Statements ∷ k) (omega arith))) (choice_begins k _ _ c.in-Fixed.at (grind (arith, common_steps)) (omega arith))
 
-pub statement-returns-in_ok-p-in-Fixed-4-clause-reads : goal.statement-returns-in_ok-p-in-Fixed-4-clause-reads
-statement-returns-in_ok-p-in-Fixed-4-clause-reads n c = stmt_of (chosen c.in_ok-p-in-Fixed-4.ensures.reads) (grind (arith, common_steps))
+pub statement-returns-in_ok-p-in-If-clause-reads : goal.statement-returns-in_ok-p-in-If-clause-reads
+statement-returns-in_ok-p-in-If-clause-reads n c = stmt_of (chosen c.in_ok-p-in-If.ensures.reads) (grind (arith, common_steps))
 
-pub statement-returns-in_err-p-in-Fixed-5-clause-machine : goal.statement-returns-in_err-p-in-Fixed-5-clause-machine
+pub statement-returns-in_err-p-in-For-clause-machine : goal.statement-returns-in_err-p-in-For-clause-machine
 unfolding outcome
-statement-returns-in_err-p-in-Fixed-5-clause-machine n c = λ k h.
-    stops_behind _ _ _ _ _ _ c.from_residual-in_err-p-in-Fixed-5.ensures.1 (refl) (c.in_err-p-in-Fixed-5.ensures.machine (Statements ∷ k) (omega arith)) (loop_begins k _ _ c.in-Fixed-5.at (grind (arith, common_steps)) (omega arith))
+statement-returns-in_err-p-in-For-clause-machine n c = λ k h.
+    stops_behind _ _ _ _ _ _ c.from_residual-in_err-p-in-For.ensures.1 (refl) (c.in_err-p-in-For.ensures.machine (Statements ∷ k) (omega arith)) (loop_begins k _ _ c.in-Fixed.at (grind (arith, common_steps)) (omega arith))
 
-pub statement-returns-in_ok-p-in-Fixed-5-clause-machine : goal.statement-returns-in_ok-p-in-Fixed-5-clause-machine
+pub statement-returns-in_ok-p-in-For-clause-machine : goal.statement-returns-in_ok-p-in-For-clause-machine
 unfolding outcome
-statement-returns-in_ok-p-in-Fixed-5-clause-machine n c = λ k h.
-    behind ((c.in_ok-p-in-Fixed-5.ensures.machine (Statements ∷ k) (omega arith))) (loop_begins k _ _ c.in-Fixed-5.at (grind (arith, common_steps)) (omega arith))
+statement-returns-in_ok-p-in-For-clause-machine n c = λ k h.
+    behind ((c.in_ok-p-in-For.ensures.machine (Statements ∷ k) (omega arith))) (loop_begins k _ _ c.in-Fixed.at (grind (arith, common_steps)) (omega arith))
 
-pub statement-returns-in_ok-p-in-Fixed-5-clause-reads : goal.statement-returns-in_ok-p-in-Fixed-5-clause-reads
-statement-returns-in_ok-p-in-Fixed-5-clause-reads n c = stmt_of c.in_ok-p-in-Fixed-5.ensures.reads (grind (arith, common_steps))
+pub statement-returns-in_ok-p-in-For-clause-reads : goal.statement-returns-in_ok-p-in-For-clause-reads
+statement-returns-in_ok-p-in-For-clause-reads n c = stmt_of c.in_ok-p-in-For.ensures.reads (grind (arith, common_steps))
 
-pub statement-returns-in_err-p-in-Fixed-6-clause-machine : goal.statement-returns-in_err-p-in-Fixed-6-clause-machine
+pub statement-returns-in_err-p-in-Return-clause-machine : goal.statement-returns-in_err-p-in-Return-clause-machine
 unfolding outcome
-statement-returns-in_err-p-in-Fixed-6-clause-machine n c = λ k h.
-    stops_behind _ _ _ _ _ _ c.from_residual-in_err-p-in-Fixed-6.ensures.1 (refl) (c.in_err-p-in-Fixed-6.ensures.machine (Statements ∷ k) (omega arith)) (return_begins k _ _ c.in-Fixed-6.at (grind (arith, common_steps)) (omega arith))
+statement-returns-in_err-p-in-Return-clause-machine n c = λ k h.
+    stops_behind _ _ _ _ _ _ c.from_residual-in_err-p-in-Return.ensures.1 (refl) (c.in_err-p-in-Return.ensures.machine (Statements ∷ k) (omega arith)) (return_begins k _ _ c.in-Fixed.at (grind (arith, common_steps)) (omega arith))
 
-pub statement-returns-in_ok-p-in-Fixed-6-clause-machine : goal.statement-returns-in_ok-p-in-Fixed-6-clause-machine
+pub statement-returns-in_ok-p-in-Return-clause-machine : goal.statement-returns-in_ok-p-in-Return-clause-machine
 unfolding outcome
-statement-returns-in_ok-p-in-Fixed-6-clause-machine n c = λ k h.
-    behind ((c.in_ok-p-in-Fixed-6.ensures.machine (Statements ∷ k) (omega arith))) (return_begins k _ _ c.in-Fixed-6.at (grind (arith, common_steps)) (omega arith))
+statement-returns-in_ok-p-in-Return-clause-machine n c = λ k h.
+    behind ((c.in_ok-p-in-Return.ensures.machine (Statements ∷ k) (omega arith))) (return_begins k _ _ c.in-Fixed.at (grind (arith, common_steps)) (omega arith))
 
-pub statement-returns-in_ok-p-in-Fixed-6-clause-reads : goal.statement-returns-in_ok-p-in-Fixed-6-clause-reads
-statement-returns-in_ok-p-in-Fixed-6-clause-reads n c = stmt_of c.in_ok-p-in-Fixed-6.ensures.reads (grind (arith, common_steps))
+pub statement-returns-in_ok-p-in-Return-clause-reads : goal.statement-returns-in_ok-p-in-Return-clause-reads
+statement-returns-in_ok-p-in-Return-clause-reads n c = stmt_of c.in_ok-p-in-Return.ensures.reads (grind (arith, common_steps))

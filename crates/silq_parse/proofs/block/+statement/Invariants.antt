@@ -1,11 +1,11 @@
-use Rattle.std.proofs.Common.{◌≡◌, ◌+◌, ◌*◌, ◌<◌, ◌≤◌, List, [], ◌∷◌, length}
+use Rattle.std.proofs.Common.{◌≡◌, ◌+◌, ◌*◌, ◌≤◌, List, [], ◌∷◌, length}
 use Rattle.silq_tree.specs.Arena.{IsArena, expr_at, stmt_at}
 use Rattle.silq_tree.specs.Standing.{statements_of}
 use Rattle.silq_grammar.specs.Machine.{Symbol, Statements, nest}
 use Rattle.silq_grammar.specs.Outcome.{outcome}
 use Rattle.silq_grammar.specs.Spelled.{stmts_text}
 use Rattle.silq_grammar.specs.Trees.{stmts_tree}
-use Rattle.silq_parse.specs.Reads.{ReadsPart}
+use Rattle.expr_parse.specs.Reads.{ReadsPart}
 use Rattle.silq_parse.proofs.block.+statement.Given as goal
 
 -- the tokens that are left, and then the level in the grammar

@@ -1,14 +1,12 @@
-use Rattle.std.proofs.Common.{◌≡◌, ◌+◌, ◌<◌, ◌≤◌, List, [], ◌∷◌, length, map, flat_map}
+use Rattle.std.proofs.Common.{◌≡◌, ◌+◌, ◌<◌, List, [], ◌∷◌, length, map, flat_map}
 use Rattle.silq_tree.specs.Arena.{IsArena, expr_at}
 use Rattle.silq_tree.specs.Standing.{param_of}
 use Rattle.silq_tree.specs.Children.{param_exprs}
-use Rattle.silq_grammar.specs.declared.token.Terminal.TheVariants as t
-use Rattle.silq_grammar.specs.Machine.{Symbol, Expect, AnyName, OneParam, MoreParams, MoreStatics, nest}
+use Rattle.silq_grammar.specs.Machine.{Symbol, OneParam, MoreParams, nest}
 use Rattle.silq_grammar.specs.Outcome.{outcome}
 use Rattle.silq_grammar.specs.Spelled.{params_text}
 use Rattle.silq_grammar.specs.Trees.{params_tree}
-use Rattle.silq_parse.specs.Reads.{ReadsPart}
-use Rattle.silq_parse.specs.Parts.{SpellsStatics}
+use Rattle.expr_parse.specs.Reads.{ReadsPart}
 use Rattle.silq_parse.proofs.header.params.Given as goal
 
 -- what was read so far, and what is left decides

@@ -1,13 +1,7 @@
-use Rattle.std.proofs.Common.{◌≡◌, ◌+◌, ◌<◌, ◌≤◌, List, [], ◌∷◌, length, map, flat_map}
-use Rattle.silq_tree.specs.Arena.{IsArena, expr_at}
-use Rattle.silq_tree.specs.Standing.{param_of}
-use Rattle.silq_tree.specs.Children.{param_exprs}
+use Rattle.std.proofs.Common.{◌≡◌, ◌<◌, ◌≤◌, List, ◌∷◌, length}
 use Rattle.silq_grammar.specs.declared.token.Terminal.TheVariants as t
-use Rattle.silq_grammar.specs.Machine.{Symbol, Expect, AnyName, OneParam, MoreParams, MoreStatics, nest}
+use Rattle.silq_grammar.specs.Machine.{Symbol, Expect, AnyName, MoreStatics, nest}
 use Rattle.silq_grammar.specs.Outcome.{outcome}
-use Rattle.silq_grammar.specs.Spelled.{params_text}
-use Rattle.silq_grammar.specs.Trees.{params_tree}
-use Rattle.silq_parse.specs.Reads.{ReadsPart}
 use Rattle.silq_parse.specs.Parts.{SpellsStatics}
 use Rattle.silq_parse.proofs.header.static_params.Given as goal
 

@@ -1,17 +1,7 @@
-use Rattle.std.proofs.Common.{rules, ◌≡◌, ◌+◌, ◌-◌, ◌^◌, ◌<◌, ◌≤◌, ℕ, List, [], ◌∷◌, ◌++◌, Option, Some, None, length, map, flat_map, refl, sym, ap, ◌∙◌, arith, IfOk, MatchResult}
-use Rattle.std.proofs.lemmas.Grind.{common_steps}
-use Rattle.silq_tree.specs.Arena.{expr_at, stmt_at}
-use Rattle.silq_tree.specs.Standing.{expressions_of, place_of, statements_of, scalar_of, type_of}
-use Rattle.silq_grammar.specs.Outcome.{outcome}
-use Rattle.silq_grammar.specs.Machine.{Symbol, Expect, AnyName, Closing, Ends, Functions, StaticPart, MoreStatics, ParamPart, Params, OneParam, MoreParams, MarkPart, ResultPart, MoreResults, AType, AScalar, Width, SizePart, ASize, ABlock, Statements, MoreNames, ForgetPart, PhasePart, ForgetValue, Bounds, ReturnValue, ElseRest, ElseBody, StartName, StartBracket, StartIndex, Assigns, MoreExprs, CallPart, Arguments, value, an_expr, exprs, nest}
-use Rattle.silq_grammar.specs.declared.token.Terminal.TheVariants as t
-use Rattle.silq_grammar.specs.declared.token.Token.TheVariants.{Name, Number, Fixed}
-use Rattle.silq_parse.proofs.Exits.{stops, stops_behind, behind}
-use Rattle.silq_grammar.specs.Grammar.{no_mark, lifted, qfree, mfree}
-use Rattle.silq_parse.proofs.HeaderReads.{one_static, first_static, next_static, static_part, no_statics, typed_reads, moved_reads, held_reads, first_params, next_params, param_part, no_params, result_part, no_result}
-use Rattle.silq_parse.proofs.BlockReads.{part_of}
-use Rattle.silq_parse.proofs.Opened.{params_open, statics_open, more_statics_open, results_open, more_params_open, moved_open, held_open, params_end}
-use Rattle.silq_parse.proofs.Skips.{params_there}
+use Rattle.std.proofs.Common.{◌∷◌, refl, ◌∙◌, arith}
+use Rattle.silq_grammar.specs.Machine.{AType}
+use Rattle.expr_parse.proofs.Exits.{stops}
+use Rattle.silq_parse.proofs.HeaderReads.{typed_reads}
 use Rattle.silq_parse.proofs.header.typed.Goals as goal
 
 pub returns-in_err-rest-clause-machine : goal.returns-in_err-rest-clause-machine

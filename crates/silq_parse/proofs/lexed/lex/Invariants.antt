@@ -1,4 +1,4 @@
-use Rattle.std.proofs.Common.{◌≡◌, length}
+use Rattle.std.proofs.Common.{length}
 use Rattle.std.specs.Str.{chars}
 use Rattle.silq_lex.specs.Tokens.{tokens_of}
 use Rattle.silq_parse.proofs.UnderWay.{IsUnderWay}

@@ -1,13 +1,7 @@
-use Rattle.std.proofs.Common.{rules, ◌≡◌, ◌+◌, ◌-◌, ◌^◌, ◌<◌, ◌≤◌, ℕ, List, [], ◌∷◌, ◌++◌, Option, Some, None, length, map, flat_map, refl, sym, ap, ◌∙◌, arith, IfOk, MatchResult}
-use Rattle.std.proofs.lemmas.Grind.{common_steps}
-use Rattle.silq_tree.specs.Arena.{expr_at, stmt_at}
-use Rattle.silq_tree.specs.Standing.{expressions_of, place_of, statements_of, scalar_of, type_of}
-use Rattle.silq_grammar.specs.Outcome.{outcome}
-use Rattle.silq_grammar.specs.Machine.{Symbol, Expect, AnyName, Closing, Ends, Functions, StaticPart, MoreStatics, ParamPart, Params, OneParam, MoreParams, MarkPart, ResultPart, MoreResults, AType, AScalar, Width, SizePart, ASize, ABlock, Statements, MoreNames, ForgetPart, PhasePart, ForgetValue, Bounds, ReturnValue, ElseRest, ElseBody, StartName, StartBracket, StartIndex, Assigns, MoreExprs, CallPart, Arguments, value, an_expr, exprs, nest}
-use Rattle.silq_grammar.specs.declared.token.Terminal.TheVariants as t
-use Rattle.silq_grammar.specs.declared.token.Token.TheVariants.{Name, Number, Fixed}
-use Rattle.silq_parse.proofs.Exits.{stops, stops_behind, behind}
-use Rattle.silq_parse.proofs.SimpleReads.{change_reads, forget_value_reads, no_value_reads, phase_reads, something_reads, nothing_reads, return_reads, spread_reads, forget_reads}
+use Rattle.std.proofs.Common.{refl, ◌∙◌, arith}
+use Rattle.expr_parse.proofs.Exits.{stops}
+use Rattle.silq_parse.proofs.SimpleReads.{return_reads}
+use Rattle.silq_parse.proofs.AddedStatements.{free, free_stmts}
 use Rattle.silq_parse.proofs.simple.return_rest.Goals as goal
 
 pub returns-in_err-value-clause-machine : goal.returns-in_err-value-clause-machine
@@ -24,3 +18,9 @@ returns-clause-machine c = λ k h.
 
 pub returns-clause-reads : goal.returns-clause-reads
 returns-clause-reads c = return_reads c.args.at _ c.in_ok-value.ensures.reads c.in_ok-id.ensures.added c.in_ok-rest.ensures.token
+
+pub add_statement-requires-clause-exprs : goal.add_statement-requires-clause-exprs
+add_statement-requires-clause-exprs c = free c.in_ok-value.ensures.arena c.in_ok-value.ensures.reads.grew
+
+pub add_statement-requires-clause-stmts : goal.add_statement-requires-clause-stmts
+add_statement-requires-clause-stmts c = free_stmts c.in_ok-value.ensures.arena c.in_ok-value.ensures.reads.grew

@@ -1,4 +1,4 @@
-use Rattle.std.proofs.Common.{◌≡◌, ◌+◌, ◌<◌, ◌≤◌, List, [], ◌∷◌, length}
+use Rattle.std.proofs.Common.{◌≡◌, ◌+◌, ◌≤◌, List, ◌∷◌, length}
 use Rattle.silq_tree.specs.Arena.{IsArena}
 use Rattle.silq_grammar.specs.Machine.{Symbol, Functions, nest}
 use Rattle.silq_grammar.specs.Outcome.{outcome}

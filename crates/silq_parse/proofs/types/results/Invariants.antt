@@ -1,4 +1,4 @@
-use Rattle.std.proofs.Common.{◌≡◌, ◌+◌, ◌<◌, ◌≤◌, List, [], ◌∷◌, length, map, flat_map}
+use Rattle.std.proofs.Common.{◌≡◌, ◌+◌, ◌<◌, List, [], ◌∷◌, length, map, flat_map}
 use Rattle.silq_tree.specs.Arena.{IsArena, expr_at}
 use Rattle.silq_tree.specs.Standing.{type_of}
 use Rattle.silq_tree.specs.Children.{type_exprs}
@@ -6,7 +6,7 @@ use Rattle.silq_grammar.specs.Machine.{Symbol, AType, MoreResults, nest}
 use Rattle.silq_grammar.specs.Outcome.{outcome}
 use Rattle.silq_grammar.specs.Spelled.{result_text}
 use Rattle.silq_grammar.specs.Trees.{result_tree}
-use Rattle.silq_parse.specs.Reads.{ReadsPart}
+use Rattle.expr_parse.specs.Reads.{ReadsPart}
 use Rattle.silq_parse.proofs.types.results.Given as goal
 
 -- the types so far, and what is left decides

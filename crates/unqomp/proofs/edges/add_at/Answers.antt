@@ -1,6 +1,4 @@
-use Rattle.std.proofs.Common.{Some, sym, ap, ◌∙◌, subst}
-use Rattle.std.proofs.lemmas.Option.{slice_get_within}
-use Rattle.graph_core.specs.declared.graph.VertexId.{VertexId}
+use Rattle.std.proofs.Common.{sym, ◌∙◌}
 use Rattle.graph_core.specs.Arena.{IsFreeFor, control, availability}
 use Rattle.unqomp.proofs.UseEdges.{slot_availability, behind_slot, all_next}
 use Rattle.unqomp.proofs.edges.add_at.Goals as goal

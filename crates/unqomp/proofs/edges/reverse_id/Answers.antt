@@ -1,5 +1,5 @@
-use Rattle.std.proofs.Common.{◌≡◌, ◌+◌, ◌-◌, slice_get, sym, ap, ap₂, ◌∙◌, arith, ℕ, length}
-use Rattle.flat_core.specs.Label.{step_at, top, label_before}
+use Rattle.std.proofs.Common.{◌+◌, ◌-◌, slice_get, ap₂, ◌∙◌, arith, ℕ, length}
+use Rattle.flat_core.specs.Label.{step_at}
 use Rattle.unqomp.proofs.Links.{target_there}
 use Rattle.unqomp.proofs.UserIds.{below_top, reverse_id}
 use Rattle.unqomp.proofs.edges.reverse_id.Goals as goal

@@ -1,5 +1,4 @@
-use Rattle.std.proofs.Common.{◌<◌, length, sym, ap, ◌∙◌, subst, Some}
-use Rattle.flat_core.specs.declared.step.StepId.{StepId}
+use Rattle.std.proofs.Common.{sym, ◌∙◌, subst, Some}
 use Rattle.graph_core.specs.declared.vertex.Vertex.{Vertex}
 use Rattle.graph_core.specs.Circuit.{Uses}
 use Rattle.unqomp.specs.Making.{vertex_id, IsIdOf}

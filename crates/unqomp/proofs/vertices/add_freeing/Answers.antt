@@ -1,4 +1,4 @@
-use Rattle.std.proofs.Common.{◌≡◌, ◌+◌, ◌<◌, true, false, List, [], ◌∷◌, ◌++◌, length, slice_set, Some, sym, ap, ◌∙◌, subst, arith}
+use Rattle.std.proofs.Common.{◌≡◌, ◌+◌, true, List, [], ◌∷◌, ◌++◌, length, slice_set, sym, ap, ◌∙◌, subst, arith}
 use Rattle.flat_core.specs.Ends.{is_freed, freed}
 use Rattle.graph_core.specs.declared.vertex.Vertex.TheVariants.{Free}
 use Rattle.graph_core.specs.declared.graph.VertexId.{VertexId}

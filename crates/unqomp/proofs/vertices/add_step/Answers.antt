@@ -1,4 +1,4 @@
-use Rattle.std.proofs.Common.{◌≡◌, ◌+◌, ◌<◌, List, [], ◌∷◌, ◌++◌, length, slice_set, Some, sym, ap, ◌∙◌, subst, arith}
+use Rattle.std.proofs.Common.{◌≡◌, ◌+◌, List, [], ◌∷◌, ◌++◌, length, slice_set, Some, sym, ap, ◌∙◌, subst, arith}
 use Rattle.flat_core.specs.Label.{step_at}
 use Rattle.graph_core.specs.declared.vertex.Vertex.TheVariants.{Forward}
 use Rattle.graph_core.specs.declared.graph.VertexId.{VertexId}

@@ -1,4 +1,4 @@
-use Rattle.std.proofs.Common.{Some, length, sym, ap, ◌∙◌, subst}
+use Rattle.std.proofs.Common.{length, sym, ap, ◌∙◌, subst}
 use Rattle.graph_core.specs.declared.graph.VertexId.{VertexId}
 use Rattle.graph_core.specs.Arena.{Arena, IsFreeFor}
 use Rattle.unqomp.specs.Making.{vertex_id}

@@ -1,0 +1,10 @@
+pub mod Stops
+pub mod Begins
+pub mod Grown
+pub mod Reads
+pub mod Added
+pub mod Operands
+pub mod Opens
+pub mod Scalars
+pub mod Groups
+pub mod Targets
