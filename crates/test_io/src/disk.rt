@@ -50,6 +50,8 @@ fn the_file_that_is_named_is_read(rt: HostRuntime) -> Result<(), Fail> {
     let some = by_twos(&mut files, "some.slq");
     let missing = files.begin("none.slq");
     let other = by_twos(&mut files, "other.slq");
+    fs::remove_file(&rt, "some.slq")?;
+    fs::remove_file(&rt, "other.slq")?;
     assert!(rt; (early, missing) == (Err(Failed), Err(Failed)));
     assert!(rt; some == (Ok(()), [Ok(0), Ok(2), Ok(1), Ok(0)], [b'c', b'b']));
     assert!(rt; other == (Ok(()), [Ok(0), Ok(2), Ok(2), Ok(1)], [b'z', b'y']));
