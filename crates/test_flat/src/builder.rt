@@ -77,8 +77,16 @@ fn measures(alloc: Global) -> Result<bool, LimitFault> {
     let mut builder = Builder::new(alloc);
     let a = builder.wire(true)?;
     builder.measure(a)?;
-    builder.end(a, End::Measured);
-    Ok(builder.is_measured(a))
+    Ok(builder.wires() == 1)
+}
+
+// A wire that no step measures, and its end.
+fn ends(alloc: Global) -> Result<bool, LimitFault> {
+    let mut builder = Builder::new(alloc);
+    let a = builder.wire(true)?;
+    let measured = builder.is_measured(a);
+    builder.end(a, End::Output);
+    Ok(builder.wires() == 1 && !measured)
 }
 
 fn conjunction_on_a_wire(alloc: Global) -> Result<bool, LimitFault> {
@@ -186,6 +194,7 @@ fn gates_and_settings(rt: HostRuntime) {
         ("turn", matches!(phases(alloc), Ok((0, 1)))),
         ("had", hadamard_gates(alloc).unwrap_or(false)),
         ("measure", measures(alloc).unwrap_or(false)),
+        ("end", ends(alloc).unwrap_or(false)),
         ("settings", settings(alloc) == (true, 1, 7)),
         ("finish", finishes(alloc) == 0),
     ];
