@@ -1,7 +1,7 @@
 -- The first fault of a file, and what it is for its bytes to be a program of the form.
-use Rattle.std.specs.Prelude.{◌≡◌, ℕ, ◌+◌, nat_lt, nat_eq, List, [], ◌∷◌, Option, Some, None, if◌then◌else◌, option_map, length, take}
+use Rattle.std.specs.Prelude.{◌≡◌, ℕ, ◌+◌, nat_lt, nat_eq, Bool, List, [], ◌∷◌, Option, Some, None, is_none, if◌then◌else◌, option_map, length, take, drop}
 use Rattle.std.specs.Str.{chars, is_utf8}
-use Rattle.std.specs.Str.Lossy.{utf8_valid_len}
+use Rattle.std.specs.Str.Lossy.{utf8_valid_len, utf8_error_len}
 use Rattle.silq_io.specs.declared.fault.SyntaxCause.{SyntaxCause}
 use Rattle.silq_io.specs.declared.fault.SyntaxCause.TheVariants as causes
 use Rattle.silq_lex.specs.declared.token.LexCause.{LexCause}
@@ -51,10 +51,18 @@ utf8_fault bytes = record {
   col = col_behind 1 (chars (take (utf8_valid_len bytes) bytes));
 }
 
--- the first fault of a file: its length, then its UTF-8, then that of its text; None where it is a program within the limits
+-- whether bytes begin a UTF-8 text: they are one, or they end within a character
+abbrev pub begins_text : List ℕ → Bool
+begins_text bytes = is_none (utf8_error_len (drop (utf8_valid_len bytes) bytes))
+
+-- of a file that is too long, by its first bytes, one more than the limit: that they begin no text, else its length
+abbrev pub long_fault : List ℕ → FileFault
+long_fault front = if begins_text front then record { cause = causes.Long; line = 1; col = 1 } else utf8_fault front
+
+-- the first fault of a file: its UTF-8 as far as it is read, then its length, then that of its text; None where it is a program within the limits
 abbrev pub first_file_fault : List ℕ → Option FileFault
 first_file_fault bytes =
-    if nat_lt 1048576 (length bytes) then Some (record { cause = causes.Long; line = 1; col = 1 })
+    if nat_lt 1048576 (length bytes) then Some (long_fault (take 1048577 bytes))
     else if is_utf8 bytes then option_map file_fault (first_fault bytes)
     else Some (utf8_fault bytes)
 

@@ -1,6 +1,6 @@
 //! Reading a file.
 
-ghost use Rattle.std.specs.Prelude.{◌≡◌, ◌≢◌, ℕ, ◌<◌, ◌≤◌, ◌+◌, ◌^◌, List, IfOk, OnOk, IsErrOf, IsSome, Option, vec_len};
+ghost use Rattle.std.specs.Prelude.{◌≡◌, ◌≢◌, ℕ, ◌<◌, ◌≤◌, ◌+◌, ◌^◌, List, length, IfOk, OnOk, IsErrOf, IsSome, Option, vec_len};
 ghost use Rattle.silq_io.specs.Counts.{Rose};
 ghost use Rattle.silq_io.specs.Reads.{IsSpent};
 ghost use Rattle.silqc.specs.Reading.{AreRead, IsPartRead};
@@ -46,6 +46,7 @@ pub fn read_file<F: Files>(
 ) -> Result<Vec<u8>, ReadError>
     requires { limit < 2 ^ 32 }
     ensures read { IfOk result (λ bytes. AreRead limit (F.held files.old name.now) (F.left files.new name.now) bytes.items) }
+    ensures within { IfOk result (λ bytes. length bytes.items ≤ limit + 1) }
     ensures held { (other : List ℕ) → F.held files.new other ≡ F.held files.old other }
     ensures failed { IsErrOf result ReadError.Failed → Rose (F.faults files.old name.now) (F.faults files.new name.now) }
     ensures counts { (other : List ℕ) → F.faults files.old other ≤ F.faults files.new other }

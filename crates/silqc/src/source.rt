@@ -1,9 +1,9 @@
 //! The bytes of a file as a text, and why they are none.
 
-ghost use Rattle.std.specs.Prelude.{◌≡◌, ◌≤◌, ℕ, true, Some, length, IfOk, OnOk, IfErr};
-ghost use Rattle.std.specs.Str.{chars, is_utf8};
+ghost use Rattle.std.specs.Prelude.{◌≡◌, ◌≤◌, true, Some, length, IfOk, OnOk, IfErr};
+ghost use Rattle.std.specs.Str.{chars, is_utf8, IsUtf8, IsValidUpTo};
 ghost use Rattle.silq_io.specs.declared.fault.SyntaxCause.TheVariants as causes;
-ghost use Rattle.silqc.specs.Program.{first_file_fault, line_behind, col_behind};
+ghost use Rattle.silqc.specs.Program.{first_file_fault, begins_text, line_behind, col_behind};
 
 use crate::status::Status;
 use silq_io::SyntaxCause;
@@ -36,7 +36,7 @@ impl FileFault {
 
     // Bytes that are not UTF-8 behind this text.
     fn utf8(front: &str) -> FileFault
-        requires { length front.now ≤ 1048576 }
+        requires { length front.now ≤ 1048577 }
         ensures cause { result.cause ≡ causes.Utf8 }
         ensures line { result.line ≡ line_behind 1 (chars front.now) }
         ensures col { result.col ≡ col_behind 1 (chars front.now) }
@@ -58,6 +58,23 @@ impl FileFault {
         }
     }
 
+    // Bytes that are no text, of which the first `valid` are one and no more; `cut` tells whether they end within a character.
+    fn no_text(bytes: &[u8], valid: usize, cut: bool) -> FileFault
+        requires most { length bytes.now ≤ 1048577 }
+        requires none { ¬ (IsUtf8 bytes.now) }
+        requires valid { IsValidUpTo bytes.now valid }
+        requires cut { cut ≡ begins_text bytes.now }
+        ensures { first_file_fault bytes.now ≡ Some (record { cause = result.cause; line = result.line; col = result.col }) }
+    {
+        if cut && bytes.len() > SOURCE_LIMIT {
+            return FileFault::long();
+        }
+        match str::from_utf8(&bytes[..valid]) {
+            Ok(front) => FileFault::utf8(front),
+            Err(_) => FileFault::long(),
+        }
+    }
+
     /// How the command ends.
     pub fn status(&self) -> Status
         ensures { result ≡ Status.Syntax self.now.cause self.now.line self.now.col }
@@ -70,21 +87,26 @@ impl FileFault {
     }
 }
 
-/// The text of a file. A file that is too long is told before one that is not UTF-8.
+/// The text of a file of which at most one byte more than the limit was read. Bytes that begin no UTF-8 text are told before a file that is
+/// too long; a character that the last of these bytes cuts is no fault of its own.
 pub fn text(bytes: &[u8]) -> Result<&str, FileFault>
+    requires { length bytes.now ≤ 1048577 }
     ensures same { IfOk result (λ text. text.now ≡ bytes.now) }
     ensures short { OnOk result (length bytes.now ≤ 1048576) }
     ensures utf8 { OnOk result (is_utf8 bytes.now ≡ true) }
     ensures fault { IfErr result (λ fault. first_file_fault bytes.now ≡ Some (record { cause = fault.cause; line = fault.line; col = fault.col })) }
 {
-    if bytes.len() > SOURCE_LIMIT {
-        return Err(FileFault::long());
-    }
     match str::from_utf8(bytes) {
-        Ok(text) => Ok(text),
-        Err(error) => match str::from_utf8(&bytes[..error.valid_up_to()]) {
-            Ok(front) => Err(FileFault::utf8(front)),
-            Err(_) => Err(FileFault::long()),
-        },
+        Ok(text) => {
+            if bytes.len() > SOURCE_LIMIT {
+                return Err(FileFault::long());
+            }
+            Ok(text)
+        }
+        Err(error) => Err(FileFault::no_text(
+            bytes,
+            error.valid_up_to(),
+            error.error_len().is_none(),
+        )),
     }
 }

@@ -169,7 +169,7 @@ fn commands(rt: HostRuntime) {
             b"silqc: 1:24: syntax: number\n",
         ),
     ];
-    assert_eq!(rt; first_missed(rt.alloc(), &cases), None);
+    assert!(rt; first_missed(rt.alloc(), &cases).is_none());
 }
 
 #[test]
@@ -201,7 +201,7 @@ fn checks(rt: HostRuntime) {
             b"silqc: limit: walked 1000001\n",
         ),
     ];
-    assert_eq!(rt; first_missed(rt.alloc(), &cases), None);
+    assert!(rt; first_missed(rt.alloc(), &cases).is_none());
 }
 
 // How a command ends that reads and writes one byte at a time, and whether it writes the text of `ONE`.
@@ -224,16 +224,45 @@ fn one_byte_at_a_time(rt: HostRuntime) {
     assert!(rt; matches!(ending, Ok((Status::Done, true))));
 }
 
-// Whether a text of so many blanks ends a command with this status and note.
-fn blanks_end(alloc: Global, count: usize, code: u8, note: &[u8]) -> Result<bool, AllocError> {
-    let blanks = vec![in alloc; b' '; count]?;
-    is_met(alloc, &refused(&blanks, code, note))
+// Whether a text of so many blanks between these bytes ends a command with this status and note.
+fn blanks_end(
+    alloc: Global,
+    bytes: (&[u8], &[u8]),
+    count: usize,
+    code: u8,
+    note: &[u8],
+) -> Result<bool, AllocError> {
+    let mut text = Vec::from_slice(alloc, bytes.0)?;
+    text.extend_from_slice(&vec![in alloc; b' '; count]?)?;
+    text.extend_from_slice(bytes.1)?;
+    is_met(alloc, &refused(&text, code, note))
 }
 
 #[test]
 fn the_longest_text(rt: HostRuntime) {
-    let alloc = rt.alloc();
-    let longest = blanks_end(alloc, 1_048_576, 15, b"silqc: not built yet\n");
-    let longer = blanks_end(alloc, 1_048_577, 4, b"silqc: 1:1: syntax: long\n");
-    assert!(rt; matches!((longest, longer), (Ok(true), Ok(true))));
+    let long = b"silqc: 1:1: syntax: long\n";
+    let cases: [((&[u8], &[u8]), usize, u8, &[u8]); 7] = [
+        ((b"", b""), 1_048_576, 15, b"silqc: not built yet\n"),
+        ((b"", b""), 1_048_577, 4, long),
+        // One more byte than the limit is looked at: bytes that are no text come first, a character that its end cuts is none of them.
+        (
+            (b"def \xff", b""),
+            1_048_576,
+            4,
+            b"silqc: 1:5: syntax: utf8\n",
+        ),
+        (
+            (b"", b"\xff"),
+            1_048_576,
+            4,
+            b"silqc: 1:1048577: syntax: utf8\n",
+        ),
+        ((b"", b"\xff"), 1_048_577, 4, long),
+        ((b"", b"\xc3\x97"), 1_048_575, 4, long),
+        ((b"", b"\xc3\x97"), 1_048_576, 4, long),
+    ];
+    for (bytes, count, code, note) in cases {
+        let met = blanks_end(rt.alloc(), bytes, count, code, note);
+        assert!(rt; met.unwrap_or(false), "{count} blanks");
+    }
 }
