@@ -1,0 +1,47 @@
+-- Uses of parts that are there, which typing gives of each use of an accepted expression.
+use Rattle.std.specs.Prelude.{◌≡◌, ℕ, ◌≤◌, true, false, List, Some}
+use Rattle.silq_types.specs.declared.types.Ty.{Ty}
+use Rattle.silq_types.specs.declared.values.Part.{Part}
+use Rattle.silq_types.specs.declared.values.Value.{Value}
+use Rattle.silq_types.specs.declared.values.Var.{Var}
+use Rattle.silq_types.specs.Calls.{is_consumed}
+use Rattle.check_scope.specs.declared.uses.Use.{Use}
+use Rattle.check_scope.specs.Context.{Context, indices, variable, part_at, find_var, part_type, overlaps, is_in_condition}
+use Rattle.check_scope.specs.Places.{disturbs}
+use Rattle.check_scope.specs.Uses.{both_consume, consume_and_hold}
+use Rattle.flat_core.specs.declared.step.WireId.{WireId}
+use Rattle.flat_form.specs.declared.known.Known.{Known}
+use Rattle.flat_form.specs.State.{Flattening, wires_so_far}
+use Rattle.flat_form.specs.Names.{AllOf, names}
+use Rattle.flat_typed.specs.Places.{Places, is_shared}
+use Rattle.flat_typed.specs.Footprint.{used_wires, consumed_wires, Within}
+use Rattle.flat_typed.specs.Relation.{Outside, Stands}
+use Rattle.flat_typed.specs.Done.{changeable}
+
+-- the variable is not consumed, the index values lead to a part of it, and no part that was taken out overlaps this one. Where it is consumed, its
+-- variable has wires of its own, and no condition in force holds the part.
+pub record IsThere (held : List (List Part)) (vars : List Var) (u : Use) : Type 0 where
+  pub owner : Var
+  pub found : find_var vars (variable u.part.name) ≡ Some owner
+  pub live : owner.consumed ≡ false
+  pub kind : (t : Ty) × (part_type owner.ty.classical owner.ty.shape (indices u.part) ≡ Some t)
+  pub clear : disturbs vars u.part ≡ false
+  pub here : (v : Var) → find_var vars u.part ≡ Some v → v.consumed ≡ false
+  pub own : is_consumed u.need ≡ true → is_shared owner ≡ false
+  pub loose : is_consumed u.need ≡ true → is_in_condition held (part_at u.part.name (indices u.part)) ≡ false
+
+-- what a value of the first uses names is no wire that the second uses consume
+abbrev pub OperandsApart : Type 0
+OperandsApart =
+    (out : Outside) (held : List (List Part)) (W : Places) (under : List Value) (c : Context) (s : Flattening) (us vs : List Use) (k : Known) →
+    Stands out held W under c s → AllOf (IsThere held c.vars) us → AllOf (IsThere held c.vars) vs →
+    both_consume us vs ≡ false → consume_and_hold us vs ≡ false →
+    Within (used_wires W c.vars us) (wires_so_far s) k →
+    (w : WireId) → consumed_wires W c.vars vs w ≡ true → names k w ≡ false
+
+-- what is consumed may be changed
+abbrev pub ConsumedMayChange : Type 0
+ConsumedMayChange =
+    (out : Outside) (held : List (List Part)) (W : Places) (under : List Value) (c : Context) (s : Flattening) (us : List Use) →
+    Stands out held W under c s → AllOf (IsThere held c.vars) us →
+    (w : WireId) → consumed_wires W c.vars us w ≡ true → changeable out W c.vars under w ≡ true

@@ -1,0 +1,36 @@
+#![tactic(auto)]
+//! What typing gives to flattening: a relation between a typing context and a state of flattening, and laws on how it moves.
+//!
+//! The relation stands in `specs/Relation`: the environment is read off the context and a function that gives each place its operands, and
+//! no wire has two owners. `specs/Done` and `specs/Calls` say what each kind of effect does to it, and `specs/Lemmas` has the statements that
+//! lead to the theorem that each accepted program is one that flattening can take; most of these are not proved yet. What is proved is a law
+//! below: each function has an empty body, and its contract is the law.
+
+ghost use Rattle.flat_typed.specs.Laws.{ForgetIsFine, OwnMayChange, BlocksClose};
+ghost use Rattle.flat_typed.specs.Uses.{OperandsApart, ConsumedMayChange};
+
+/// A statement `forget x;` that is accepted needs nothing that flattening lacks, and keeps the relation.
+pub fn forget_is_fine()
+    ensures { ForgetIsFine }
+{}
+
+/// A value that is handed on with wires of its own may be changed: whatever else is known names none of its wires.
+pub fn own_may_change()
+    ensures { OwnMayChange }
+{}
+
+/// The end of a block keeps the relation.
+pub fn blocks_close()
+    ensures { BlocksClose }
+{}
+
+/// Where no part is consumed in two operands, and none is consumed in one and held in the other, the value of one names no wire that the
+/// other consumes.
+pub fn operands_apart()
+    ensures { OperandsApart }
+{}
+
+/// What an expression consumes has an owner, and no condition in force guards it.
+pub fn consumed_may_change()
+    ensures { ConsumedMayChange }
+{}
