@@ -1,5 +1,5 @@
 -- What the rules of typing are to give of a program.
-use Rattle.std.specs.Prelude.{◌≡◌, ◌<◌, ⊥, true, length}
+use Rattle.std.specs.Prelude.{◌≡◌, ◌<◌, true, length}
 use Rattle.silq_mean.specs.Table.{Job}
 use Rattle.flat_core.specs.declared.step.WireId.{WireId}
 use Rattle.flat_core.specs.declared.step.StepId.{StepId}

@@ -52,7 +52,7 @@ three_spans w a m b n c k ps h g =
         omega (arith, j, l)
 
 -- two parts that lie apart from each other and from a third
-two_beside : (w : WireId) (s : Shape) (is js ks : List ℤ) (ps : List Operand) → Apart s is js → Apart s is ks → Apart s js ks
+pub two_beside : (w : WireId) (s : Shape) (is js ks : List ℤ) (ps : List Operand) → Apart s is js → Apart s is ks → Apart s js ks
     → times_in w (part_of s is ps) + (times_in w (part_of s js ps) + times_in w (part_of s ks ps)) ≤ times_in w ps
 two_beside w s is js ks ps p q r = go p q r
   where
@@ -77,20 +77,20 @@ two_beside w s is js ks ps p q r = go p q r
 
 pub out_all : (Q : Var → Type 0) (vs : List Var) (x : NameId) (p : Var) → part_out vs x ≡ Some p → AllOf Q vs → Q p
 out_all Q [] x p e h = absurd (grind (arith, e))
-out_all Q (v ∷ vs) x p e h = go (is_part v && (v.consumed && same_name v.part.name x)) e
+out_all Q (v ∷ vs) x p e h = go (is_part v && (v.consumed && same_name v.part.name x)) e (λ f. out_all Q vs x p f h.1)
   where
-    go : (t : Bool) → cond t (Some v) (part_out vs x) ≡ Some p → Q p
-    go true e = subst Q (some_same v p e) h.0
-    go false e = out_all Q vs x p e h.1
+    go : (t : Bool) → cond t (Some v) (part_out vs x) ≡ Some p → (part_out vs x ≡ Some p → Q p) → Q p
+    go true e i = subst Q (some_same v p e) h.0
+    go false e i = i e
 
 -- what it is
 pub out_is : (vs : List Var) (x : NameId) (p : Var) → part_out vs x ≡ Some p → (is_part p && (p.consumed && same_name p.part.name x)) ≡ true
 out_is [] x p e = absurd (grind (arith, e))
-out_is (v ∷ vs) x p e = go (is_part v && (v.consumed && same_name v.part.name x)) refl e
+out_is (v ∷ vs) x p e = go (is_part v && (v.consumed && same_name v.part.name x)) refl e (λ f. out_is vs x p f)
   where
-    go : (t : Bool) → (is_part v && (v.consumed && same_name v.part.name x)) ≡ t → cond t (Some v) (part_out vs x) ≡ Some p → (is_part p && (p.consumed && same_name p.part.name x)) ≡ true
-    go true f e = ap (λ (u : Var). is_part u && (u.consumed && same_name u.part.name x)) (sym (some_same v p e)) ∙ f
-    go false f e = out_is vs x p e
+    go : (t : Bool) → (is_part v && (v.consumed && same_name v.part.name x)) ≡ t → cond t (Some v) (part_out vs x) ≡ Some p → (part_out vs x ≡ Some p → (is_part p && (p.consumed && same_name p.part.name x)) ≡ true) → (is_part p && (p.consumed && same_name p.part.name x)) ≡ true
+    go true f e i = ap (λ (u : Var). is_part u && (u.consumed && same_name u.part.name x)) (sym (some_same v p e)) ∙ f
+    go false f e i = i e
 
 -- what each variable is to a part that nothing disturbs
 abbrev Beside : Part → Var → Type 0
@@ -98,28 +98,28 @@ Beside q v = is_part v ≡ true → same_part v.part q ≡ false → overlaps v.
 
 beside : (vs : List Var) (q : Part) → disturbs vs q ≡ false → AllOf (Beside q) vs
 beside [] q e = tt
-beside (v ∷ vs) q e = (one, beside vs q (or_right (not (is_empty (indices v.part)) && (not (same_part v.part q) && overlaps v.part q)) (disturbs vs q) e))
+beside (v ∷ vs) q e = (one, beside vs q (or_right (not (is_empty (indices v.part)) && not (same_part v.part q) && overlaps v.part q) (disturbs vs q) e))
   where
-    go : (a b c : Bool) → (a && (not b && c)) ≡ false → a ≡ true → b ≡ false → c ≡ false
+    go : (a b c : Bool) → (a && not b && c) ≡ false → a ≡ true → b ≡ false → c ≡ false
     go true false c h p n = h
     go true true c h p n = clash n
     go false b c h p n = clash (sym p)
 
     one : Beside q v
-    one p n = go (is_part v) (same_part v.part q) (overlaps v.part q) (or_left (not (is_empty (indices v.part)) && (not (same_part v.part q) && overlaps v.part q)) (disturbs vs q) e) p n
+    one p n = go (is_part v) (same_part v.part q) (overlaps v.part q) (or_left (not (is_empty (indices v.part)) && not (same_part v.part q) && overlaps v.part q) (disturbs vs q) e) p n
 
 -- a variable of this part is the one that is found
 out_found : (vs : List Var) (x : NameId) (p : Var) (q : Part) → part_out vs x ≡ Some p → PartsDiffer vs → same_part p.part q ≡ true → find_var vs q ≡ Some p
 out_found [] x p q e d s = absurd (grind (arith, e))
-out_found (v ∷ vs) x p q e d s = go (is_part v && (v.consumed && same_name v.part.name x)) e
+out_found (v ∷ vs) x p q e d s = go (is_part v && (v.consumed && same_name v.part.name x)) e (λ f. out_found vs x p q f d.1 s)
   where
-    later : part_out vs x ≡ Some p → (t : Bool) → same_part v.part q ≡ t → cond t (Some v) (find_var vs q) ≡ Some p
-    later o false f = out_found vs x p q o d.1 s
-    later o true f = clash (sym s ∙ (ap (same_part p.part) (sym (same_part_same v.part q f)) ∙ out_all (λ (u : Var). same_part u.part v.part ≡ false) vs x p o d.0))
+    later : part_out vs x ≡ Some p → find_var vs q ≡ Some p → (t : Bool) → same_part v.part q ≡ t → cond t (Some v) (find_var vs q) ≡ Some p
+    later o i false f = i
+    later o i true f = clash (sym s ∙ (ap (same_part p.part) (sym (same_part_same v.part q f)) ∙ out_all (λ (u : Var). same_part u.part v.part ≡ false) vs x p o d.0))
 
-    go : (t : Bool) → cond t (Some v) (part_out vs x) ≡ Some p → cond (same_part v.part q) (Some v) (find_var vs q) ≡ Some p
-    go true e = ap (λ t. cond t (Some v) (find_var vs q)) (ap (λ (u : Var). same_part u.part q) (some_same v p e) ∙ s) ∙ e
-    go false e = later e (same_part v.part q) refl
+    go : (t : Bool) → cond t (Some v) (part_out vs x) ≡ Some p → (part_out vs x ≡ Some p → find_var vs q ≡ Some p) → cond (same_part v.part q) (Some v) (find_var vs q) ≡ Some p
+    go true e i = ap (λ t. cond t (Some v) (find_var vs q)) (ap (λ (u : Var). same_part u.part q) (some_same v p e) ∙ s) ∙ e
+    go false e i = later e (i e) (same_part v.part q) refl
 
 -- ---- a part that is used
 
@@ -127,7 +127,7 @@ and_true : (a b : Bool) → (a && b) ≡ true → (a ≡ true) × (b ≡ true)
 and_true true b e = (refl, e)
 and_true false b e = clash (sym e)
 
-no_prefixes : (a b c : Bool) → (a && (b || c)) ≡ false → a ≡ true → (b ≡ false) × (c ≡ false)
+pub no_prefixes : (a b c : Bool) → (a && (b || c)) ≡ false → a ≡ true → (b ≡ false) × (c ≡ false)
 no_prefixes true b c e h = (or_left b c e, or_right b c e)
 no_prefixes false b c e h = clash (sym h)
 
@@ -136,16 +136,16 @@ module _ (out : Outside) (held : List (List Part)) (W : Places) (under : List Va
   abbrev pub used_part : (u : Use) → IsThere held c.vars u → List Operand
   used_part u h = part_of h.owner.ty.shape (indices u.part) (W h.owner.place)
 
-  wires_are : (u : Use) (h : IsThere held c.vars u) (w : WireId) → wires_of_part W c.vars u.part w ≡ among (wires_in (used_part u h)) w
+  pub wires_are : (u : Use) (h : IsThere held c.vars u) (w : WireId) → wires_of_part W c.vars u.part w ≡ among (wires_in (used_part u h)) w
   wires_are u h w = ap (λ r. wires_for W r u.part w) h.found
 
-  shows : (u : Use) (h : IsThere held c.vars u) (r : Option Var) → part_out c.vars u.part.name ≡ r → shown W c.vars h.owner ≡ less_part r (bits_for W h.owner)
+  pub shows : (u : Use) (h : IsThere held c.vars u) (r : Option Var) → part_out c.vars u.part.name ≡ r → shown W c.vars h.owner ≡ less_part r (bits_for W h.owner)
   shows u h r e =
       ap (λ t. cond t Absent (less_part (part_out c.vars h.owner.part.name) (bits_for W h.owner))) h.live
       ∙ ap (λ q. less_part q (bits_for W h.owner)) (ap (λ (p : Part). part_out c.vars p.name) (found_there c.vars u.part.name h.owner h.found) ∙ e)
 
   -- a part that was taken out lies apart from it
-  out_apart : (u : Use) (h : IsThere held c.vars u) (p : Var) → part_out c.vars u.part.name ≡ Some p → Apart h.owner.ty.shape (indices u.part) (indices p.part)
+  pub out_apart : (u : Use) (h : IsThere held c.vars u) (p : Var) → part_out c.vars u.part.name ≡ Some p → Apart h.owner.ty.shape (indices u.part) (indices p.part)
   out_apart u h p e = lie_apart h.owner.ty.classical h.owner.ty.shape (indices u.part) (indices p.part) h.kind.0 p.ty h.kind.1 kind prefixes.1 prefixes.0
     where
       is : (is_part p ≡ true) × ((p.consumed && same_name p.part.name u.part.name) ≡ true)
@@ -158,10 +158,10 @@ module _ (out : Outside) (held : List (List Part)) (W : Places) (under : List Va
       of = out_all (FitsPart W c.vars) c.vars u.part.name p e st.parts is.0
 
       its : of.0 ≡ h.owner
-      its = some_same of.0 h.owner (sym of.1.0 ∙ (ap (λ n. find_var c.vars (variable n)) (same_is_equal p.part.name u.part.name gone.1) ∙ h.found))
+      its = some_same of.0 h.owner (sym of.1 ∙ (ap (λ n. find_var c.vars (variable n)) (same_is_equal p.part.name u.part.name gone.1) ∙ h.found))
 
       kind : part_type h.owner.ty.classical h.owner.ty.shape (indices p.part) ≡ Some p.ty
-      kind = subst (λ (v : Var). part_type v.ty.classical v.ty.shape (indices p.part) ≡ Some p.ty) its of.1.1.kind
+      kind = subst (λ (v : Var). part_type v.ty.classical v.ty.shape (indices p.part) ≡ Some p.ty) its of.2.kind
 
       other : (t : Bool) → same_part p.part u.part ≡ t → t ≡ false
       other false f = refl

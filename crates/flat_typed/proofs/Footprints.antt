@@ -38,24 +38,24 @@ use Rattle.flat_typed.proofs.Apart.{two_beside, no_prefixes, used_part, wires_ar
 
 one_found : (W : Places) (all vs : List Var) (w : WireId) (p : Part) (v : Var) → find_var vs p ≡ Some v → holds W all w v ≤ holders W all w vs
 one_found W all [] w p v e = absurd (grind (arith, e))
-one_found W all (z ∷ zs) w p v e = go (same_part z.part p) e
+one_found W all (z ∷ zs) w p v e = go (same_part z.part p) e (λ f. one_found W all zs w p v f)
   where
-    go : (t : Bool) → cond t (Some z) (find_var zs p) ≡ Some v → holds W all w v ≤ holds W all w z + holders W all w zs
-    go true e = let a : holds W all w z ≡ holds W all w v = ap (holds W all w) (some_same z v e) in omega (arith, a)
-    go false e = let a = one_found W all zs w p v e in omega (arith, a)
+    go : (t : Bool) → cond t (Some z) (find_var zs p) ≡ Some v → (find_var zs p ≡ Some v → holds W all w v ≤ holders W all w zs) → holds W all w v ≤ holds W all w z + holders W all w zs
+    go true e i = let a : holds W all w z ≡ holds W all w v = ap (holds W all w) (some_same z v e) in omega (arith, a)
+    go false e i = let a = i e in omega (arith, a)
 
 -- two variables
 two_found : (W : Places) (all vs : List Var) (w : WireId) (x y : NameId) (v u : Var) → find_var vs (variable x) ≡ Some v → find_var vs (variable y) ≡ Some u → same_name x y ≡ false → holds W all w v + holds W all w u ≤ holders W all w vs
 two_found W all [] w x y v u e f n = absurd (grind (arith, e))
-two_found W all (z ∷ zs) w x y v u e f n = go (same_part z.part (variable x)) refl (same_part z.part (variable y)) refl e f
+two_found W all (z ∷ zs) w x y v u e f n = go (same_part z.part (variable x)) refl (same_part z.part (variable y)) refl e f (λ g h. two_found W all zs w x y v u g h n)
   where
     go : (a : Bool) → same_part z.part (variable x) ≡ a → (b : Bool) → same_part z.part (variable y) ≡ b → cond a (Some z) (find_var zs (variable x)) ≡ Some v → cond b (Some z) (find_var zs (variable y)) ≡ Some u
-        → holds W all w v + holds W all w u ≤ holds W all w z + holders W all w zs
-    go true g true h e f =
+        → (find_var zs (variable x) ≡ Some v → find_var zs (variable y) ≡ Some u → holds W all w v + holds W all w u ≤ holders W all w zs) → holds W all w v + holds W all w u ≤ holds W all w z + holders W all w zs
+    go true g true h e f i =
         clash (sym (name_refl x) ∙ (ap (same_name x) (ap (λ (p : Part). p.name) (sym (same_part_same z.part (variable x) g) ∙ same_part_same z.part (variable y) h)) ∙ n))
-    go true g false h e f = let a : holds W all w z ≡ holds W all w v = ap (holds W all w) (some_same z v e) in let b = one_found W all zs w (variable y) u f in omega (arith, a, b)
-    go false g true h e f = let a : holds W all w z ≡ holds W all w u = ap (holds W all w) (some_same z u f) in let b = one_found W all zs w (variable x) v e in omega (arith, a, b)
-    go false g false h e f = let a = two_found W all zs w x y v u e f n in omega (arith, a)
+    go true g false h e f i = let a : holds W all w z ≡ holds W all w v = ap (holds W all w) (some_same z v e) in let b = one_found W all zs w (variable y) u f in omega (arith, a, b)
+    go false g true h e f i = let a : holds W all w z ≡ holds W all w u = ap (holds W all w) (some_same z u f) in let b = one_found W all zs w (variable x) v e in omega (arith, a, b)
+    go false g false h e f i = let a = i e f in omega (arith, a)
 
 named_none : (w : WireId) (ps : List Operand) → list_any (named_by w) ps ≡ false → times_in w ps ≡ 0
 named_none w [] e = refl
@@ -243,12 +243,12 @@ module _ (out : Outside) (held : List (List Part)) (W : Places) (under : List Va
   -- what some uses consume and others use
   pub consumed_apart : (us vs : List Use) → AllOf (IsThere held c.vars) us → AllOf (IsThere held c.vars) vs → AllOf (Untouched us) vs → (w : WireId) → consumed_wires W c.vars vs w ≡ true → used_wires W c.vars us w ≡ false
   consumed_apart us [] hu hv n w e = clash (sym e)
-  consumed_apart us (v ∷ vs) hu hv n w e = go (is_consumed v.need) refl (wires_of_part W c.vars v.part w) refl e
+  consumed_apart us (v ∷ vs) hu hv n w e = go (is_consumed v.need) refl (wires_of_part W c.vars v.part w) refl e (λ f. consumed_apart us vs hu hv.1 n.1 w f)
     where
-      go : (a : Bool) → is_consumed v.need ≡ a → (b : Bool) → wires_of_part W c.vars v.part w ≡ b → ((a && b) || consumed_wires W c.vars vs w) ≡ true → used_wires W c.vars us w ≡ false
-      go true q true f e = none_of v hv.0 q w (there v hv.0 w f) us hu (n.0 q)
-      go true q false f e = consumed_apart us vs hu hv.1 n.1 w e
-      go false q b f e = consumed_apart us vs hu hv.1 n.1 w e
+      go : (a : Bool) → is_consumed v.need ≡ a → (b : Bool) → wires_of_part W c.vars v.part w ≡ b → ((a && b) || consumed_wires W c.vars vs w) ≡ true → (consumed_wires W c.vars vs w ≡ true → used_wires W c.vars us w ≡ false) → used_wires W c.vars us w ≡ false
+      go true q true f e i = none_of v hv.0 q w (there v hv.0 w f) us hu (n.0 q)
+      go true q false f e i = i e
+      go false q b f e i = i e
 
   loose_wire : (u : Use) (h : IsThere held c.vars u) → is_consumed u.need ≡ true → (w : WireId) → among (wires_in (bits u h)) w ≡ true → out.guarded w ≡ false
   loose_wire u h q w e = go (out.guarded w) refl
@@ -273,12 +273,12 @@ module _ (out : Outside) (held : List (List Part)) (W : Places) (under : List Va
   -- it has an owner, and no condition guards it
   pub consumed_each : (us : List Use) → AllOf (IsThere held c.vars) us → (w : WireId) → consumed_wires W c.vars us w ≡ true → (1 ≤ owners_of W c.vars under w) × (out.guarded w ≡ false)
   consumed_each [] h w e = clash (sym e)
-  consumed_each (u ∷ us) h w e = go (is_consumed u.need) refl (wires_of_part W c.vars u.part w) refl e
+  consumed_each (u ∷ us) h w e = go (is_consumed u.need) refl (wires_of_part W c.vars u.part w) refl e (λ f. consumed_each us h.1 w f)
     where
-      go : (a : Bool) → is_consumed u.need ≡ a → (b : Bool) → wires_of_part W c.vars u.part w ≡ b → ((a && b) || consumed_wires W c.vars us w) ≡ true → (1 ≤ owners_of W c.vars under w) × (out.guarded w ≡ false)
-      go true q true f e = (owned u h.0 q w (there u h.0 w f), loose_wire u h.0 q w (sym (wires_are out held W under c s st u h.0 w) ∙ f))
-      go true q false f e = consumed_each us h.1 w e
-      go false q b f e = consumed_each us h.1 w e
+      go : (a : Bool) → is_consumed u.need ≡ a → (b : Bool) → wires_of_part W c.vars u.part w ≡ b → ((a && b) || consumed_wires W c.vars us w) ≡ true → (consumed_wires W c.vars us w ≡ true → (1 ≤ owners_of W c.vars under w) × (out.guarded w ≡ false)) → (1 ≤ owners_of W c.vars under w) × (out.guarded w ≡ false)
+      go true q true f e i = (owned u h.0 q w (there u h.0 w f), loose_wire u h.0 q w (sym (wires_are out held W under c s st u h.0 w) ∙ f))
+      go true q false f e i = i e
+      go false q b f e i = i e
 
 -- ---- the laws
 

@@ -29,14 +29,14 @@ ands false b c d e = clash (sym e)
 pub new_named : (d : DraftForm) (n : ℕ) (ps : List Operand) → are_new d n ps ≡ true → (w : WireId) → 1 ≤ times_in w ps → (n ≤ w.number) × (is_measured d.steps w ≡ false)
 new_named d n [] e w le = absurd (omega (arith, le))
 new_named d n (Const b ∷ ps) e w le = clash (sym e)
-new_named d n (Literal l ∷ ps) e w le = go (same_wire l.wire w) refl le
+new_named d n (Literal l ∷ ps) e w le = go (same_wire l.wire w) refl le (new_named d n ps (ands l.positive (nat_le n l.wire.number) (is_measured d.steps l.wire) (are_new d n ps) e).1 w)
   where
     all : ((nat_le n l.wire.number ≡ true) × (is_measured d.steps l.wire ≡ false)) × (are_new d n ps ≡ true)
     all = ands l.positive (nat_le n l.wire.number) (is_measured d.steps l.wire) (are_new d n ps) e
 
-    go : (t : Bool) → same_wire l.wire w ≡ t → 1 ≤ cond t (suc (times_in w ps)) (times_in w ps) → (n ≤ w.number) × (is_measured d.steps w ≡ false)
-    go true f le = subst (λ (x : WireId). (n ≤ x.number) × (is_measured d.steps x ≡ false)) (wire_is l.wire w f) (leb-true n l.wire.number all.0.0, all.0.1)
-    go false f le = new_named d n ps all.1 w le
+    go : (t : Bool) → same_wire l.wire w ≡ t → 1 ≤ cond t (suc (times_in w ps)) (times_in w ps) → (1 ≤ times_in w ps → (n ≤ w.number) × (is_measured d.steps w ≡ false)) → (n ≤ w.number) × (is_measured d.steps w ≡ false)
+    go true f le i = subst (λ (x : WireId). (n ≤ x.number) × (is_measured d.steps x ≡ false)) (wire_is l.wire w f) (leb-true n l.wire.number all.0.0, all.0.1)
+    go false f le i = i le
 
 -- operands of the first n wires are none of those
 none_among : (n : ℕ) (ps : List Operand) → ((w : WireId) → 1 ≤ times_in w ps → n ≤ w.number) → (v : WireId) → v.number < n → among (wires_in ps) v ≡ false

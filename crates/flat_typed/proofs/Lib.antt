@@ -17,3 +17,4 @@ pub mod Sharing
 pub mod Mixing
 pub mod Making
 pub mod Keeping
+pub mod Scopes

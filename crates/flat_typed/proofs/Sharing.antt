@@ -43,7 +43,7 @@ module _ (out : Outside) (held : List (List Part)) (W : Places) (under : List Va
     callers = λ w le. r.callers w (before w le);
     guards = r.guards;
     below = r.below;
-    spares = all_bound (SparesGuarded out.guarded held W) c.vars x u r.spares (λ b. clash (sym none_own ∙ b));
+    spares = all_bound (SparesGuarded out.guarded held W) c.vars x u r.spares (λ b. clash (sym b ∙ none_own));
     carried = r.carried;
     owed = λ w d. owed w (r.owed w (record { there = d.there; untold = d.untold; why = d.why }));
   }

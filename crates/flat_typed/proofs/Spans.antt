@@ -25,7 +25,7 @@ use Rattle.flat_typed.proofs.Ordered.{clash}
 -- ---- how often a wire stands in pieces of a list
 
 pub times_append : (w : WireId) (ps qs : List Operand) → times_in w (ps ++ qs) ≡ times_in w ps + times_in w qs
-times_append w [] qs = refl
+times_append w [] qs = omega arith
 times_append w (p ∷ ps) qs = go (named_by w p) (times_append w ps qs)
   where
     go : (t : Bool) → times_in w (ps ++ qs) ≡ times_in w ps + times_in w qs → cond t (suc (times_in w (ps ++ qs))) (times_in w (ps ++ qs)) ≡ cond t (suc (times_in w ps)) (times_in w ps) + times_in w qs
@@ -36,7 +36,7 @@ pub times_split : (w : WireId) (n : ℕ) (ps : List Operand) → times_in w (tak
 times_split w n ps = sym (times_append w (take n ps) (drop n ps)) ∙ ap (times_in w) (take-append-drop n ps)
 
 -- a span, and what stands behind its end
-span_and_rest : (w : WireId) (a m b : ℕ) (ps : List Operand) → a + m ≤ b → times_in w (take m (drop a ps)) + times_in w (drop b ps) ≤ times_in w ps
+pub span_and_rest : (w : WireId) (a m b : ℕ) (ps : List Operand) → a + m ≤ b → times_in w (take m (drop a ps)) + times_in w (drop b ps) ≤ times_in w ps
 span_and_rest w a m b ps h =
     let k : (a + m) + (b - (a + m)) ≡ b = omega (arith, h) in
     let last : drop (b - (a + m)) (drop (a + m) ps) ≡ drop b ps = drop-drop (b - (a + m)) (a + m) ps ∙ ap (λ n. drop n ps) k in

@@ -81,18 +81,18 @@ find_kinds (v ∷ vs) (w ∷ ws) p e =
     go true h = (ap (λ k. k.0) head, (ap (λ k. k.1.0) head, ap (λ k. k.1.1) head))
     go false h = h
 
+abbrev use_as : Part → Ty → Need → List Use
+use_as p t need = record { part = p; need = cond t.classical needs.Held need } ∷ []
+
 pub place_use_kinds : (statics : Statics) (a b : Option Var) (is : Expressions) (need : Need) → SameKind a b → place_use statics a is need ≡ place_use statics b is need
 place_use_kinds statics None None is need h = refl
 place_use_kinds statics None (Some w) is need h = absurd h
 place_use_kinds statics (Some v) None is need h = absurd h
 place_use_kinds statics (Some v) (Some w) is need h = go (index_values statics is)
   where
-    abbrev by : Var → Option (List ℤ) → List Use
-    by v o = record { part = part_or_whole v o; need = cond v.ty.classical needs.Held need } ∷ []
-
-    go : (o : Option (List ℤ)) → by v o ≡ by w o
-    go None = ap₂ (λ (p : Part) (t : Ty). ◌∷◌ {A = Use} (record { part = p; need = cond t.classical needs.Held need }) []) h.0 h.1.0
-    go (Some zs) = ap₂ (λ (p : Part) (t : Ty). ◌∷◌ {A = Use} (record { part = cond (is_some (part_type t.classical t.shape zs)) (part_at p.name zs) p; need = cond t.classical needs.Held need }) []) h.0 h.1.0
+    go : (o : Option (List ℤ)) → use_as (part_or_whole v o) v.ty need ≡ use_as (part_or_whole w o) w.ty need
+    go None = ap₂ (λ (p : Part) (t : Ty). use_as p t need) h.0 h.1.0
+    go (Some zs) = ap₂ (λ (p : Part) (t : Ty). use_as (cond (is_some (part_type t.classical t.shape zs)) (part_at p.name zs) p) t need) h.0 h.1.0
 
 -- an expression reads the kinds of variables alone
 mutual
@@ -105,8 +105,9 @@ mutual
   uses_kinds (place (part x i) s) sc vs ws need h =
       ap₂ (λ a b. a ++ b) (place_use_kinds sc.statics (find_var vs (variable x)) (find_var ws (variable x)) (more i none) need (find_kinds vs ws (variable x) h)) (uses_kinds i sc vs ws needs.Held h)
   uses_kinds (place (part_of_part x i j) s) sc vs ws need h =
-      ap₂ (λ a b. a ++ b) (place_use_kinds sc.statics (find_var vs (variable x)) (find_var ws (variable x)) (more i (more j none)) need (find_kinds vs ws (variable x) h))
-      (ap₂ (λ a b. a ++ b) (uses_kinds i sc vs ws needs.Held h) (uses_kinds j sc vs ws needs.Held h))
+      ap₂ (λ a b. a ++ b)
+      (ap₂ (λ a b. a ++ b) (place_use_kinds sc.statics (find_var vs (variable x)) (find_var ws (variable x)) (more i (more j none)) need (find_kinds vs ws (variable x) h)) (uses_kinds i sc vs ws needs.Held h))
+      (uses_kinds j sc vs ws needs.Held h)
   uses_kinds (called f ss args s) sc vs ws need h = ap₂ (λ a b. a ++ b) (all_uses_kinds ss sc vs ws [] h) (all_uses_kinds args sc vs ws (needs_of sc f) h)
   uses_kinds (tuple es s) sc vs ws need h = all_uses_kinds es sc vs ws [] h
   uses_kinds (unary op e s) sc vs ws need h = uses_kinds e sc vs ws needs.Held h
@@ -190,11 +191,11 @@ mutual
       (uses_not_of x i sc vars needs.Held (or_right (same_name y x) (has_name x (names_in i)) h))
   uses_not_of x (place (part_of_part y i j) s) sc vars need h =
       let rest = or_right (same_name y x) (has_name x (names_in i ++ names_in j)) h in
-      all_join (NotOf x) (place_use sc.statics (find_var vars (variable y)) (more i (more j none)) need) (uses i sc vars needs.Held ++ uses j sc vars needs.Held)
+      all_join (NotOf x) (place_use sc.statics (find_var vars (variable y)) (more i (more j none)) need ++ uses i sc vars needs.Held) (uses j sc vars needs.Held)
+      (all_join (NotOf x) (place_use sc.statics (find_var vars (variable y)) (more i (more j none)) need) (uses i sc vars needs.Held)
       (place_not_of x y sc.statics vars (find_var vars (variable y)) (more i (more j none)) need refl (or_left (same_name y x) (has_name x (names_in i ++ names_in j)) h))
-      (all_join (NotOf x) (uses i sc vars needs.Held) (uses j sc vars needs.Held)
-      (uses_not_of x i sc vars needs.Held (has_front x (names_in i) (names_in j) rest))
-      (uses_not_of x j sc vars needs.Held (has_back x (names_in i) (names_in j) rest)))
+      (uses_not_of x i sc vars needs.Held (has_front x (names_in i) (names_in j) rest)))
+      (uses_not_of x j sc vars needs.Held (has_back x (names_in i) (names_in j) rest))
   uses_not_of x (called f ss args s) sc vars need h =
       all_join (NotOf x) (all_uses ss sc vars []) (all_uses args sc vars (needs_of sc f))
       (all_not_of x ss sc vars [] (has_front x (all_names_in ss) (all_names_in args) h))
