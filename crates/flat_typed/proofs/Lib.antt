@@ -18,3 +18,5 @@ pub mod Mixing
 pub mod Making
 pub mod Keeping
 pub mod Scopes
+pub mod There
+pub mod PlacesThere

@@ -67,8 +67,8 @@ module _ (S : InstanceKey → Signature → Type 0) (low : ℕ) where
   -- the index values of a place, and what its meaning has for them
   pub indices_are : {P : Context → Type 0} (es : Expressions) (sc : Scope) → Ensures S P (all_needed es sc) (λ zs d. ((index_values sc.statics es ≡ Some zs) × (static_values es sc.statics ≡ zs)) × P d)
   indices_are none sc = o_back S low [] (λ c p. ((refl, refl), p))
-  indices_are (more e es) sc =
-      o_bind S low (needed_is sc e) (λ v. o_bind S low (indices_are es sc) (λ vs. o_back S low (v ∷ vs) (λ c h.
+  indices_are {P = P} (more e es) sc =
+      o_bind S low (needed_is sc e) (λ v. o_bind S low (indices_are {P = λ x. (eval_of sc.statics e ≡ Ok v) × P x} es sc) (λ vs. o_back S low (v ∷ vs) (λ c h.
       ((ap₂ with_index h.1.0 h.0.0, ap₂ (λ x l. or_zero x ∷ l) h.1.0 h.0.1), h.1.1))))
 
 none_unknown : (ns : List (NameId × Spot)) → first_unknown (λ x. true) ns ≡ None
@@ -111,6 +111,12 @@ pub record HeaderParts (statics : Statics) (f : Function) (h : Header) : Type 0 
 pub header_parts : (statics : Statics) (f : Function) (h : Header) → header_of statics exact_place f ≡ Ok h → HeaderParts statics f h
 header_parts statics f h e = go (is_lifted f.mark && is_empty f.results) b.rest
   where
+    ok_params : Header → Result (List Param) Fault
+    ok_params k = Ok k.params
+
+    ok_results : Header → Result (List Ty) Fault
+    ok_results k = Ok k.results
+
     made : List Param → List Ty → Header
     made ps rs = record { params = ps; results = rs }
 
@@ -128,12 +134,6 @@ header_parts statics f h e = go (is_lifted f.mark && is_empty f.results) b.rest
     go false g =
         let m = ok_same (made a.first b.first) h g in
         record { params = a.is ∙ ap (λ (k : Header). ok_params k) m; results = b.is ∙ ap (λ (k : Header). ok_results k) m }
-
-    ok_params : Header → Result (List Param) Fault
-    ok_params k = Ok k.params
-
-    ok_results : Header → Result (List Ty) Fault
-    ok_results k = Ok k.results
 
 -- the scope of a body, for its meaning and for its typing
 pub body_scope : (words : List (NameId × BuiltIn)) (before : List Function) (taker : Ty → Receiver) (f : Function) (zs : List ℤ) (h : Header) → header_of (paired f.statics zs) exact_place f ≡ Ok h

@@ -158,7 +158,7 @@ has_front x ns ms e = or_left (has_name x ns) (has_name x ms) (sym (has_append x
 has_back : (x : NameId) (ns ms : List (NameId × Spot)) → has_name x (ns ++ ms) ≡ false → has_name x ms ≡ false
 has_back x ns ms e = or_right (has_name x ns) (has_name x ms) (sym (has_append x ns ms) ∙ e)
 
-name_of_part : (y : NameId) (zs : List ℤ) → (part_at y zs).name ≡ y
+pub name_of_part : (y : NameId) (zs : List ℤ) → (part_at y zs).name ≡ y
 name_of_part y [] = refl
 name_of_part y (i ∷ []) = refl
 name_of_part y (i ∷ (j ∷ js)) = refl
