@@ -93,10 +93,10 @@ out_is (v ∷ vs) x p e = go (is_part v && (v.consumed && same_name v.part.name 
     go false f e i = i e
 
 -- what each variable is to a part that nothing disturbs
-abbrev Beside : Part → Var → Type 0
+abbrev pub Beside : Part → Var → Type 0
 Beside q v = is_part v ≡ true → same_part v.part q ≡ false → overlaps v.part q ≡ false
 
-beside : (vs : List Var) (q : Part) → disturbs vs q ≡ false → AllOf (Beside q) vs
+pub beside : (vs : List Var) (q : Part) → disturbs vs q ≡ false → AllOf (Beside q) vs
 beside [] q e = tt
 beside (v ∷ vs) q e = (one, beside vs q (or_right (not (is_empty (indices v.part)) && not (same_part v.part q) && overlaps v.part q) (disturbs vs q) e))
   where

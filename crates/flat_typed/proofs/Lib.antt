@@ -20,3 +20,5 @@ pub mod Keeping
 pub mod Scopes
 pub mod There
 pub mod PlacesThere
+pub mod Tame
+pub mod Leaving
