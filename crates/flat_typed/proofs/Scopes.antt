@@ -31,6 +31,7 @@ use Rattle.silq_mean.specs.Effect.{Effect, ◌>>◌, step, leave_body}
 use Rattle.silq_mean.specs.Meaning.{or_zero, static_value, static_values, or_bit, scalar_of, type_or_bit, type_of, param_of, parameters_of, scope, body, functions}
 use Rattle.flat_typed.specs.Calls.{parted}
 use Rattle.flat_typed.specs.Scopes.{as_meaning, scope_for}
+use Rattle.flat_typed.specs.Laws.{Stood}
 use Rattle.flat_typed.proofs.Ordered.{clash}
 
 -- ---- answers
@@ -49,7 +50,7 @@ then_ok (Err x) f b e = absurd (grind (arith, e))
 
 -- ---- static values
 
-eval_is : (s : Spot) (r : Result ℤ StaticFault) (z : ℤ) → or_not_static s r ≡ Ok z → r ≡ Ok z
+pub eval_is : (s : Spot) (r : Result ℤ StaticFault) (z : ℤ) → or_not_static s r ≡ Ok z → r ≡ Ok z
 eval_is s (Ok v) z e = ap (λ x. as_ok x) (ok_same v z e)
   where
     as_ok : ℤ → Result ℤ StaticFault
@@ -149,13 +150,6 @@ body_scope words before taker f zs h e =
     }) (results_are taker (paired f.statics zs) f.results h.results (header_parts (paired f.statics zs) f h e).results)
 
 -- ---- functions by name
-
--- a function that is found, with those before it, and what a call of it does
-pub record Stood (words : List (NameId × BuiltIn)) (funs : List Function) (f : NameId) (zs : List ℤ) (g : Found) : Type 0 where
-  pub before : List Function
-  pub apart : parted funs g.number ≡ Some (g.fun, before)
-  pub does : functions words funs f zs ≡ (body words before (functions words before) CallResult g.fun (paired g.fun.statics zs) >> step leave_body)
-  pub below : g.number < length funs
 
 pub found_stands : (words : List (NameId × BuiltIn)) (funs : List Function) (f : NameId) (zs : List ℤ) (g : Found) → find_fun funs f ≡ Some g → Stood words funs f zs g
 found_stands words [] f zs g e = absurd (grind (arith, e))

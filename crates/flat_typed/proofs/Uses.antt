@@ -144,7 +144,7 @@ consumed_kinds W vs ws (u ∷ us) w h =
 abbrev pub NotOf : NameId → Use → Type 0
 NotOf x u = same_name u.part.name x ≡ false
 
-all_join : {A : Type 0} (Q : A → Type 0) (xs ys : List A) → AllOf Q xs → AllOf Q ys → AllOf Q (xs ++ ys)
+pub all_join : {A : Type 0} (Q : A → Type 0) (xs ys : List A) → AllOf Q xs → AllOf Q ys → AllOf Q (xs ++ ys)
 all_join Q [] ys h k = k
 all_join Q (x ∷ xs) ys h k = (h.0, all_join Q xs ys h.1 k)
 

@@ -1,21 +1,26 @@
 -- Uses of parts that are there, which typing gives of each use of an accepted expression.
-use Rattle.std.specs.Prelude.{◌≡◌, ℕ, ◌≤◌, true, false, List, Some}
+use Rattle.std.specs.Prelude.{◌≡◌, ℕ, ◌≤◌, true, false, List, Some, ⊤}
+use Rattle.silq_tree.specs.declared.node.Spot.{Spot}
+use Rattle.silq_tree.specs.Syntax.{Place}
 use Rattle.silq_types.specs.declared.types.Ty.{Ty}
 use Rattle.silq_types.specs.declared.values.Part.{Part}
 use Rattle.silq_types.specs.declared.values.Value.{Value}
 use Rattle.silq_types.specs.declared.values.Var.{Var}
+use Rattle.silq_types.specs.Types.{place_name, place_indices}
+use Rattle.silq_types.specs.declared.need.Need.{Need}
 use Rattle.silq_types.specs.Calls.{is_consumed}
 use Rattle.check_scope.specs.declared.uses.Use.{Use}
-use Rattle.check_scope.specs.Context.{Context, indices, variable, part_at, find_var, part_type, overlaps, is_in_condition}
-use Rattle.check_scope.specs.Places.{disturbs}
-use Rattle.check_scope.specs.Uses.{both_consume, consume_and_hold}
+use Rattle.check_scope.specs.Context.{Scope, Context, indices, variable, part_at, find_var, part_type, overlaps, is_in_condition}
+use Rattle.check_scope.specs.Places.{disturbs, use_place}
+use Rattle.check_scope.specs.Uses.{place_use, both_consume, consume_and_hold}
+use Rattle.check_expr.specs.Owners.{Gives}
 use Rattle.flat_core.specs.declared.step.WireId.{WireId}
 use Rattle.flat_form.specs.declared.known.Known.{Known}
 use Rattle.flat_form.specs.State.{Flattening, wires_so_far}
 use Rattle.flat_form.specs.Names.{AllOf, names}
 use Rattle.flat_typed.specs.Places.{Places, is_shared}
 use Rattle.flat_typed.specs.Footprint.{used_wires, consumed_wires, Within}
-use Rattle.flat_typed.specs.Relation.{Outside, Stands}
+use Rattle.flat_typed.specs.Relation.{FitsPart, Outside, Stands}
 use Rattle.flat_typed.specs.Done.{changeable}
 
 -- the variable is not consumed, the index values lead to a part of it, and no part that was taken out overlaps this one. Where it is consumed, its
@@ -45,3 +50,11 @@ ConsumedMayChange =
     (out : Outside) (held : List (List Part)) (W : Places) (under : List Value) (c : Context) (s : Flattening) (us : List Use) →
     Stands out held W under c s → AllOf (IsThere held c.vars) us →
     (w : WireId) → consumed_wires W c.vars us w ≡ true → changeable out W c.vars under w ≡ true
+
+-- the part that the use of a place names is there
+abbrev pub PlacesAreThere : Type 0
+PlacesAreThere =
+    (w : Place) (s : Spot) (sc : Scope) (need : Need) (c : Context) →
+    Gives (λ k s. ⊤)
+    (λ r. (W : Places) → AllOf (FitsPart W c.vars) c.vars → AllOf (IsThere sc.held c.vars) (place_use sc.statics (find_var c.vars (variable (place_name w))) (place_indices w) need))
+    (use_place sc w s need c)
