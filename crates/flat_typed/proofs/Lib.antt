@@ -22,3 +22,5 @@ pub mod There
 pub mod PlacesThere
 pub mod Tame
 pub mod Leaving
+pub mod UsesThere
+pub mod WalkThere
