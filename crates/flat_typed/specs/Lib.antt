@@ -1,0 +1,9 @@
+pub mod Places
+pub mod Footprint
+pub mod Relation
+pub mod Scopes
+pub mod Done
+pub mod Calls
+pub mod Lemmas
+pub mod Uses
+pub mod Laws
