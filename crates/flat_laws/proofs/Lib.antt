@@ -29,3 +29,7 @@ pub mod EndsMine
 pub mod EndsSound
 pub mod EndsLists
 pub mod EndsWhole
+pub mod PathTerms
+pub mod Sampling
+pub mod ParameterLists
+pub mod PathJoints

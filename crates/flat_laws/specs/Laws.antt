@@ -53,8 +53,8 @@ FlatHasTheMeaning = (j : Job) (input : List Bool) (o : Outcome) → FineJob j �
 abbrev pub EachZero : FlatForm → List WireTerm → Type 0
 EachZero f us = AllOf (λ u. (w : WireId) → end_of f w ≡ Zeroed → u.row w.number ≡ false) us
 
-abbrev pub ZeroedAreZero : Type 0
-ZeroedAreZero = (j : Job) (input : List Bool) (o : Outcome) → FineJob j → length input ≡ total_size j.shapes → Honest j input → EachZero (flattened j).form (do_steps o (flattened j).form.steps (first_term (input_row (flattened j).form.wires (bits_of input)) ∷ []))
+abbrev pub ZeroedEndAtZero : Type 0
+ZeroedEndAtZero = (j : Job) (input : List Bool) (o : Outcome) → FineJob j → length input ≡ total_size j.shapes → Honest j input → EachZero (flattened j).form (do_steps o (flattened j).form.steps (first_term (input_row (flattened j).form.wires (bits_of input)) ∷ []))
 
 -- ---- ends
 
