@@ -37,7 +37,7 @@ use Rattle.flat_form.specs.Good.{Good, IsKnown}
 use Rattle.flat_form.specs.Fine.{IsOf}
 use Rattle.flat_form.specs.Shows.{Shows, ListBoth, Related}
 use Rattle.flat_form.specs.Jobs.{FineJob}
-use Rattle.flat_laws.specs.Laws.{FlatHasTheMeaning, EachZero, ZeroedAreZero}
+use Rattle.flat_laws.specs.Laws.{FlatHasTheMeaning, EachZero, ZeroedEndAtZero}
 use Rattle.flat_form.proofs.Both.{both_reverse, all_reverse, all_weak}
 use Rattle.flat_form.proofs.Kept.{known_map}
 use Rattle.flat_form.proofs.Later.{end_all_length, end_all_steps, end_all_input}
@@ -146,7 +146,7 @@ inputs_show input row r (s ∷ ss) b le =
 
 -- ---- the values at the end
 
-known_bits : (row : Row) (k : Known) (w : Value) → IsOf (λ v. are_wires v.operands ≡ true) k → Shows row k w → values_of (wires_in (operands_of k)) row ≡ value_bits w
+pub known_bits : (row : Row) (k : Known) (w : Value) → IsOf (λ v. are_wires v.operands ≡ true) k → Shows row k w → values_of (wires_in (operands_of k)) row ≡ value_bits w
 known_bits row (Static z) w a h = absurd a
 known_bits row (Lent i j v) w a h = absurd a
 known_bits row Absent w a h = absurd a
@@ -266,7 +266,7 @@ begin_ends (s ∷ ss) b w z = inputs_ends (shape_bits s) b w (begin_ends ss (inp
 pub none_zeroed : (ss : List Shape) (w : WireId) → zeroed (begin ss).built.draft w ≡ true → ⊥
 none_zeroed ss w z = clash (begin_ends ss (begun empty_draft) w z)
 
-pub zeroed_are_zero : ZeroedAreZero
+pub zeroed_are_zero : ZeroedEndAtZero
 zeroed_are_zero j input o fine size honest =
     let first : Flattening = begin j.shapes in
     let s : Flattening = flat j.effect first in

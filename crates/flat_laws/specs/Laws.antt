@@ -1,27 +1,25 @@
 -- The flat form has the meaning of the source.
-use Rattle.std.specs.Prelude.{◌≡◌, ◌<◌, Bool, true, false, List, [], ◌∷◌, ◌++◌, length, None}
+use Rattle.std.specs.Prelude.{◌≡◌, Bool, true, false, List, [], ◌∷◌, ◌++◌, length, None}
 use Rattle.amp_core.specs.declared.Amp.{Amp}
 use Rattle.silq_mean.specs.Effect.{Effect, Outcome, follow}
 use Rattle.silq_mean.specs.Table.{Job, total_size, meaning, Honest}
 use Rattle.silq_mean.specs.Term.{Term}
 use Rattle.flat_core.specs.declared.step.WireId.{WireId}
-use Rattle.flat_core.specs.declared.step.StepId.{StepId}
 use Rattle.flat_core.specs.declared.step.Step.{Step}
-use Rattle.flat_core.specs.declared.step.End.TheVariants.{Dropped, Zeroed}
+use Rattle.flat_core.specs.declared.step.End.TheVariants.{Zeroed}
 use Rattle.flat_core.specs.Form.{FlatForm}
-use Rattle.flat_core.specs.Label.{changes, step_at, end_of, is_input}
-use Rattle.flat_core.specs.Sound.{is_x, joined, IsFlat}
+use Rattle.flat_core.specs.Label.{end_of}
+use Rattle.flat_core.specs.Sound.{joined, IsFlat}
 use Rattle.flat_core.specs.Drafts.{FitsEnds}
 use Rattle.flat_mean.specs.Row.{bits_of}
 use Rattle.flat_mean.specs.Path.{input_row}
 use Rattle.flat_mean.specs.Terms.{Term as WireTerm, first_term, do_steps, seen_at}
-use Rattle.bit_arith.specs.Calls.{AreTargets}
 use Rattle.bit_arith.specs.Values.{Clean, forced}
-use Rattle.flat_form.specs.State.{Flattening, are_wires}
-use Rattle.flat_form.specs.Flat.{flat, begin, flattened}
+use Rattle.flat_form.specs.State.{Flattening}
+use Rattle.flat_form.specs.Flat.{flat, flattened}
 use Rattle.flat_form.specs.Names.{AllOf}
 use Rattle.flat_form.specs.Good.{Good}
-use Rattle.flat_form.specs.Fine.{Distinct, Fine, IsOf}
+use Rattle.flat_form.specs.Fine.{Fine}
 use Rattle.flat_form.specs.Jobs.{FineJob, EndsWell}
 use Rattle.flat_form.specs.Shows.{ListBoth, Related}
 
@@ -53,8 +51,8 @@ FlatHasTheMeaning = (j : Job) (input : List Bool) (o : Outcome) → FineJob j �
 abbrev pub EachZero : FlatForm → List WireTerm → Type 0
 EachZero f us = AllOf (λ u. (w : WireId) → end_of f w ≡ Zeroed → u.row w.number ≡ false) us
 
-abbrev pub ZeroedAreZero : Type 0
-ZeroedAreZero = (j : Job) (input : List Bool) (o : Outcome) → FineJob j → length input ≡ total_size j.shapes → Honest j input → EachZero (flattened j).form (do_steps o (flattened j).form.steps (first_term (input_row (flattened j).form.wires (bits_of input)) ∷ []))
+abbrev pub ZeroedEndAtZero : Type 0
+ZeroedEndAtZero = (j : Job) (input : List Bool) (o : Outcome) → FineJob j → length input ≡ total_size j.shapes → Honest j input → EachZero (flattened j).form (do_steps o (flattened j).form.steps (first_term (input_row (flattened j).form.wires (bits_of input)) ∷ []))
 
 -- ---- ends
 

@@ -1,6 +1,6 @@
 //! Laws of flat forms, each a contract over the definitions alone.
 
-ghost use Rattle.flat_laws.specs.Laws.{EffectsFollow, FlatHasTheMeaning, ZeroedAreZero, EndsFit, WithinLimitsFlat};
+ghost use Rattle.flat_laws.specs.Laws.{EffectsFollow, FlatHasTheMeaning, ZeroedEndAtZero, EndsFit, WithinLimitsFlat};
 
 /// Step by step the terms of the flat form show those of the source, in the same order; where the condition in force does not hold the
 /// steps leave each term as it is.
@@ -15,7 +15,7 @@ pub fn flat_has_the_meaning()
 
 /// Where each forget of a program is true, each wire that the flat form says is Zeroed is 0 on every term at the end.
 pub fn zeroed_are_zero()
-    ensures { ZeroedAreZero }
+    ensures { ZeroedEndAtZero }
 {}
 
 /// The ends and the lists of the form that is made of a program fit: what is measured has its M, the lists of parameters name the inputs,

@@ -1,0 +1,4 @@
+mod PathTerms
+mod Sampling
+mod ParameterLists
+mod PathJoints
