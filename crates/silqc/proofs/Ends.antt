@@ -1,5 +1,6 @@
 -- How a command ends.
-use Rattle.std.proofs.Common.{◌≡◌, ℕ, ◌<◌, ◌≤◌, List, length, Option, Some, None, IfSome, refl, subst, sym}
+use Rattle.std.proofs.Common.{◌≡◌, ℕ, ◌<◌, ◌≤◌, List, [], ◌++◌, length, Option, Some, None, IfSome, refl, subst, sym, arith}
+use Rattle.std.proofs.lemmas.Grind.{common_steps}
 use Rattle.silq_io.specs.Sinks.{Adds, Breaks}
 use Rattle.silqc.specs.declared.status.Status.TheVariants.{OverBudget}
 use Rattle.silqc.specs.Job.{Job}
@@ -10,6 +11,19 @@ use Rattle.silqc.specs.Headline.{PutsText, BreaksText, HasOtherForm, NeedsMore}
 use Rattle.silqc.specs.Text.{text_of}
 use Rattle.silqc.proofs.Faults.{whole}
 use Rattle.silqc.proofs.Meaning.{compiles}
+
+nothing_more : (xs : List ℕ) → xs ≡ xs ++ []
+nothing_more xs = grind (arith, common_steps)
+
+-- what put nothing
+pub adds_nothing : (put : Option (List ℕ)) → Adds put put []
+adds_nothing None = tt
+adds_nothing (Some bytes) = (bytes, refl, nothing_more bytes)
+
+-- of a file within the limit nothing is left
+pub read_whole : (held left : Option (List ℕ)) (bytes : List ℕ) → AreRead 1048576 held left bytes → length bytes ≤ 1048576 → IfSome held (λ all. left ≡ Some [])
+read_whole None left bytes read short = tt
+read_whole (Some all) left bytes read short = read.1 short
 
 module _ (job : Job) (held left : Option (List ℕ)) (bytes : List ℕ) (read : AreRead 1048576 held left bytes) (short : length bytes ≤ 1048576) where
   pub other_form : (first_file_fault bytes ≡ None) × ((form : Form) → IsProgram job.entry bytes form → ⊥) → IfSome held (HasOtherForm job)

@@ -4,7 +4,7 @@ use Rattle.silqc.specs.declared.status.Status.TheVariants.{Syntax}
 use Rattle.silqc.specs.Program.{IsProgram}
 use Rattle.silqc.specs.Refusal.{Refuses}
 use Rattle.silqc.proofs.Faults.{syntax_told}
-use Rattle.silqc.proofs.Ends.{other_form, budget_told, text_put, text_broke}
+use Rattle.silqc.proofs.Ends.{other_form, budget_told, text_put, text_broke, adds_nothing, read_whole}
 use Rattle.silqc.proofs.compile.Goals as goal
 
 pub returns-in-Err-clause-syntax : goal.returns-in-Err-clause-syntax
@@ -50,3 +50,10 @@ returns-clause-broken g c =
     (rw c.deref.ensures.value at c.in-Ok-text.ensures.short)
     (record { bits = c.in-Ok-read_program.form.bits; steps = c.in-Ok-read_program.form.steps.items }) _ _ (subst (λ t. IsProgram c.args.entry.now t (record { bits = c.in-Ok-read_program.form.bits; steps = c.in-Ok-read_program.form.steps.items })) same c.in-Ok-read_program.ensures.program)
     (omega (arith, c.if-form-budget.false)) c.in-Err-write_text.ensures.broken
+
+pub returns-in-Err-Fault-clause-refused : goal.returns-in-Err-Fault-clause-refused
+returns-in-Err-Fault-clause-refused g c = λ ends fails. adds_nothing (g.S.Sink.put_so_far c.args.out.now)
+
+pub returns-in-Ok-write_text-clause-read_whole : goal.returns-in-Ok-write_text-clause-read_whole
+returns-in-Ok-write_text-clause-read_whole g c =
+    λ is. read_whole _ _ c.in-Ok.bytes.items c.in-Ok.ensures.read (rw c.deref.ensures.value at c.in-Ok-text.ensures.short)

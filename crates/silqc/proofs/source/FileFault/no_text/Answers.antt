@@ -1,8 +1,4 @@
-use Rattle.std.proofs.Common.{rules, ◌≡◌, ◌≤◌, ◌<◌, ℕ, Bool, true, false, length, take, sym, ap, ◌∙◌, refl, arith}
-use Rattle.std.proofs.lemmas.Grind.{common_steps}
-use Rattle.std.proofs.lemmas.Str.{utf8_valid_len_le}
-use Rattle.std.specs.Str.Lossy.{utf8_valid_len}
-use Rattle.silqc.specs.Program.{begins_text}
+use Rattle.std.proofs.Common.{◌≤◌, ◌<◌, ℕ, sym, ◌∙◌, arith}
 use Rattle.silqc.proofs.Faults.{long, no_text}
 use Rattle.silqc.proofs.source.FileFault.no_text.Goals as goal
 use Rattle.silqc.proofs.source.FileFault.no_text.Goals.{else-cut-via-then-cut+else-bytes-gt-SOURCE_LIMIT, else-cut-via-else-cut}
