@@ -22,3 +22,6 @@ pub mod There
 pub mod PlacesThere
 pub mod Tame
 pub mod Leaving
+pub mod Flipping
+pub mod Touching
+pub mod Telling
