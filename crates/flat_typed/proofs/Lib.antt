@@ -25,3 +25,6 @@ pub mod Leaving
 pub mod Flipping
 pub mod Touching
 pub mod Telling
+pub mod Placing
+pub mod Taking
+pub mod Receiving
