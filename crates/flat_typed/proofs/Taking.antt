@@ -123,7 +123,7 @@ module _ (out : Outside) (held : List (List Part)) (W : Places) (used consumed :
         untold = ap (λ (x : WireForm). x.ending) (f.new w a lt);
       }
 
-  carried_copy : Around out W n low under c s v (Shown u) → low ≤ v.place → Stands out held W under c s → Carries (copied s.setting u.operands s.built)
+  pub carried_copy : Around out W n low under c s v (Shown u) → low ≤ v.place → Stands out held W under c s → Carries (copied s.setting u.operands s.built)
   carried_copy a new r = record {
     after = with_place W v.place (copied s.setting u.operands s.built).answer;
     agree = place_agrees W low v.place (copied s.setting u.operands s.built).answer new;
@@ -197,7 +197,7 @@ module _ (out : Outside) (held : List (List Part)) (W : Places) (used consumed :
         go false e false f = subst Carries (is false false e f) (carried_copy a (o.borrowed consumes e).0 (subst (λ l. Stands out held W (l ++ under) c s) (carries_none e) r))
 
   -- without what it carries
-  bare : (need : Need) → (is_consumed need ≡ true → is_linear v.origin ≡ false) → Stands out held W (carrying need (v ∷ []) (Shown u ∷ []) ++ under) c s → Stands out held W under c s
+  pub bare : (need : Need) → (is_consumed need ≡ true → is_linear v.origin ≡ false) → Stands out held W (carrying need (v ∷ []) (Shown u ∷ []) ++ under) c s → Stands out held W under c s
   bare need lifted r = go (is_consumed need) refl u.own refl
     where
       is : (x y : Bool) → is_consumed need ≡ x → u.own ≡ y → carrying need (v ∷ []) (Shown u ∷ []) ≡ cond (x && y) (v ∷ []) []
