@@ -28,3 +28,7 @@ pub mod Telling
 pub mod Placing
 pub mod Taking
 pub mod Receiving
+pub mod Giving
+pub mod Measured
+pub mod Ranges
+pub mod Borrowing
