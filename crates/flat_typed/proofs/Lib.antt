@@ -32,3 +32,4 @@ pub mod Giving
 pub mod Measured
 pub mod Ranges
 pub mod Borrowing
+pub mod Variables
