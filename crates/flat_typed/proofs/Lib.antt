@@ -33,3 +33,4 @@ pub mod Measured
 pub mod Ranges
 pub mod Borrowing
 pub mod Variables
+pub mod Quiet
