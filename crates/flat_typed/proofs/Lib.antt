@@ -34,3 +34,4 @@ pub mod Ranges
 pub mod Borrowing
 pub mod Variables
 pub mod Quiet
+pub mod Behind
