@@ -1,5 +1,5 @@
 -- A step behind an expression that gives one value: both together, as an expression; `dup` of an expression.
-use Rattle.std.proofs.Common.{◌≡◌, ℕ, suc, ◌≤◌, List, [], ◌∷◌, ◌++◌, drop, ℤ, refl, sym, ap, ◌∙◌, subst, arith}
+use Rattle.std.proofs.Common.{◌≡◌, suc, ◌≤◌, List, [], ◌∷◌, ◌++◌, drop, ℤ, refl, ap, ◌∙◌, subst}
 use Rattle.std.specs.Prelude.{reverse}
 use Rattle.silq_types.specs.declared.values.Origin.TheVariants.{Lifted}
 use Rattle.silq_types.specs.declared.values.Value.{Value}

@@ -35,3 +35,4 @@ pub mod Borrowing
 pub mod Variables
 pub mod Quiet
 pub mod Behind
+pub mod Outcomes
