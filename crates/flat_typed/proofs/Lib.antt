@@ -36,3 +36,4 @@ pub mod Variables
 pub mod Quiet
 pub mod Behind
 pub mod Outcomes
+pub mod Lending
