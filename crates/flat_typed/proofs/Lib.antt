@@ -37,3 +37,4 @@ pub mod Quiet
 pub mod Behind
 pub mod Outcomes
 pub mod Lending
+pub mod LentParts
