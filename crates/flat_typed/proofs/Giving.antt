@@ -141,9 +141,11 @@ module _ (out : Outside) (held : List (List Part)) (W : Places) (need : Need) (u
   pub copy_done : last s ≡ Shown u → u.shape ≡ x.ty.shape → low ≤ p → n ≤ wires_so_far s → n ≤ u.began → Fresh s.built.draft → Stands out held W under c s
       → GivesValue out held W need used consumed n low under c s (drop 1 s.values) copy_of (flat_step copy_last s) × FineStep copy_last s
   copy_done e same le grown began fresh r =
-      subst (λ k. GivesValue out held W need used consumed n low under c s (drop 1 s.values) copy_of (give_copy k (drop_last s)) × IsAny k) (sym e)
-      (gives_borrowed out held W need used consumed n low under c s (drop 1 s.values) copy_of false u.shape u.began (copied s.setting u.operands s.built)
-      (record { class = refl; shape = same; unheld = refl; lifted = refl; place = le }) began fresh (copied_works used n s u.operands grown) r, tt)
+      subst (λ k. GivesValue out held W need used consumed n low under c s (drop 1 s.values) copy_of (give_copy k (drop_last s)) × IsAny k) (sym e) (
+        gives_borrowed out held W need used consumed n low under c s (drop 1 s.values) copy_of false u.shape u.began (copied s.setting u.operands s.built)
+            (record { class = refl; shape = same; unheld = refl; lifted = refl; place = le }) began fresh (copied_works used n s u.operands grown) r,
+        tt,
+      )
 
   abbrev pub copies_of : ℤ → Value
   copies_of m = record { ty = quantum (many_of x.ty.shape m); origin = Lifted; place = p }
@@ -158,10 +160,11 @@ module _ (out : Outside) (held : List (List Part)) (W : Places) (need : Need) (u
   pub repeat_done : (m : ℤ) → last (drop_last s) ≡ Static m → last s ≡ Shown u → u.shape ≡ x.ty.shape → is_scalar x.ty.shape ≡ true → low ≤ p → n ≤ wires_so_far s → n ≤ u.began → Fresh s.built.draft → Stands out held W under c s
       → GivesValue out held W need used consumed n low under c s (drop 1 (drop 1 s.values)) (copies_of m) (flat_step repeat_last s) × FineStep repeat_last s
   repeat_done m d e same scalar le grown began fresh r =
-      subst (λ k. Both k (last s)) (sym d) (subst (λ k. Both (Static m) k) (sym e)
-      (gives_borrowed out held W need used consumed n low under c s (drop 1 (drop 1 s.values)) (copies_of m) false (array_of u.shape (nat_abs m)) u.began (copied s.setting (repeated (nat_abs m) u.operands) s.built)
-      (record { class = refl; shape = same_array u.shape m (ap is_scalar same ∙ scalar) ∙ ap (λ t. many_of t m) same; unheld = refl; lifted = refl; place = le }) began fresh (copied_works used n s (repeated (nat_abs m) u.operands) grown) r,
-      (tt, ap is_scalar same ∙ scalar)))
+      subst (λ k. Both k (last s)) (sym d) (subst (λ k. Both (Static m) k) (sym e) (
+        gives_borrowed out held W need used consumed n low under c s (drop 1 (drop 1 s.values)) (copies_of m) false (array_of u.shape (nat_abs m)) u.began (copied s.setting (repeated (nat_abs m) u.operands) s.built)
+            (record { class = refl; shape = same_array u.shape m (ap is_scalar same ∙ scalar) ∙ ap (λ t. many_of t m) same; unheld = refl; lifted = refl; place = le }) began fresh (copied_works used n s (repeated (nat_abs m) u.operands) grown) r,
+        (tt, ap is_scalar same ∙ scalar),
+      ))
     where
       Both : Known → Known → Type 0
       Both k l = GivesValue out held W need used consumed n low under c s (drop 1 (drop 1 s.values)) (copies_of m) (give_repeated k l (drop_last (drop_last s))) × (IsStatic k × IsOf (λ v. is_scalar v.shape ≡ true) l)

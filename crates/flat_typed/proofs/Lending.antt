@@ -1,21 +1,19 @@
 -- A part that was taken out is under way: its variable shows what stands outside it.
-use Rattle.std.proofs.Common.{◌≡◌, ℕ, ◌+◌, Bool, true, false, cond, not, ◌&&◌, ◌||◌, List, [], ◌∷◌, refl, sym, ap, ap₂, ◌∙◌, subst, arith}
-use Rattle.std.specs.Prelude.{Option, Some, None}
+use Rattle.std.proofs.Common.{◌≡◌, ◌+◌, Bool, true, false, cond, not, ◌&&◌, ◌||◌, List, [], ◌∷◌, refl, sym, ap, ap₂, ◌∙◌, arith}
+use Rattle.std.specs.Prelude.{Some, None}
 use Rattle.silq_tree.specs.declared.node.NameId.{NameId}
 use Rattle.silq_types.specs.declared.values.Part.{Part}
 use Rattle.silq_types.specs.declared.values.Var.{Var}
 use Rattle.silq_types.specs.Types.{same_name}
 use Rattle.check_scope.specs.Context.{variable, same_part, find_var, replace}
 use Rattle.check_expr.proofs.Alike.{same_part_same}
-use Rattle.silq_mean.specs.Env.{Env, in_its_block}
 use Rattle.flat_core.specs.declared.step.WireId.{WireId}
-use Rattle.flat_form.specs.declared.known.Known.{Known}
 use Rattle.flat_form.specs.declared.known.Known.TheVariants.{Absent}
 use Rattle.flat_form.specs.Names.{AllOf, operands_in}
-use Rattle.flat_typed.specs.Places.{Places, is_part, is_shared, has_wires, part_out, less_part, bits_for, shown, entries, in_order, times_in, holds, holders}
+use Rattle.flat_typed.specs.Places.{Places, is_part, is_shared, part_out, less_part, bits_for, shown, entries, times_in, holds, holders}
 use Rattle.flat_typed.specs.Relation.{HasNone, PartsDiffer}
-use Rattle.flat_typed.proofs.Ordered.{clash, Once, changed, its_in_order}
-use Rattle.flat_typed.proofs.Parts.{some_same, name_refl, named_so, part_other, once_entries}
+use Rattle.flat_typed.proofs.Ordered.{changed}
+use Rattle.flat_typed.proofs.Parts.{some_same, name_refl, named_so, part_other}
 use Rattle.flat_typed.proofs.Moving.{spent, all_more}
 
 and_none : (a : Bool) → (a && false) ≡ false

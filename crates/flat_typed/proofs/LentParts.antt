@@ -1,24 +1,24 @@
 -- A part that was taken out is consumed: the relation stands with its value under way, and its variable lent.
-use Rattle.std.proofs.Common.{◌≡◌, ◌⊎◌, inl, inr, ℕ, ◌+◌, ◌≤◌, Bool, true, false, cond, not, ◌&&◌, ◌||◌, List, [], ◌∷◌, refl, sym, ap, ap₂, ◌∙◌, subst, arith}
-use Rattle.std.specs.Prelude.{Option, Some, None, ℤ}
+use Rattle.std.proofs.Common.{◌≡◌, ◌⊎◌, inl, inr, ℕ, ◌+◌, ◌≤◌, Bool, true, false, cond, not, ◌||◌, List, [], ◌∷◌, refl, sym, ap, ap₂, ◌∙◌, subst, arith}
+use Rattle.std.specs.Prelude.{Option, Some, None}
 use Rattle.silq_tree.specs.declared.node.NameId.{NameId}
 use Rattle.silq_types.specs.declared.values.Origin.{Origin}
 use Rattle.silq_types.specs.declared.values.Part.{Part}
 use Rattle.silq_types.specs.declared.values.Value.{Value}
 use Rattle.silq_types.specs.declared.values.Var.{Var}
-use Rattle.silq_types.specs.Types.{same_name, shape_bits, is_linear, is_held}
+use Rattle.silq_types.specs.Types.{same_name, is_linear, is_held}
 use Rattle.check_scope.specs.Context.{Context, indices, variable, part_at, same_part, find_var, replace, is_in_condition}
 use Rattle.check_expr.proofs.Alike.{same_part_same}
 use Rattle.silq_mean.specs.Env.{in_its_block}
 use Rattle.flat_core.specs.declared.step.WireId.{WireId}
 use Rattle.flat_form.specs.declared.known.Known.{Known}
 use Rattle.flat_form.specs.declared.known.Known.TheVariants.{Absent}
-use Rattle.flat_form.specs.State.{Flattening, push, wires_in, part_shape, part_start, part_of}
+use Rattle.flat_form.specs.State.{Flattening, push, wires_in, part_of}
 use Rattle.flat_form.specs.Names.{AllOf, operands_in, names}
-use Rattle.flat_typed.specs.Places.{Places, is_part, is_shared, has_wires, part_out, less_part, bits_for, shown, times_in, holds, holders, linear_holders, carriers, linear_carriers, owners_of, linear_owners}
+use Rattle.flat_typed.specs.Places.{Places, is_part, is_shared, has_wires, part_out, less_part, bits_for, shown, times_in, holds, holders, linear_holders, owners_of, linear_owners}
 use Rattle.flat_typed.specs.Relation.{FitsPart, HasNone, IsPartOf, Outside, PartsDiffer, SparesGuarded, Stands}
 use Rattle.flat_typed.proofs.Ordered.{clash, Once, changed, its_in_order, same_is_equal}
-use Rattle.flat_typed.proofs.Parts.{some_same, name_refl, named_so, part_other, found_there, once_entries}
+use Rattle.flat_typed.proofs.Parts.{some_same, name_refl, named_so, found_there, once_entries}
 use Rattle.flat_typed.proofs.Changes.{whole_is}
 use Rattle.flat_typed.proofs.Moving.{spent, handed_on, all_replaced, all_more, found_all}
 use Rattle.flat_typed.proofs.Spans.{part_and_outside}
@@ -158,7 +158,7 @@ module _ (out : Outside) (held : List (List Part)) (W : Places) (under : List Va
   linear_lent w =
       let a = part_sum (λ v. cond (is_linear v.origin) (holds W after w v) 0) (linear_holders W after w) (λ v vs. refl) p (linear_part after w (spent p) part ∙ sym (linear_part after w p part)) c.vars found in
       let b = one_sum (λ v. cond (is_linear v.origin) (holds W after w v) 0) (λ v. cond (is_linear v.origin) (holds W c.vars w v) 0) (linear_holders W after w) (linear_holders W c.vars w) (λ v vs. refl) (λ v vs. refl) refl x
-              (λ v t. linear_part after w v t ∙ sym (linear_part c.vars w v t)) (λ v n. ap (λ m. cond (is_linear v.origin) m 0) (other_holds w v n)) o (cond (is_linear p.origin) (times_in w (W p.place)) 0) (linear_split w) c.vars owner r.differ in
+      (λ v t. linear_part after w v t ∙ sym (linear_part c.vars w v t)) (λ v n. ap (λ m. cond (is_linear v.origin) m 0) (other_holds w v n)) o (cond (is_linear p.origin) (times_in w (W p.place)) 0) (linear_split w) c.vars owner r.differ in
       omega (arith, a, b)
 
   -- what has the variable's name does not share its wires

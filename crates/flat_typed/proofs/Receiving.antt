@@ -233,10 +233,12 @@ module _ (out : Outside) (held : List (List Part)) (W : Places) (used consumed :
   End k = TakesOver out held W used consumed n low r under c s v (receive_value r k (drop_last s)) × IsAny k
 
   shown_end : (u : TypedBits) → IsAnswer W (need_of r) used consumed n low v (Shown u) → Around out W n low under c s v (Shown u) → IsSuited low r v (Shown u) → Stands out held W (carrying (need_of r) (v ∷ []) (Shown u ∷ []) ++ under) c s → End (Shown u)
-  shown_end u h a f st =
-      (receive_shown out held W used consumed n low under c s v u r
-      (record { shape = h.typed.0; own = h.own; borrowed = h.borrowed; moved = h.moved; within = h.within; began = h.began; differ = h.differ }) a
-      (suits_with low r v (Shown u) u f (class r) (λ e. sym h.typed.1 ∙ e)) st, tt)
+  shown_end u h a f st = (
+    receive_shown out held W used consumed n low under c s v u r
+        (record { shape = h.typed.0; own = h.own; borrowed = h.borrowed; moved = h.moved; within = h.within; began = h.began; differ = h.differ }) a
+        (suits_with low r v (Shown u) u f (class r) (λ e. sym h.typed.1 ∙ e)) st,
+    tt,
+  )
     where
       class : (q : Receiver) → class_for q u ≡ (taken_type q v).classical
       class Variable = h.typed.1
@@ -246,30 +248,32 @@ module _ (out : Outside) (held : List (List Part)) (W : Places) (used consumed :
 
   static_end : (z : ℤ) (k : Scalar) → single_shape k ≡ v.ty.shape → (r ≡ Variable → ⊥) → IsAnswer W (need_of r) used consumed n low v (Static z) → Around out W n low under c s v (Static z) → IsSuited low r v (Static z)
       → Stands out held W (carrying (need_of r) (v ∷ []) (Static z ∷ []) ++ under) c s → End (Shown (bits_of (wires_so_far s) k z))
-  static_end z k e nv h a f st =
-      (receive_shown out held W used consumed n low under c s v (bits_of (wires_so_far s) k z) r
-      (record {
-        shape = e;
-        own = λ q y. clash (sym y);
-        borrowed = λ q y. h.borrowed q tt;
-        moved = λ y. clash (sym y);
-        within = λ w y. clash (sym y ∙ consts_unnamed w (low_bits (scalar_bits k) (modulo z (modulus k))));
-        began = a.grown;
-        differ = λ w le. let t = none w in omega (arith, t);
-      })
-      (record {
-        knows = a.knows;
-        grown = a.grown;
-        fresh = a.fresh;
-        unmade = a.unmade;
-        there = λ w le. let t = none w in absurd (omega (arith, t, le));
-        untold = λ y w le. let t = none w in absurd (omega (arith, t, le));
-        alone = a.alone;
-        apart = a.apart;
-        fit = a.fit;
-      })
-      (suits_with low r v (Static z) (bits_of (wires_so_far s) k z) f (class r refl) (λ y. clash (sym y)))
-      (subst (λ l. Stands out held W (l ++ under) c s) (same (is_consumed (need_of r))) st), tt)
+  static_end z k e nv h a f st = (
+    receive_shown out held W used consumed n low under c s v (bits_of (wires_so_far s) k z) r
+        (record {
+          shape = e;
+          own = λ q y. clash (sym y);
+          borrowed = λ q y. h.borrowed q tt;
+          moved = λ y. clash (sym y);
+          within = λ w y. clash (sym y ∙ consts_unnamed w (low_bits (scalar_bits k) (modulo z (modulus k))));
+          began = a.grown;
+          differ = λ w le. let t = none w in omega (arith, t);
+        })
+        (record {
+          knows = a.knows;
+          grown = a.grown;
+          fresh = a.fresh;
+          unmade = a.unmade;
+          there = λ w le. let t = none w in absurd (omega (arith, t, le));
+          untold = λ y w le. let t = none w in absurd (omega (arith, t, le));
+          alone = a.alone;
+          apart = a.apart;
+          fit = a.fit;
+        })
+        (suits_with low r v (Static z) (bits_of (wires_so_far s) k z) f (class r refl) (λ y. clash (sym y)))
+        (subst (λ l. Stands out held W (l ++ under) c s) (same (is_consumed (need_of r))) st),
+    tt,
+  )
     where
       none : (w : WireId) → times_in w (map (λ b. Const b) (low_bits (scalar_bits k) (modulo z (modulus k)))) ≡ 0
       none w = consts_none w (low_bits (scalar_bits k) (modulo z (modulus k)))
