@@ -22,3 +22,6 @@ pub mod There
 pub mod PlacesThere
 pub mod Tame
 pub mod Leaving
+pub mod Turns
+pub mod Blocks
+pub mod Rounds

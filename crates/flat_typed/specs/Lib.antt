@@ -7,3 +7,4 @@ pub mod Calls
 pub mod Lemmas
 pub mod Uses
 pub mod Laws
+pub mod Stay
