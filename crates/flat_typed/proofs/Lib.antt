@@ -25,3 +25,5 @@ pub mod Leaving
 pub mod Turns
 pub mod Blocks
 pub mod Rounds
+pub mod UsesThere
+pub mod WalkThere

@@ -1,8 +1,8 @@
 -- The use of a place, as a list: the part that it names is there.
-use Rattle.std.proofs.Common.{◌≡◌, ◌⊎◌, inl, inr, Bool, true, false, cond, not, ◌&&◌, ◌||◌, List, [], ◌∷◌, refl, sym, ap, ap₂, ◌∙◌, subst, arith}
-use Rattle.std.specs.Prelude.{Option, Some, None, is_some, Result, Ok, Err, ℤ}
+use Rattle.std.proofs.Common.{◌≡◌, inl, inr, Bool, true, false, cond, not, ◌&&◌, ◌||◌, List, [], ◌∷◌, refl, sym, ap, ap₂, ◌∙◌, subst, arith}
+use Rattle.std.specs.Prelude.{⊤, Option, Some, None, is_some, Result, Ok, Err, ℤ}
 use Rattle.silq_tree.specs.declared.node.NameId.{NameId}
-use Rattle.silq_tree.specs.Syntax.{Expression, Expressions, Place, whole, part, part_of_part, none, more}
+use Rattle.silq_tree.specs.Syntax.{Place, whole, part, part_of_part, none, more}
 use Rattle.static_num.specs.declared.values.StaticFault.{StaticFault}
 use Rattle.static_num.specs.Static.{eval_of}
 use Rattle.silq_types.specs.declared.types.Ty.{Ty}
@@ -15,28 +15,28 @@ use Rattle.silq_types.specs.Calls.{is_consumed}
 use Rattle.silq_mean.specs.Written.{is_empty}
 use Rattle.check_scope.specs.declared.uses.Use.{Use}
 use Rattle.check_scope.specs.Context.{Scope, Context, indices, part_at, variable, part_type, is_in_condition, find_var}
-use Rattle.check_scope.specs.Places.{disturbs, is_moved}
+use Rattle.check_scope.specs.Places.{disturbs, is_moved, use_place}
 use Rattle.check_scope.specs.Uses.{with_index, index_values, part_or_whole, place_use}
-use Rattle.check_expr.proofs.Owners.{found_part}
+use Rattle.check_expr.proofs.Owners.{found_part, gives-more}
 use Rattle.flat_form.specs.Names.{AllOf}
-use Rattle.flat_typed.specs.Places.{Places, is_part, is_shared}
+use Rattle.flat_typed.specs.Places.{Places}
 use Rattle.flat_typed.specs.Relation.{FitsPart, IsPartOf}
-use Rattle.flat_typed.specs.Uses.{IsThere}
+use Rattle.flat_typed.specs.Uses.{IsThere, PlacesAreThere}
 use Rattle.flat_typed.proofs.Ordered.{clash}
 use Rattle.flat_typed.proofs.Parts.{found_there, some_same}
 use Rattle.flat_typed.proofs.Moving.{found_all}
 use Rattle.flat_typed.proofs.Uses.{name_of_part}
-use Rattle.flat_typed.proofs.There.{UsedWhole, UsedPart, Used, PlaceUsed, part_class}
+use Rattle.flat_typed.proofs.There.{UsedWhole, Used, PlaceUsed, o_place, part_class}
 
 -- ---- index values of a place: there are at most two
 
-record Indexed (o : Option (List ℤ)) (zs : List ℤ) : Type 0 where
+pub record Indexed (o : Option (List ℤ)) (zs : List ℤ) : Type 0 where
   pub first : ℤ
   pub rest : List ℤ
   pub is : o ≡ Some rest
   pub all : first ∷ rest ≡ zs
 
-indexed : (r : Result ℤ StaticFault) (o : Option (List ℤ)) (zs : List ℤ) → with_index r o ≡ Some zs → Indexed o zs
+pub indexed : (r : Result ℤ StaticFault) (o : Option (List ℤ)) (zs : List ℤ) → with_index r o ≡ Some zs → Indexed o zs
 indexed (Ok v) (Some vs) zs e = record { first = v; rest = vs; is = refl; all = some_same (v ∷ vs) zs e }
 indexed (Ok v) None zs e = absurd (grind (arith, e))
 indexed (Err f) o zs e = absurd (grind (arith, e))
@@ -168,3 +168,9 @@ place_there sc need c W w d fits h = subst (λ r. AllOf (IsThere sc.held c.vars)
 
     same : used_as (part_at x h.values) ≡ used_as (part_or_whole o.owner (index_values sc.statics (place_indices w)))
     same = ap used_as part_is
+
+pub places_are_there : PlacesAreThere
+places_are_there w s sc need c =
+    gives-more (λ k s. ⊤) 0 (λ r. PlaceUsed sc need c w r.1)
+    (λ r. (W : Places) → AllOf (FitsPart W c.vars) c.vars → AllOf (IsThere sc.held c.vars) (place_use sc.statics (find_var c.vars (variable (place_name w))) (place_indices w) need))
+    (use_place sc w s need c) ((o_place (λ k s. ⊤) 0 c sc w s need).runs c refl) (λ r k W fits. place_there sc need c W w r.1 fits k)

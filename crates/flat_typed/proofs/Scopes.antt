@@ -1,6 +1,6 @@
 -- What the meaning of a part of a body sees is what typing sees: static values, headers and functions by name.
-use Rattle.std.proofs.Common.{◌≡◌, ℕ, suc, ◌<◌, Bool, true, false, cond, ◌&&◌, ◌||◌, List, [], ◌∷◌, length, map, refl, sym, ap, ap₂, ◌∙◌, subst, arith}
-use Rattle.std.specs.Prelude.{Option, Some, None, Result, Ok, Err, ℤ, ◌==◌}
+use Rattle.std.proofs.Common.{◌≡◌, ℕ, ◌<◌, Bool, true, false, cond, ◌&&◌, ◌||◌, List, [], ◌∷◌, length, map, refl, ap, ap₂, ◌∙◌, subst, arith}
+use Rattle.std.specs.Prelude.{Some, None, Result, Ok, Err, ℤ, ◌==◌}
 use Rattle.std.proofs.lemmas.Bool.{eqb-true, eq-eqb}
 use Rattle.silq_tree.specs.declared.node.NameId.{NameId}
 use Rattle.silq_tree.specs.declared.node.Spot.{Spot}
@@ -27,11 +27,11 @@ use Rattle.check_expr.specs.Owners.{Ensures}
 use Rattle.check_expr.proofs.Owners.{o_bind, o_then, o_more, o_back, o_result, o_names}
 use Rattle.silq_mean.specs.declared.receiver.Receiver.{Receiver}
 use Rattle.silq_mean.specs.declared.receiver.Receiver.TheVariants.{Argument, CallResult}
-use Rattle.silq_mean.specs.Effect.{Effect, ◌>>◌, step, leave_body}
+use Rattle.silq_mean.specs.Effect.{◌>>◌, step, leave_body}
 use Rattle.silq_mean.specs.Meaning.{or_zero, static_value, static_values, or_bit, scalar_of, type_or_bit, type_of, param_of, parameters_of, scope, body, functions}
 use Rattle.flat_typed.specs.Calls.{parted}
 use Rattle.flat_typed.specs.Scopes.{as_meaning, scope_for}
-use Rattle.flat_typed.proofs.Ordered.{clash}
+use Rattle.flat_typed.specs.Laws.{Stood}
 
 -- ---- answers
 
@@ -49,7 +49,7 @@ then_ok (Err x) f b e = absurd (grind (arith, e))
 
 -- ---- static values
 
-eval_is : (s : Spot) (r : Result ℤ StaticFault) (z : ℤ) → or_not_static s r ≡ Ok z → r ≡ Ok z
+pub eval_is : (s : Spot) (r : Result ℤ StaticFault) (z : ℤ) → or_not_static s r ≡ Ok z → r ≡ Ok z
 eval_is s (Ok v) z e = ap (λ x. as_ok x) (ok_same v z e)
   where
     as_ok : ℤ → Result ℤ StaticFault
@@ -149,13 +149,6 @@ body_scope words before taker f zs h e =
     }) (results_are taker (paired f.statics zs) f.results h.results (header_parts (paired f.statics zs) f h e).results)
 
 -- ---- functions by name
-
--- a function that is found, with those before it, and what a call of it does
-pub record Stood (words : List (NameId × BuiltIn)) (funs : List Function) (f : NameId) (zs : List ℤ) (g : Found) : Type 0 where
-  pub before : List Function
-  pub apart : parted funs g.number ≡ Some (g.fun, before)
-  pub does : functions words funs f zs ≡ (body words before (functions words before) CallResult g.fun (paired g.fun.statics zs) >> step leave_body)
-  pub below : g.number < length funs
 
 pub found_stands : (words : List (NameId × BuiltIn)) (funs : List Function) (f : NameId) (zs : List ℤ) (g : Found) → find_fun funs f ≡ Some g → Stood words funs f zs g
 found_stands words [] f zs g e = absurd (grind (arith, e))

@@ -6,8 +6,8 @@
 //! lead to the theorem that each accepted program is one that flattening can take; most of these are not proved yet. What is proved is a law
 //! below: each function has an empty body, and its contract is the law.
 
-ghost use Rattle.flat_typed.specs.Laws.{ForgetIsFine, OwnMayChange, BlocksClose};
-ghost use Rattle.flat_typed.specs.Uses.{OperandsApart, ConsumedMayChange};
+ghost use Rattle.flat_typed.specs.Laws.{ForgetIsFine, OwnMayChange, BlocksClose, BodiesSee, CallsStand};
+ghost use Rattle.flat_typed.specs.Uses.{OperandsApart, ConsumedMayChange, PlacesAreThere, UsesAreThere};
 
 /// A statement `forget x;` that is accepted needs nothing that flattening lacks, and keeps the relation.
 pub fn forget_is_fine()
@@ -33,4 +33,25 @@ pub fn operands_apart()
 /// What an expression consumes has an owner, and no condition in force guards it.
 pub fn consumed_may_change()
     ensures { ConsumedMayChange }
+{}
+
+/// The part that an accepted use of a place names is a part of a variable that is not consumed, and nothing that is under way overlaps it.
+pub fn places_are_there()
+    ensures { PlacesAreThere }
+{}
+
+/// The scope in which the meaning of a body is told is that in which its typing is walked.
+pub fn bodies_see()
+    ensures { BodiesSee }
+{}
+
+/// A function that is found by its name stands at its number, and a call of it does what its body does, with the functions before it.
+pub fn calls_stand()
+    ensures { CallsStand }
+{}
+
+/// So are the parts that an accepted expression uses, each in the variables that stood before it; and the expression leaves the parts, types
+/// and places of all variables.
+pub fn uses_are_there()
+    ensures { UsesAreThere }
 {}
