@@ -1,12 +1,13 @@
 -- Blocks: what stands behind the statements of a block stands behind the block.
-use Rattle.std.proofs.Common.{◌≡◌, ◌⊎◌, inl, inr, ℕ, suc, ◌≤◌, ◌<◌, Bool, true, false, cond, not, ◌&&◌, List, [], ◌∷◌, ◌++◌, length, map, take, drop, refl, sym, ap, ◌∙◌, subst, arith}
-use Rattle.std.proofs.lemmas.Bool.{cases_lt}
+use Rattle.std.proofs.Common.{◌≡◌, ◌⊎◌, inl, inr, ℕ, suc, ◌+◌, ◌≤◌, ◌<◌, Bool, true, false, cond, not, ◌&&◌, List, [], ◌∷◌, ◌++◌, length, map, take, drop, refl, sym, ap, ◌∙◌, subst, arith}
+use Rattle.std.specs.Prelude.{Some, None}
 use Rattle.silq_tree.specs.declared.node.NameId.{NameId}
 use Rattle.silq_tree.specs.declared.node.Spot.{Spot}
 use Rattle.silq_types.specs.declared.signature.InstanceKey.{InstanceKey}
 use Rattle.silq_types.specs.declared.signature.Signature.{Signature}
+use Rattle.silq_types.specs.declared.values.Part.{Part}
 use Rattle.silq_types.specs.declared.values.Var.{Var}
-use Rattle.check_scope.specs.Context.{Scope, Context, Check, ◌>>=◌, ◌>>◌}
+use Rattle.check_scope.specs.Context.{Scope, Context, Check, ◌>>=◌, ◌>>◌, find_var, same_part, variable}
 use Rattle.check_expr.specs.Owners.{owns, owners, Gives, Ensures, Sole}
 use Rattle.check_expr.proofs.Owners.{gives-bind, gives-more, o_then, o_more, o_from, o_back, o_rules}
 use Rattle.check_fun.specs.Statement.{is_live_linear, none_left, end_from, plain_block}
@@ -22,10 +23,12 @@ use Rattle.flat_typed.specs.Places.{Places, is_part, in_order, entries, shown}
 use Rattle.flat_typed.specs.Relation.{Outside, Stands}
 use Rattle.flat_typed.specs.Done.{outer_names, Leaves, StmtBegins, StmtDone, MadeSince}
 use Rattle.flat_typed.specs.Lemmas.{Callable, StmtFine, BlocksAreFine}
-use Rattle.flat_typed.specs.Stay.{HadOwner, Stayed, KeepsPlaces}
+use Rattle.flat_typed.specs.Stay.{HadOwner, Stayed, Goes, Keeps}
+use Rattle.flat_typed.specs.Uses.{NoStatics}
 use Rattle.flat_typed.proofs.Ordered.{clash}
 use Rattle.flat_typed.proofs.Using.{all_names, drop_map, length_map}
 use Rattle.flat_typed.proofs.Closing.{stands_closed, all_of_take}
+use Rattle.flat_typed.proofs.Turns.{Does}
 
 -- ---- a new block
 
@@ -85,7 +88,7 @@ module _ (S : InstanceKey → Signature → Type 0) (low : ℕ) where
   none_live [] s = o_back S low tt (λ c p. (tt, p))
   none_live {P = P} (v ∷ vs) s =
       o_then S low (o_rules S low s _) (λ u.
-      o_more S low (none_live {P = λ d. (is_live_linear v ≡ false) × P d} vs s) (λ u' d h. ((h.1.0, h.0), h.1.1)))
+      o_more S low (o_from S low (λ d h. (h.0.0, h.1)) (none_live {P = λ d. (is_live_linear v ≡ false) × P d} vs s)) (λ u' d h. ((h.1.0, h.0), h.1.1)))
 
   pub closed_from : (n : ℕ) (s : Spot) (d : Context) → Gives S (λ r. ClosedFrom n d r.1) (end_from n s d)
   closed_from n s d =
@@ -150,18 +153,17 @@ module _ (out : Outside) (sc : Scope) (low : ℕ) (W : Places) (c : Context) (s 
       closes [] q = let a = ap length (sym q) ∙ h.leaves.blocks in absurd (omega (arith, a))
       closes (l ∷ ls) q = stands_closed out sc.held h.after [] d inside l ls (length c.vars) h.stands q (ap (λ x. length (in_order (drop 1 x))) (sym q) ∙ many) h.whole k.dead
 
--- blocks are fine where their statements are
-pub blocks_are_fine : BlocksAreFine
+-- a block is fine where its statements are
+pub block_fine : (sc : Scope) (c : Context) (inner : Check (Unit {0})) (e : Effect) (s : Spot) → StmtFine sc c inner e → StmtFine sc c (plain_block inner s) (in_block e)
 unfolding ◌>>=◌ ◌>>◌
-blocks_are_fine sc c inner e s h =
-    gives-bind (Callable sc) 0
-    (λ r. (out : Outside) (low : ℕ) (W : Places) (t : Flattening) → StmtBegins out sc low (λ p. 0) W c t → StmtDone out sc e W c t r.1)
-    (λ r. (out : Outside) (low : ℕ) (W : Places) (t : Flattening) → StmtBegins out sc low (λ p. 0) W c t → StmtDone out sc (in_block e) W c t r.1)
-    (inner c) (λ r. end_from (length c.vars) s r.1) (h c)
-    (λ r f. gives-more (Callable sc) 0 (λ q. ClosedFrom (length c.vars) r.1 q.1)
-    (λ q. (out : Outside) (low : ℕ) (W : Places) (t : Flattening) → StmtBegins out sc low (λ p. 0) W c t → StmtDone out sc (in_block e) W c t q.1)
+block_fine sc c inner e s h =
+    gives-bind (Callable sc) 0 (λ r. Does sc c e r.1) (λ r. Does sc c (in_block e) r.1) (inner c) (λ r. end_from (length c.vars) s r.1) h
+    (λ r f. gives-more (Callable sc) 0 (λ q. ClosedFrom (length c.vars) r.1 q.1) (λ q. Does sc c (in_block e) q.1)
     (end_from (length c.vars) s r.1) (closed_from (Callable sc) 0 (length c.vars) s r.1)
     (λ q k out low W t b. block_done out sc low W c t e r.1 q.1 b (f out low W (opened t) (begins_opened out sc low W c t b)) k))
+
+pub blocks_are_fine : BlocksAreFine
+blocks_are_fine sc c inner e s h = block_fine sc c inner e s (h c)
 
 -- ---- places
 
@@ -170,13 +172,14 @@ owners_taken p ℕ.zero vs = omega arith
 owners_taken p (suc n) [] = omega arith
 owners_taken p (suc n) (v ∷ vs) = let a = owners_taken p n vs in omega (arith, a)
 
--- and keep places where they do
-pub block_keeps : (sc : Scope) (inner : Check (Unit {0})) (s : Spot) → KeepsPlaces sc inner → KeepsPlaces sc (plain_block inner s)
+-- and a block keeps what they keep
+pub block_keeps : (I : List Var → Type 0) (sc : Scope) (inner : Check (Unit {0})) (s : Spot) → ((n : ℕ) (vs : List Var) → I vs → I (take n vs)) → Keeps I sc inner → Keeps I sc (plain_block inner s)
 unfolding ◌>>=◌ ◌>>◌
-block_keeps sc inner s t c =
-    gives-bind (Callable sc) 0 (λ r. Sole c.next (λ p. 0) c → Stayed c r.1) (λ r. Sole c.next (λ p. 0) c → Stayed c r.1) (inner c) (λ r. end_from (length c.vars) s r.1) (t c)
-    (λ r f. gives-more (Callable sc) 0 (λ q. ClosedFrom (length c.vars) r.1 q.1) (λ q. Sole c.next (λ p. 0) c → Stayed c q.1) (end_from (length c.vars) s r.1)
-    (closed_from (Callable sc) 0 (length c.vars) s r.1) (λ q k b. subst (Stayed c) (sym k.left) (taken r.1 (f b))))
+block_keeps I sc inner s fewer t c i =
+    gives-bind (Callable sc) 0 (λ r. Goes I c r.1) (λ r. Goes I c r.1) (inner c) (λ r. end_from (length c.vars) s r.1) (t c i)
+    (λ r f. gives-more (Callable sc) 0 (λ q. ClosedFrom (length c.vars) r.1 q.1) (λ q. Goes I c q.1) (end_from (length c.vars) s r.1)
+    (closed_from (Callable sc) 0 (length c.vars) s r.1)
+    (λ q k. subst (Goes I c) (sym k.left) (record { holds = fewer (length c.vars) r.1.vars f.holds; stayed = λ b. taken r.1 (f.stayed b) })))
   where
     taken : (d : Context) → Stayed c d → Stayed c (record d { vars = take (length c.vars) d.vars })
     taken d h = record {
@@ -187,3 +190,18 @@ block_keeps sc inner s t c =
       };
       owners = all_of_take (HadOwner c) (length c.vars) d.vars h.owners;
     }
+
+-- ---- names
+
+-- a name that no variable has is none of the first ones
+pub none_taken : (vs : List Var) (n : ℕ) (p : Part) → find_var vs p ≡ None → find_var (take n vs) p ≡ None
+none_taken vs ℕ.zero p e = refl
+none_taken [] (suc n) p e = refl
+none_taken (v ∷ vs) (suc n) p e = go (same_part v.part p) e (none_taken vs n p)
+  where
+    go : (t : Bool) → cond t (Some v) (find_var vs p) ≡ None → (find_var vs p ≡ None → find_var (take n vs) p ≡ None) → cond t (Some v) (find_var (take n vs) p) ≡ None
+    go true e i = e
+    go false e i = i e
+
+pub free_taken : (sc : Scope) (n : ℕ) (vs : List Var) → NoStatics sc vs → NoStatics sc (take n vs)
+free_taken sc n vs h x e = none_taken vs n (variable x) (h x e)

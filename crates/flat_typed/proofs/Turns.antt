@@ -24,7 +24,7 @@ use Rattle.flat_typed.specs.Footprint.{Touches}
 use Rattle.flat_typed.specs.Relation.{Outside, AllNew}
 use Rattle.flat_typed.specs.Done.{Leaves, StmtBegins, StmtDone, MadeSince, changeable}
 use Rattle.flat_typed.specs.Lemmas.{Callable, StmtFine}
-use Rattle.flat_typed.specs.Stay.{SomeOf, IsOwner, HadOwner, Stayed, KeepsPlaces}
+use Rattle.flat_typed.specs.Stay.{SomeOf, IsOwner, HadOwner, Stayed, Goes, Keeps}
 use Rattle.flat_typed.proofs.Ordered.{clash}
 use Rattle.flat_typed.proofs.Moving.{all_more, owns_all}
 use Rattle.flat_typed.proofs.Binding.{none_out}
@@ -241,32 +241,32 @@ module _ (out : Outside) (sc : Scope) (low : ℕ) (W : Places) (c d : Context) (
                     at (inl lt) = clash (sym (lt-ltb 0 n (i (omega (arith, lt)))) ∙ z)
                     at (inr le) = ap (λ k. nat_lt 0 k) (let e : m ≡ 0 = omega (arith, le) in e)
 
-abbrev Does : Scope → Context → Effect → Context → Type 0
+abbrev pub Does : Scope → Context → Effect → Context → Type 0
 Does sc c e d = (out : Outside) (low : ℕ) (W : Places) (s : Flattening) → StmtBegins out sc low (λ p. 0) W c s → StmtDone out sc e W c s d
 
 -- two walks in turn, and two effects
-pub then_fine : (sc : Scope) (c : Context) (m n : Check (Unit {0})) (e f : Effect) → StmtFine sc c m e → ((d : Context) → StmtFine sc d n f) → KeepsPlaces sc m → KeepsPlaces sc n → StmtFine sc c (m >> n) (e ▸ f)
+pub then_fine : (I : List Var → Type 0) (sc : Scope) (c : Context) (m n : Check (Unit {0})) (e f : Effect) → I c.vars → StmtFine sc c m e → ((d : Context) → I d.vars → StmtFine sc d n f) → Keeps I sc m → Keeps I sc n → StmtFine sc c (m >> n) (e ▸ f)
 unfolding ◌>>◌
-then_fine sc c m n e f h k t u =
+then_fine I sc c m n e f i h k t u =
     gives-bind (Callable sc) 0
-    (λ r. Does sc c e r.1 × (Sole c.next (λ p. 0) c → Stayed c r.1)) (λ r. Does sc c (e ▸ f) r.1)
-    (m c) (λ r. n r.1) (gives_both (Callable sc) (λ r. Does sc c e r.1) (λ r. Sole c.next (λ p. 0) c → Stayed c r.1) (m c) h (t c))
+    (λ r. Does sc c e r.1 × Goes I c r.1) (λ r. Does sc c (e ▸ f) r.1)
+    (m c) (λ r. n r.1) (gives_both (Callable sc) (λ r. Does sc c e r.1) (λ r. Goes I c r.1) (m c) h (t c i))
     (λ r x. gives-more (Callable sc) 0
-    (λ q. Does sc r.1 f q.1 × (Sole r.1.next (λ p. 0) r.1 → Stayed r.1 q.1)) (λ q. Does sc c (e ▸ f) q.1)
-    (n r.1) (gives_both (Callable sc) (λ q. Does sc r.1 f q.1) (λ q. Sole r.1.next (λ p. 0) r.1 → Stayed r.1 q.1) (n r.1) (k r.1) (u r.1))
+    (λ q. Does sc r.1 f q.1 × Goes I r.1 q.1) (λ q. Does sc c (e ▸ f) q.1)
+    (n r.1) (gives_both (Callable sc) (λ q. Does sc r.1 f q.1) (λ q. Goes I r.1 q.1) (n r.1) (k r.1 x.1.holds) (u r.1 x.1.holds))
     (λ q y out low W s b.
     let first = x.0 out low W s b in
-    let there = x.1 (sole_now low c b.sole) in
+    let there = x.1.stayed (sole_now low c b.sole) in
     let next = begins_next out sc low W c r.1 s e b first there in
     let second = y.0 out low first.after (flat e s) next in
-    done_next out sc low W c r.1 s e f q.1 b first there second (y.1 (sole_now low r.1 next.sole))))
+    done_next out sc low W c r.1 s e f q.1 b first there second (y.1.stayed (sole_now low r.1 next.sole))))
 
-pub then_keeps : {A B : Type 0} (sc : Scope) (m : Check A) (n : Check B) → KeepsPlaces sc m → KeepsPlaces sc n → KeepsPlaces sc (m >> n)
+pub then_keeps : {A B : Type 0} (I : List Var → Type 0) (sc : Scope) (m : Check A) (n : Check B) → Keeps I sc m → Keeps I sc n → Keeps I sc (m >> n)
 unfolding ◌>>◌
-then_keeps sc m n t u c =
-    gives-bind (Callable sc) 0 (λ r. Sole c.next (λ p. 0) c → Stayed c r.1) (λ r. Sole c.next (λ p. 0) c → Stayed c r.1) (m c) (λ r. n r.1) (t c)
-    (λ r x. gives-more (Callable sc) 0 (λ q. Sole r.1.next (λ p. 0) r.1 → Stayed r.1 q.1) (λ q. Sole c.next (λ p. 0) c → Stayed c q.1) (n r.1) (u r.1)
-    (λ q y s. let a = x s in stayed_then c r.1 q.1 s a (y (sole_now c.next r.1 a.sole))))
+then_keeps I sc m n t u c i =
+    gives-bind (Callable sc) 0 (λ r. Goes I c r.1) (λ r. Goes I c r.1) (m c) (λ r. n r.1) (t c i)
+    (λ r x. gives-more (Callable sc) 0 (λ q. Goes I r.1 q.1) (λ q. Goes I c q.1) (n r.1) (u r.1 x.holds)
+    (λ q y. record { holds = y.holds; stayed = λ s. let a = x.stayed s in stayed_then c r.1 q.1 s a (y.stayed (sole_now c.next r.1 a.sole)) }))
 
 -- ---- nothing
 
@@ -293,3 +293,6 @@ stayed_here c s = record { sole = s; owners = each c.vars (λ v h. h) }
     each : (vs : List Var) → ((v : Var) → SomeOf (IsOwner v.place) vs → SomeOf (IsOwner v.place) c.vars) → AllOf (HadOwner c) vs
     each [] h = tt
     each (v ∷ vs) h = (λ w l. h v (inl (record { wires = w; place = refl })), each vs (λ u i. h u (inr i)))
+
+pub pass_keeps : (I : List Var → Type 0) (sc : Scope) → Keeps I sc pass
+pass_keeps I sc c i = record { holds = i; stayed = λ s. stayed_here c s }
