@@ -27,3 +27,6 @@ pub mod Blocks
 pub mod Rounds
 pub mod UsesThere
 pub mod WalkThere
+pub mod Flipping
+pub mod Touching
+pub mod Telling
