@@ -30,3 +30,8 @@ pub mod WalkThere
 pub mod Flipping
 pub mod Touching
 pub mod Telling
+pub mod Reached
+pub mod Phases
+pub mod Ending
+pub mod Changing
+pub mod Claims
