@@ -36,7 +36,8 @@ use Rattle.flat_form.specs.Flat.{flat}
 use Rattle.flat_form.specs.Shows.{ListBoth}
 use Rattle.flat_form.specs.Names.{AllOf}
 use Rattle.flat_typed.specs.Places.{Places}
-use Rattle.flat_typed.specs.Relation.{Outside, FitsPart}
+use Rattle.flat_typed.specs.Footprint.{used_wires, consumed_wires}
+use Rattle.flat_typed.specs.Relation.{Outside, FitsPart, IsAnswer}
 use Rattle.flat_typed.specs.Done.{StmtBegins, StmtDone, ExprDone, changeable}
 use Rattle.flat_typed.specs.Scopes.{as_meaning}
 use Rattle.flat_typed.specs.Uses.{IsThere, NoStatics}
@@ -129,7 +130,7 @@ effect_done e out sc taker low W c d st r b = record {
   stands = h.stands;
   whole = whole_left c.vars d.vars t.1.0 b.whole;
   made = made_left (wires_so_far st) c.next h.after c.vars d.vars t.1.0 (λ p le. let a = b.sole.ahead p le in omega (arith, a));
-  none = h.values ∙ (ap (λ l. reverse l ++ st.values) (none_answered _ h.answers h.each) ∙ b.none);
+  none = h.values ∙ (ap (λ l. reverse l ++ st.values) (none_answered (IsAnswer h.after needs.Consumed (used_wires W c.vars (uses e sc c.vars needs.Consumed)) (consumed_wires W c.vars (uses e sc c.vars needs.Consumed)) (wires_so_far st) c.next) h.answers h.each) ∙ b.none);
   leaves = h.leaves;
   touches = consumed_touches out sc low W c st (uses e sc c.vars needs.Consumed) (flat (meanings.expr e (as_meaning taker sc) needs.Consumed) st) b t.0 h.touches;
   plain = h.plain;
