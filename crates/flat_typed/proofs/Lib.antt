@@ -35,3 +35,8 @@ pub mod Phases
 pub mod Ending
 pub mod Changing
 pub mod Claims
+pub mod Comparing
+pub mod Inside
+pub mod Updates
+pub mod Updating
+pub mod Naming
