@@ -20,6 +20,7 @@ use Rattle.bit_arith.specs.declared.operand.Operand.TheVariants.{Const, Literal}
 use Rattle.bit_arith.specs.Built.{Built, Setting, push, new_wire, new_wires, next_wire, next_wires, wires_from, plus, made, all_made, negated, all_negated, top_negated, read, literals, under}
 use Rattle.bit_arith.specs.Rows.{gathered, flip_lits, all_but_last, last_of, flip_if_any, flip, turn_lits, turn, flip_by, flip_up, flip_down, alone, singles, pairs, triples, products, copy, flip_each, carry_bit, carries, carry, sum_by, sum, difference, into_by, add_into, sub_into, lower, product_into, product, both, either, signed, differ_as, differ, matches, all_of, equal, borrow, less}
 use Rattle.bit_arith.specs.Calls.{Targets}
+use Rattle.bit_arith.proofs.Making.{length-wires}
 use Rattle.flat_form.specs.Names.{AllOf}
 use Rattle.flat_typed.specs.Footprint.{is_mixed}
 
@@ -298,3 +299,16 @@ module _ (T : Targets) (n : ℕ) where
   unfolding less
   flips_less at true ps qs b le = borrow_f at (Const false) (top_negated ps) (top_negated qs) b le
   flips_less at false ps qs b le = borrow_f at (Const false) ps qs b le
+
+-- a copy has a new wire for each operand
+pub copy_longer : (at : Setting) (ps : List Operand) (b : Built) → length b.draft.wires + length ps ≤ length (copy at ps b).built.draft.wires
+unfolding copy
+copy_longer at ps b =
+    let f = flip_up_f (λ w. false) 0 at (next_wires (length ps) b) (singles ps) (new_wires (length ps) b) (omega arith) (wires_may (λ w. false) 0 (length b.draft.wires) (length ps) (omega arith)) in
+    let l = length-wires (length ps) b in
+    let q = f.few in
+    omega (arith, l, q)
+
+pub copy_answer : (at : Setting) (ps : List Operand) (b : Built) → (copy at ps b).answer ≡ next_wires (length ps) b
+unfolding copy
+copy_answer at ps b = refl

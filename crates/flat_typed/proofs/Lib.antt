@@ -40,3 +40,10 @@ pub mod Inside
 pub mod Updates
 pub mod Updating
 pub mod Naming
+pub mod Placing
+pub mod Taking
+pub mod Receiving
+pub mod Giving
+pub mod Measured
+pub mod Ranges
+pub mod Borrowing
