@@ -47,7 +47,7 @@ single_bits scalars.Bit = refl
 single_bits (scalars.UInt n) = refl
 single_bits (scalars.Int n) = refl
 
-fits_none : (s : Shape) → IndexFits s []
+pub fits_none : (s : Shape) → IndexFits s []
 fits_none Bit = tt
 fits_none (UInt n) = tt
 fits_none (Int n) = tt
