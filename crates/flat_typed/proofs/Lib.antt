@@ -47,3 +47,7 @@ pub mod Giving
 pub mod Measured
 pub mod Ranges
 pub mod Borrowing
+pub mod Handing
+pub mod Assigning
+pub mod Assignments
+pub mod Stated

@@ -8,3 +8,4 @@ pub mod Lemmas
 pub mod Uses
 pub mod Laws
 pub mod Stay
+pub mod StatementLaws
