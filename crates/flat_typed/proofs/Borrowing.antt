@@ -5,7 +5,6 @@ use Rattle.std.specs.List.{list_any}
 use Rattle.std.proofs.lemmas.Bool.{cases_lt}
 use Rattle.silq_tree.specs.declared.node.NameId.{NameId}
 use Rattle.silq_types.specs.declared.types.Ty.{Ty}
-use Rattle.silq_types.specs.declared.values.Origin.{Origin}
 use Rattle.silq_types.specs.declared.values.Origin.TheVariants.{Classical}
 use Rattle.silq_types.specs.declared.values.Part.{Part}
 use Rattle.silq_types.specs.declared.values.Value.{Value}
@@ -25,17 +24,17 @@ use Rattle.bit_arith.specs.Calls.{Targets, AllSafe, no_target, among}
 use Rattle.flat_form.specs.declared.known.TypedBits.{TypedBits}
 use Rattle.flat_form.specs.declared.known.Known.{Known}
 use Rattle.flat_form.specs.declared.known.Known.TheVariants.{Shown, Absent}
-use Rattle.flat_form.specs.State.{Flattening, push, wires_so_far, wires_in, part_shape, part_start, part_of}
+use Rattle.flat_form.specs.State.{Flattening, push, wires_so_far, wires_in, part_shape, part_start}
 use Rattle.flat_form.specs.Flat.{known_in, part_used, use_part, moved, after_use, flat_step}
 use Rattle.flat_form.specs.Fine.{FineStep, MayUse, FitsIndex}
-use Rattle.flat_form.specs.Names.{AllOf, named_by}
+use Rattle.flat_form.specs.Names.{named_by}
 use Rattle.flat_form.specs.Good.{Good, IsKnown, IsShown}
 use Rattle.flat_form.proofs.Kept as kept_laws
 use Rattle.flat_typed.specs.Places.{Places, part_out, less_part, bits_for, shown, entries, in_order, times_in}
 use Rattle.flat_typed.specs.Footprint.{wires_of_part}
 use Rattle.flat_typed.specs.Relation.{Outside, Stands, IsAnswer}
 use Rattle.flat_typed.specs.Uses.{IsThere}
-use Rattle.flat_typed.specs.Done.{Leaves, carrying}
+use Rattle.flat_typed.specs.Done.{carrying}
 use Rattle.flat_typed.proofs.Ordered.{clash}
 use Rattle.flat_typed.proofs.Parts.{some_same, shows_its_place, found_there}
 use Rattle.flat_typed.proofs.Changes.{replaced_shows}

@@ -1,24 +1,22 @@
 -- Rows of X and P steps: which wires they leave as they were.
-use Rattle.std.proofs.Common.{◌≡◌, ℕ, zero, suc, ◌+◌, ◌%◌, ◌≤◌, ◌<◌, Bool, true, false, cond, ◌&&◌, ◌||◌, ◌==◌, eqb, List, [], ◌∷◌, ◌++◌, length, Option, Some, None, refl, sym, ap, ◌∙◌, arith, length-append, ◌⊎◌, inl, inr}
+use Rattle.std.proofs.Common.{◌≡◌, ℕ, zero, suc, ◌+◌, ◌%◌, ◌≤◌, ◌<◌, Bool, true, false, cond, ◌&&◌, ◌||◌, ◌==◌, List, [], ◌∷◌, ◌++◌, length, Option, Some, None, refl, ap, ◌∙◌, arith, length-append, ◌⊎◌, inl, inr}
 use Rattle.std.specs.Prelude.{get_or}
 use Rattle.std.proofs.Math.Bool.{or-false}
 use Rattle.std.proofs.lemmas.Bool.{ne_eqb, cases_lt}
 use Rattle.std.proofs.lemmas.List.{get_or_append_left}
 use Rattle.std.proofs.lemmas.List.Folds.{list_any-append}
-use Rattle.flat_core.specs.declared.step.Step.{Step}
 use Rattle.flat_core.specs.declared.step.Step.TheVariants.{X, P}
 use Rattle.flat_core.specs.declared.step.WireId.{WireId}
 use Rattle.flat_core.specs.declared.step.Lit.{Lit}
 use Rattle.flat_core.specs.declared.step.End.TheVariants.{Dropped}
 use Rattle.flat_core.specs.Form.{WireForm}
-use Rattle.flat_core.specs.Label.{wire_id, same_wire, changes, label_after, wire_in, no_wire}
-use Rattle.flat_core.specs.Sound.{is_x}
+use Rattle.flat_core.specs.Label.{wire_id, same_wire, label_after, wire_in, no_wire}
 use Rattle.flat_core.specs.Drafts.{is_measured}
 use Rattle.flat_core.proofs.Labels.{label_after-push, is_measured-push}
 use Rattle.bit_arith.specs.declared.operand.Operand.{Operand}
 use Rattle.bit_arith.specs.declared.operand.Operand.TheVariants.{Const, Literal}
 use Rattle.bit_arith.specs.Built.{Built, Setting, push, new_wire, new_wires, next_wire, next_wires, wires_from, plus, made, all_made, negated, all_negated, top_negated, read, literals, under}
-use Rattle.bit_arith.specs.Rows.{gathered, flip_lits, all_but_last, last_of, flip_if_any, flip, turn_lits, turn, flip_by, flip_up, flip_down, alone, singles, pairs, triples, products, copy, flip_each, carry_bit, carries, carry, sum_by, sum, difference, into_by, add_into, sub_into, lower, product_into, product, both, either, signed, differ_as, differ, matches, all_of, equal, borrow, less}
+use Rattle.bit_arith.specs.Rows.{gathered, flip_lits, all_but_last, last_of, flip_if_any, flip, turn_lits, turn, flip_by, flip_up, flip_down, alone, singles, products, copy, flip_each, carry_bit, carries, carry, sum_by, sum, difference, into_by, add_into, sub_into, lower, product_into, product, both, either, differ_as, differ, matches, all_of, equal, borrow, less}
 use Rattle.bit_arith.specs.Calls.{Targets}
 use Rattle.bit_arith.proofs.Making.{length-wires}
 use Rattle.flat_form.specs.Names.{AllOf}

@@ -1,5 +1,5 @@
 -- A step that gives a value without wires of its own: `dup`, `vector`, and what operators give.
-use Rattle.std.proofs.Common.{◌≡◌, ◌⊎◌, inl, inr, ℕ, ◌≤◌, ◌<◌, Bool, true, false, cond, ◌&&◌, ◌||◌, List, [], ◌∷◌, ◌++◌, length, drop, ℤ, refl, sym, ap, ap₂, ◌∙◌, subst, arith}
+use Rattle.std.proofs.Common.{◌≡◌, ◌⊎◌, inr, ℕ, ◌≤◌, ◌<◌, Bool, true, false, cond, ◌&&◌, ◌||◌, List, [], ◌∷◌, ◌++◌, length, drop, ℤ, refl, sym, ap, ap₂, ◌∙◌, subst, arith}
 use Rattle.std.specs.Prelude.{nat_le, nat_abs}
 use Rattle.std.specs.List.{list_any}
 use Rattle.std.proofs.lemmas.Bool.{leb-true}
@@ -17,7 +17,7 @@ use Rattle.silq_mean.specs.Effect.{copy_last, repeat_last}
 use Rattle.flat_core.specs.declared.step.WireId.{WireId}
 use Rattle.flat_core.specs.Form.{DraftForm}
 use Rattle.bit_arith.specs.declared.operand.Operand.{Operand}
-use Rattle.bit_arith.specs.Built.{Built, Given, all_made}
+use Rattle.bit_arith.specs.Built.{Given, all_made}
 use Rattle.bit_arith.specs.Calls.{Targets}
 use Rattle.bit_arith.specs.Does.{Fresh}
 use Rattle.flat_form.specs.declared.known.TypedBits.{TypedBits}
@@ -28,11 +28,11 @@ use Rattle.flat_form.specs.Flat.{give_copy, give_repeated, array_of, repeated, f
 use Rattle.flat_form.specs.Fine.{FineStep, IsAny, IsStatic, IsOf}
 use Rattle.flat_form.specs.Names.{named_by}
 use Rattle.flat_typed.specs.Places.{Places, times_in}
-use Rattle.flat_typed.specs.Footprint.{Within, Touches, StaysPlain}
+use Rattle.flat_typed.specs.Footprint.{Touches, StaysPlain}
 use Rattle.flat_typed.specs.Relation.{Outside, Stands, IsAnswer}
 use Rattle.flat_typed.specs.Done.{Leaves, carrying}
 use Rattle.flat_typed.proofs.Ordered.{clash}
-use Rattle.flat_typed.proofs.Growing.{touches_then, touches_more, stands_grown}
+use Rattle.flat_typed.proofs.Growing.{touches_then, stands_grown}
 use Rattle.flat_typed.proofs.Flipping.{Flips, copy_answer}
 use Rattle.flat_typed.proofs.Touching.{flips_touch, flips_plain, flips_stay_plain, flips_copied}
 use Rattle.flat_typed.proofs.Placing.{named_times, made_range, made_once, stands_pushed}

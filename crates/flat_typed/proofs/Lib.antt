@@ -51,3 +51,5 @@ pub mod Handing
 pub mod Assigning
 pub mod Assignments
 pub mod Stated
+pub mod Variables
+pub mod Quiet

@@ -1,5 +1,5 @@
 -- A value that is taken may be changed; measured, its wires have no owner, and their end is told.
-use Rattle.std.proofs.Common.{◌≡◌, ◌⊎◌, inl, inr, ℕ, suc, ◌+◌, ◌≤◌, ◌<◌, Bool, true, false, cond, ◌&&◌, ◌||◌, List, [], ◌∷◌, ◌++◌, length, drop, refl, sym, ap, ap₂, ◌∙◌, subst, arith}
+use Rattle.std.proofs.Common.{◌≡◌, ◌⊎◌, inl, inr, ℕ, suc, ◌≤◌, ◌<◌, Bool, true, false, cond, ◌&&◌, ◌||◌, List, [], ◌∷◌, ◌++◌, length, drop, refl, sym, ap, ◌∙◌, subst, arith}
 use Rattle.std.specs.Prelude.{None, nat_le}
 use Rattle.silq_types.specs.declared.values.Origin.TheVariants.{Classical}
 use Rattle.silq_types.specs.declared.values.Part.{Part}
@@ -15,11 +15,10 @@ use Rattle.flat_core.specs.declared.step.End.{End}
 use Rattle.flat_core.specs.declared.step.End.TheVariants.{Output, Dropped, Measured, Zeroed}
 use Rattle.flat_core.specs.Form.{WireForm}
 use Rattle.flat_core.specs.Label.{same_wire, wire_in}
-use Rattle.flat_core.specs.Drafts.{is_measured}
 use Rattle.bit_arith.specs.declared.operand.Operand.{Operand}
 use Rattle.bit_arith.specs.declared.operand.Operand.TheVariants.{Const, Literal}
 use Rattle.bit_arith.specs.Built.{Built, Setting, Given}
-use Rattle.bit_arith.specs.Calls.{Targets, IsTarget, among}
+use Rattle.bit_arith.specs.Calls.{Targets, among}
 use Rattle.flat_form.specs.declared.known.TypedBits.{TypedBits}
 use Rattle.flat_form.specs.declared.known.Known.{Known}
 use Rattle.flat_form.specs.declared.known.Known.TheVariants.{Shown}
@@ -28,16 +27,16 @@ use Rattle.flat_form.specs.Flat.{end_all, measure_all, measure_value, flat}
 use Rattle.flat_form.specs.Fine.{MayChange, MayTake, MayMeasure, IsOf}
 use Rattle.flat_form.specs.Good.{Good}
 use Rattle.flat_form.proofs.Later.{end_all_length}
-use Rattle.flat_typed.specs.Places.{Places, times_in, linear_holders, linear_carriers, owners_of, linear_owners}
-use Rattle.flat_typed.specs.Footprint.{NoneNames, Owed, Touches, StaysPlain, is_mixed}
+use Rattle.flat_typed.specs.Places.{Places, times_in, owners_of, linear_owners}
+use Rattle.flat_typed.specs.Footprint.{NoneNames, Owed, Touches, is_mixed}
 use Rattle.flat_typed.specs.Relation.{Outside, Stands}
 use Rattle.flat_typed.specs.Done.{Agree, carrying}
 use Rattle.flat_typed.proofs.Ordered.{clash, or_left, or_right}
 use Rattle.flat_typed.proofs.Owning.{same_swap, among_times, value_may_change}
 use Rattle.flat_typed.proofs.Keeping.{KnowsBefore, fresh_may_change}
-use Rattle.flat_typed.proofs.Growing.{touches_then, touches_more}
+use Rattle.flat_typed.proofs.Growing.{touches_then}
 use Rattle.flat_typed.proofs.Touching.{flips_touch, flips_stay_plain, flips_taken}
-use Rattle.flat_typed.proofs.Telling.{MeasuresOnly, measures_only, measuring_touches, end_told, ends_stay_plain}
+use Rattle.flat_typed.proofs.Telling.{measures_only, measuring_touches, end_told, ends_stay_plain}
 use Rattle.flat_typed.proofs.Placing.{stands_pushed}
 use Rattle.flat_typed.proofs.Taking.{Offer, Around, Carried, carried_taken}
 use Rattle.flat_typed.proofs.Giving.{Beyond, is_beyond, GivesValue}

@@ -1,5 +1,5 @@
 -- A place that has no owner may show anything; a value with this place then owns wires that nothing else knows.
-use Rattle.std.proofs.Common.{◌≡◌, ◌⊎◌, inl, inr, ℕ, zero, suc, ◌+◌, ◌≤◌, ◌<◌, Bool, true, false, cond, not, List, [], ◌∷◌, length, refl, sym, ap, ap₂, ◌∙◌, subst, arith}
+use Rattle.std.proofs.Common.{◌≡◌, ◌⊎◌, inl, inr, ℕ, zero, suc, ◌+◌, ◌≤◌, ◌<◌, Bool, true, false, cond, List, [], ◌∷◌, refl, sym, ap, ap₂, ◌∙◌, subst, arith}
 use Rattle.std.specs.Prelude.{◌==◌}
 use Rattle.std.specs.List.{list_any}
 use Rattle.std.proofs.lemmas.Bool.{eqb-true, ne_eqb, cases_lt}
@@ -19,7 +19,7 @@ use Rattle.flat_form.specs.declared.known.Known.{Known}
 use Rattle.flat_form.specs.declared.known.Known.TheVariants.{Absent}
 use Rattle.flat_form.specs.State.{Caller, Flattening, build}
 use Rattle.flat_form.specs.Names.{AllOf, CallerOf, operands_in, named_by, names}
-use Rattle.flat_typed.specs.Places.{Places, with_place, is_shared, has_wires, part_out, less_part, bits_for, shown, times_in, holds, holders, linear_holders, carriers, linear_carriers, owners_of, linear_owners}
+use Rattle.flat_typed.specs.Places.{Places, with_place, is_shared, has_wires, part_out, less_part, bits_for, shown, times_in, holders, carriers, owners_of, linear_owners}
 use Rattle.flat_typed.specs.Relation.{FitsPart, Outside, Stands}
 use Rattle.flat_typed.specs.Done.{Agree}
 use Rattle.flat_typed.proofs.Ordered.{clash}

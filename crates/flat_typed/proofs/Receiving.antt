@@ -1,5 +1,5 @@
 -- The step that takes a value over, for each receiver.
-use Rattle.std.proofs.Common.{◌≡◌, ◌⊎◌, inl, inr, ℕ, ◌≤◌, ◌<◌, Bool, true, false, cond, not, ◌&&◌, ◌||◌, List, [], ◌∷◌, ◌++◌, length, map, drop, ℤ, refl, sym, ap, ap₂, ◌∙◌, subst, arith}
+use Rattle.std.proofs.Common.{◌≡◌, ℕ, ◌≤◌, Bool, true, false, cond, not, ◌&&◌, ◌||◌, List, [], ◌∷◌, ◌++◌, length, map, drop, ℤ, refl, sym, ap, ap₂, ◌∙◌, subst, arith}
 use Rattle.std.specs.List.{list_any}
 use Rattle.silq_types.specs.declared.types.Scalar.{Scalar}
 use Rattle.silq_types.specs.declared.types.Scalar.TheVariants as scalars
@@ -25,7 +25,7 @@ use Rattle.bit_arith.specs.Calls.{Targets}
 use Rattle.flat_form.specs.declared.known.TypedBits.{TypedBits}
 use Rattle.flat_form.specs.declared.known.Known.{Known}
 use Rattle.flat_form.specs.declared.known.Known.TheVariants.{Static, Shown, Lent, Absent}
-use Rattle.flat_form.specs.State.{Flattening, last, drop_last, wires_so_far, copied, taken, kept, typed, typed_as}
+use Rattle.flat_form.specs.State.{Flattening, last, drop_last, wires_so_far, copied, taken, kept, typed_as}
 use Rattle.flat_form.specs.Flat.{taken_for, class_for, began_for, receive_value, shape_for, flat_step}
 use Rattle.flat_form.specs.Fine.{IsAny}
 use Rattle.flat_form.specs.Names.{named_by}

@@ -1,5 +1,5 @@
 -- A value that is taken over: its wires are its own then, those of its place, or new ones; a classical value and a const argument may share theirs.
-use Rattle.std.proofs.Common.{◌≡◌, ◌⊎◌, inl, inr, ℕ, ◌+◌, ◌≤◌, ◌<◌, Bool, true, false, cond, not, ◌&&◌, ◌||◌, List, [], ◌∷◌, ◌++◌, length, drop, refl, sym, ap, ap₂, ◌∙◌, subst, arith}
+use Rattle.std.proofs.Common.{◌≡◌, ◌⊎◌, inl, inr, ℕ, ◌≤◌, ◌<◌, Bool, true, false, cond, ◌&&◌, ◌||◌, List, [], ◌∷◌, ◌++◌, length, drop, refl, sym, ap, ap₂, ◌∙◌, subst, arith}
 use Rattle.std.specs.List.{list_any}
 use Rattle.std.proofs.lemmas.Bool.{cases_lt}
 use Rattle.silq_types.specs.declared.types.Ty.{Ty}
@@ -11,35 +11,34 @@ use Rattle.silq_types.specs.Calls.{is_consumed}
 use Rattle.check_scope.specs.Context.{Context}
 use Rattle.check_expr.specs.Owners.{owners, owned}
 use Rattle.silq_mean.specs.declared.receiver.Receiver.{Receiver}
-use Rattle.silq_mean.specs.declared.receiver.Receiver.TheVariants.{Variable, Argument, CallResult, EntryOutput}
+use Rattle.silq_mean.specs.declared.receiver.Receiver.TheVariants.{EntryOutput}
 use Rattle.flat_core.specs.declared.step.WireId.{WireId}
 use Rattle.flat_core.specs.declared.step.End.TheVariants.{Dropped}
 use Rattle.flat_core.specs.Form.{WireForm}
 use Rattle.flat_core.specs.Label.{wire_in}
 use Rattle.flat_core.specs.Drafts.{is_measured}
 use Rattle.bit_arith.specs.declared.operand.Operand.{Operand}
-use Rattle.bit_arith.specs.Built.{Built, Given, all_made, next_wires, wires_from}
+use Rattle.bit_arith.specs.Built.{Given, all_made}
 use Rattle.bit_arith.specs.Calls.{Targets}
 use Rattle.bit_arith.specs.Does.{Fresh}
 use Rattle.flat_form.specs.declared.known.TypedBits.{TypedBits}
 use Rattle.flat_form.specs.declared.known.Known.{Known}
 use Rattle.flat_form.specs.declared.known.Known.TheVariants.{Shown}
-use Rattle.flat_form.specs.State.{Flattening, build, drop_last, wires_so_far, are_wires, are_new, operands_of, as_they_are, copied, taken, kept}
+use Rattle.flat_form.specs.State.{Flattening, build, wires_so_far, are_wires, are_new, operands_of, as_they_are, copied, taken, kept}
 use Rattle.flat_form.specs.Flat.{class_for}
 use Rattle.flat_form.specs.Names.{AllOf, named_by}
 use Rattle.flat_typed.specs.Places.{Places, with_place, times_in}
 use Rattle.flat_typed.specs.Footprint.{Within, Touches, StaysPlain}
-use Rattle.flat_typed.specs.Relation.{FitsPart, Outside, Stands, IsTakenOver, AllNew, BeganFrom, is_argument, taken_type, is_carried, is_own}
+use Rattle.flat_typed.specs.Relation.{FitsPart, Outside, Stands, IsTakenOver, AllNew, taken_type, is_carried, is_own}
 use Rattle.flat_typed.specs.Done.{Agree, Leaves, carrying}
 use Rattle.flat_typed.specs.Calls.{carried}
 use Rattle.flat_typed.specs.Lemmas.{need_of}
-use Rattle.flat_typed.proofs.Ordered.{clash}
 use Rattle.flat_typed.proofs.Keeping.{new_named}
 use Rattle.flat_typed.proofs.Growing.{plain_same, stands_grown}
 use Rattle.flat_typed.proofs.Making.{its_place}
-use Rattle.flat_typed.proofs.Flipping.{Flips, copy_longer, copy_answer}
-use Rattle.flat_typed.proofs.Touching.{flips_touch, flips_plain, flips_stay_plain, flips_copied, flips_kept, flips_taken_for}
-use Rattle.flat_typed.proofs.Placing.{KnowsNone, IsLoose, named_times, made_range, made_once, place_agrees, stands_given, stands_less, stands_pushed}
+use Rattle.flat_typed.proofs.Flipping.{copy_longer, copy_answer}
+use Rattle.flat_typed.proofs.Touching.{flips_plain, flips_copied, flips_kept}
+use Rattle.flat_typed.proofs.Placing.{KnowsNone, IsLoose, named_times, made_range, made_once, place_agrees, stands_given, stands_less}
 
 -- ---- what is known before
 

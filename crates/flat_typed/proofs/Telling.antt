@@ -1,5 +1,5 @@
 -- H, M and ends: what they touch.
-use Rattle.std.proofs.Common.{◌≡◌, ◌⊎◌, inl, inr, ℕ, suc, ◌+◌, ◌≤◌, ◌<◌, Bool, true, false, cond, not, ◌&&◌, ◌||◌, List, [], ◌∷◌, ◌++◌, length, Option, Some, None, refl, sym, ap, ◌∙◌, subst, arith, length-set, get_or-set_same, get_or-set_other, slice_set}
+use Rattle.std.proofs.Common.{◌≡◌, ◌⊎◌, inl, inr, ℕ, ◌+◌, ◌≤◌, ◌<◌, Bool, true, false, cond, ◌&&◌, ◌||◌, List, [], ◌∷◌, ◌++◌, length, Option, Some, None, refl, sym, ap, ◌∙◌, subst, arith, length-set, get_or-set_same, get_or-set_other, slice_set}
 use Rattle.std.specs.Prelude.{get_or}
 use Rattle.std.proofs.Math.Bool.{or-false}
 use Rattle.std.proofs.lemmas.Bool.{cases_lt, cases_eq, eq-eqb}
@@ -20,11 +20,11 @@ use Rattle.bit_arith.specs.Built.{Built, Setting, push}
 use Rattle.bit_arith.specs.Rows.{had, had_under, measure}
 use Rattle.bit_arith.specs.Calls.{Targets, among}
 use Rattle.flat_form.specs.Flat.{end_all, measure_all}
-use Rattle.flat_form.proofs.Later.{end_all_steps, end_all_length}
+use Rattle.flat_form.proofs.Later.{end_all_steps}
 use Rattle.flat_typed.specs.Places.{times_in}
 use Rattle.flat_typed.specs.Footprint.{is_mixed, Touches, StaysPlain}
-use Rattle.flat_typed.proofs.Ordered.{clash, or_left, or_right}
-use Rattle.flat_typed.proofs.Owning.{same_swap, wire_is}
+use Rattle.flat_typed.proofs.Ordered.{clash}
+use Rattle.flat_typed.proofs.Owning.{wire_is}
 use Rattle.flat_typed.proofs.Using.{touches_none}
 use Rattle.flat_typed.proofs.Growing.{touches_then}
 use Rattle.flat_typed.proofs.Mixing.{Mixes}

@@ -25,7 +25,7 @@ use Rattle.bit_arith.specs.Does.{Fresh}
 use Rattle.bit_arith.proofs.Steps.{label-first, label-rest}
 use Rattle.flat_form.specs.declared.known.TypedBits.{TypedBits}
 use Rattle.flat_form.specs.State.{is_signed, are_wires, are_new, as_they_are, copied, taken, kept, only_operand}
-use Rattle.flat_form.specs.Flat.{negative, by_one, by_two, turn_both, taken_for, update_by}
+use Rattle.flat_form.specs.Flat.{by_one, by_two, turn_both, taken_for, update_by}
 use Rattle.flat_form.specs.Names.{AllOf}
 use Rattle.flat_typed.specs.Footprint.{is_mixed, Touches, StaysPlain}
 use Rattle.flat_typed.proofs.Ordered.{clash, or_left, or_right}
