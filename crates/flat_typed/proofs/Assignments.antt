@@ -1,6 +1,6 @@
 -- An assignment to a name, and to several names from a tuple, as statements.
-use Rattle.std.proofs.Common.{◌≡◌, ℕ, suc, ◌+◌, ◌≤◌, Bool, true, false, cond, not, List, [], ◌∷◌, ◌++◌, length, map, take, drop, reverse, refl, sym, ap, ap₂, ◌∙◌, subst, arith}
-use Rattle.std.specs.Prelude.{Option, Some, None, ◌==◌, ⊤}
+use Rattle.std.proofs.Common.{◌≡◌, ℕ, suc, Bool, true, false, cond, not, List, [], ◌∷◌, ◌++◌, length, take, drop, reverse, refl, sym, ap, ap₂, ◌∙◌, subst, arith}
+use Rattle.std.specs.Prelude.{◌==◌, ⊤}
 use Rattle.std.proofs.lemmas.List.{append-nil, length-reverse, reverse-reverse}
 use Rattle.std.proofs.lemmas.Bool.{eqb-true, eq-eqb}
 use Rattle.silq_tree.specs.declared.node.NameId.{NameId}
@@ -28,18 +28,16 @@ use Rattle.silq_mean.specs.Meaning as meanings
 use Rattle.bit_arith.specs.Calls.{Targets}
 use Rattle.flat_form.specs.declared.known.Known.{Known}
 use Rattle.flat_form.specs.declared.known.Known.TheVariants.{Static, Shown, Lent, Absent}
-use Rattle.flat_form.specs.State.{Flattening, first, wires_so_far}
+use Rattle.flat_form.specs.State.{Flattening, first}
 use Rattle.flat_form.specs.Flat.{flat, known_in, as_variable, bind_all}
-use Rattle.flat_form.specs.Fine.{Fine, IsTaken, FitsIndex}
+use Rattle.flat_form.specs.Fine.{IsTaken, FitsIndex}
 use Rattle.flat_form.specs.Names.{AllOf}
 use Rattle.flat_typed.specs.Places.{Places}
-use Rattle.flat_typed.specs.Footprint.{used_wires, consumed_wires}
 use Rattle.flat_typed.specs.Relation.{Outside, IsTakenOver}
 use Rattle.flat_typed.specs.Done.{StmtBegins, StmtDone}
 use Rattle.flat_typed.specs.Calls.{Three}
 use Rattle.flat_typed.specs.Scopes.{as_meaning}
-use Rattle.flat_typed.specs.Uses.{NoStatics}
-use Rattle.flat_typed.specs.Lemmas.{Callable, uses_by}
+use Rattle.flat_typed.specs.Lemmas.{Callable}
 use Rattle.flat_typed.specs.Stay.{FreeStatementIsFine}
 use Rattle.flat_typed.proofs.Ordered.{clash}
 use Rattle.flat_typed.proofs.Leaving.{k_any}
@@ -47,7 +45,7 @@ use Rattle.flat_typed.proofs.Turns.{Does, line_fine, gives_both}
 use Rattle.flat_typed.proofs.Inside.{fits_none}
 use Rattle.flat_typed.proofs.Naming.{variables_for}
 use Rattle.flat_typed.proofs.Handing.{HandedOver, HandedOverFine}
-use Rattle.flat_typed.proofs.Assigning.{E0, handed_done, ks, final, assigned_done}
+use Rattle.flat_typed.proofs.Assigning.{handed_done, ks, final, assigned_done}
 
 -- ---- what the walk tells
 

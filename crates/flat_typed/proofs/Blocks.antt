@@ -1,5 +1,5 @@
 -- Blocks: what stands behind the statements of a block stands behind the block.
-use Rattle.std.proofs.Common.{◌≡◌, ◌⊎◌, inl, inr, ℕ, suc, ◌+◌, ◌≤◌, ◌<◌, Bool, true, false, cond, not, ◌&&◌, List, [], ◌∷◌, ◌++◌, length, map, take, drop, refl, sym, ap, ◌∙◌, subst, arith}
+use Rattle.std.proofs.Common.{◌≡◌, ℕ, suc, ◌+◌, ◌≤◌, Bool, true, false, cond, List, [], ◌∷◌, ◌++◌, length, map, take, drop, refl, sym, ap, ◌∙◌, subst, arith}
 use Rattle.std.specs.Prelude.{Some, None}
 use Rattle.silq_tree.specs.declared.node.NameId.{NameId}
 use Rattle.silq_tree.specs.declared.node.Spot.{Spot}
@@ -8,10 +8,10 @@ use Rattle.silq_types.specs.declared.signature.Signature.{Signature}
 use Rattle.silq_types.specs.declared.values.Part.{Part}
 use Rattle.silq_types.specs.declared.values.Var.{Var}
 use Rattle.check_scope.specs.Context.{Scope, Context, Check, ◌>>=◌, ◌>>◌, find_var, same_part, variable}
-use Rattle.check_expr.specs.Owners.{owns, owners, Gives, Ensures, Sole}
+use Rattle.check_expr.specs.Owners.{owners, Gives, Ensures}
 use Rattle.check_expr.proofs.Owners.{gives-bind, gives-more, o_then, o_more, o_from, o_back, o_rules}
 use Rattle.check_fun.specs.Statement.{is_live_linear, none_left, end_from, plain_block}
-use Rattle.silq_mean.specs.Env.{Env, Block}
+use Rattle.silq_mean.specs.Env.{Env}
 use Rattle.silq_mean.specs.Effect.{Effect}
 use Rattle.silq_mean.specs.Meaning.{in_block}
 use Rattle.flat_form.specs.declared.known.Known.{Known}
@@ -21,11 +21,10 @@ use Rattle.flat_form.specs.Good.{Good}
 use Rattle.flat_form.specs.Names.{AllOf}
 use Rattle.flat_typed.specs.Places.{Places, is_part, in_order, entries, shown}
 use Rattle.flat_typed.specs.Relation.{Outside, Stands}
-use Rattle.flat_typed.specs.Done.{outer_names, Leaves, StmtBegins, StmtDone, MadeSince}
+use Rattle.flat_typed.specs.Done.{StmtBegins, StmtDone, MadeSince}
 use Rattle.flat_typed.specs.Lemmas.{Callable, StmtFine, BlocksAreFine}
 use Rattle.flat_typed.specs.Stay.{HadOwner, Stayed, Goes, Keeps}
 use Rattle.flat_typed.specs.Uses.{NoStatics}
-use Rattle.flat_typed.proofs.Ordered.{clash}
 use Rattle.flat_typed.proofs.Using.{all_names, drop_map, length_map}
 use Rattle.flat_typed.proofs.Closing.{stands_closed, all_of_take}
 use Rattle.flat_typed.proofs.Turns.{Does}

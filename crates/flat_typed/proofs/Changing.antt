@@ -1,5 +1,5 @@
 -- A variable that a statement changes or ends: what shows it, and that its wires may be changed.
-use Rattle.std.proofs.Common.{◌≡◌, ℕ, ◌≤◌, ◌<◌, Bool, true, false, cond, not, ◌&&◌, ◌||◌, List, [], ◌∷◌, length, drop, refl, sym, ap, ap₂, ◌∙◌, subst, arith}
+use Rattle.std.proofs.Common.{◌≡◌, Bool, true, false, cond, not, ◌&&◌, ◌||◌, List, [], ◌∷◌, refl, sym, ap, ap₂, ◌∙◌, subst}
 use Rattle.std.specs.Prelude.{Option, Some, None, ◌==◌}
 use Rattle.std.proofs.lemmas.Bool.{eqb-true}
 use Rattle.silq_tree.specs.declared.node.NameId.{NameId}
@@ -9,32 +9,29 @@ use Rattle.silq_types.specs.declared.types.Shape.{Shape}
 use Rattle.silq_types.specs.declared.types.Shape.TheVariants.{Bit, UInt, Int, Array}
 use Rattle.silq_types.specs.declared.types.Ty.{Ty}
 use Rattle.silq_types.specs.declared.values.Part.{Part}
-use Rattle.silq_types.specs.declared.values.Value.{Value}
 use Rattle.silq_types.specs.declared.values.Var.{Var}
 use Rattle.silq_types.specs.declared.need.Need.{Need}
 use Rattle.silq_types.specs.declared.need.Need.TheVariants as needs
-use Rattle.silq_types.specs.Types.{fits, shape_bits, shape_eq, scalar_eq, same_name}
+use Rattle.silq_types.specs.Types.{fits, shape_eq, scalar_eq, same_name}
 use Rattle.silq_types.specs.Calls.{is_consumed}
-use Rattle.silq_mean.specs.Written.{is_empty}
 use Rattle.check_scope.specs.declared.uses.Use.{Use}
 use Rattle.check_scope.specs.Context.{Context, indices, variable, part_at, find_var, replace, same_part, overlaps, is_prefix, is_in_condition}
 use Rattle.check_scope.specs.Places.{disturbs}
 use Rattle.check_scope.specs.Uses.{meets, clash as clashes, both_consume, consume_and_hold}
 use Rattle.check_fun.specs.Statement.{passes, consumed_there}
-use Rattle.silq_mean.specs.Env.{in_its_block, found}
+use Rattle.silq_mean.specs.Env.{in_its_block}
 use Rattle.flat_core.specs.declared.step.WireId.{WireId}
 use Rattle.bit_arith.specs.Calls.{among}
-use Rattle.flat_form.specs.declared.known.TypedBits.{TypedBits}
 use Rattle.flat_form.specs.declared.known.Known.{Known}
 use Rattle.flat_form.specs.declared.known.Known.TheVariants.{Static, Shown, Lent, Absent}
-use Rattle.flat_form.specs.State.{Flattening, push, drop_last, wires_so_far, typed_as, typed_like, are_wires, wires_in, part_of}
+use Rattle.flat_form.specs.State.{Flattening, push, drop_last, wires_so_far, typed_as, wires_in}
 use Rattle.flat_form.specs.Flat.{known_in, without_name}
 use Rattle.flat_form.specs.Fine.{MayChange, IsOf}
 use Rattle.flat_form.specs.Good.{Good, IsKnown, IsOwned, IsShown}
 use Rattle.flat_form.specs.Names.{AllOf, AllKnown}
 use Rattle.flat_form.proofs.Kept.{found_all as found_known, its_all, known_its}
-use Rattle.flat_typed.specs.Places.{Places, is_part, is_shared, has_wires, part_out, less_part, bits_for, shown}
-use Rattle.flat_typed.specs.Footprint.{wires_for, wires_of_part, consumed_wires, NoneNames}
+use Rattle.flat_typed.specs.Places.{Places, is_part, is_shared, has_wires, part_out, less_part, bits_for}
+use Rattle.flat_typed.specs.Footprint.{wires_for, consumed_wires, NoneNames}
 use Rattle.flat_typed.specs.Relation.{Outside, Stands, FitsPart, OfType}
 use Rattle.flat_typed.specs.Uses.{IsThere}
 use Rattle.flat_typed.proofs.Ordered.{clash}

@@ -1,66 +1,33 @@
 -- A variable that is forgotten by a value that it is equal to.
-use Rattle.std.proofs.Common.{◌≡◌, ◌⊎◌, inl, inr, ℕ, ◌≤◌, ◌<◌, Bool, true, false, cond, not, ◌||◌, List, [], ◌∷◌, ◌++◌, length, map, drop, reverse, refl, sym, ap, ap₂, ◌∙◌, subst, arith}
+use Rattle.std.proofs.Common.{◌≡◌, ◌⊎◌, inl, inr, ℕ, ◌≤◌, ◌<◌, Bool, true, false, cond, not, ◌||◌, List, [], ◌∷◌, refl, sym, ap, ap₂, ◌∙◌, subst, arith}
 use Rattle.std.specs.Prelude.{Option, Some, None}
 use Rattle.std.proofs.lemmas.Bool.{cases_lt, eq-eqb}
 use Rattle.silq_tree.specs.declared.node.NameId.{NameId}
 use Rattle.silq_tree.specs.declared.node.Spot.{Spot}
-use Rattle.silq_tree.specs.Syntax.{Expression, whole, forget_value}
+use Rattle.silq_tree.specs.Syntax.{Expression, whole}
 use Rattle.silq_types.specs.declared.types.Ty.{Ty}
 use Rattle.silq_types.specs.declared.need.Need.TheVariants as needs
-use Rattle.silq_types.specs.declared.values.Part.{Part}
 use Rattle.silq_types.specs.declared.values.Value.{Value}
 use Rattle.silq_types.specs.declared.values.Var.{Var}
 use Rattle.silq_types.specs.Types.{is_held, shape_eq, same_name, names as names_in}
 use Rattle.silq_types.specs.Rules.{bad_forget}
-use Rattle.check_scope.specs.declared.uses.Use.{Use}
-use Rattle.check_scope.specs.Context.{Scope, Context, Check, indices, variable, part_at, find_var, replace, same_part, is_in_condition}
-use Rattle.check_scope.specs.Uses.{uses}
+use Rattle.check_scope.specs.Context.{Scope, Context, variable, part_at, find_var, replace, same_part, is_in_condition}
 use Rattle.check_expr.specs.Expression.{is_tuple, expr, lone_wants}
 use Rattle.check_expr.specs.Owners.{at_place, owns, owners, Gives, Ensures}
 use Rattle.check_expr.proofs.Owners.{gives-more, o_bind, o_then, o_back, o_fail, o_rules, o_variables}
 use Rattle.check_expr.proofs.Alike.{same_part_refl}
 use Rattle.check_fun.specs.Statement.{Target, target, target_of, consumed_there, has_name, forget_as}
 use Rattle.silq_mean.specs.declared.receiver.Receiver.{Receiver}
-use Rattle.silq_mean.specs.Env.{Env, Block, is_in_block, block_with, in_its_block, in_first_block, bound}
-use Rattle.silq_mean.specs.Effect.{Effect, step, claim, end_compared, ◌>>◌}
-use Rattle.silq_mean.specs.Meaning as meanings
-use Rattle.flat_core.specs.declared.step.WireId.{WireId}
-use Rattle.flat_core.specs.declared.step.End.TheVariants.{Zeroed}
-use Rattle.bit_arith.specs.declared.operand.Operand.{Operand}
-use Rattle.bit_arith.specs.Built.{Built}
-use Rattle.bit_arith.specs.Rows.{flip_each}
-use Rattle.bit_arith.specs.Calls.{among}
+use Rattle.silq_mean.specs.Env.{Env, Block, is_in_block, block_with, in_its_block}
 use Rattle.flat_form.specs.declared.known.Known.{Known}
-use Rattle.flat_form.specs.declared.known.Known.TheVariants.{Shown, Absent}
-use Rattle.flat_form.specs.State.{Flattening, last, drop_last, first, wires_so_far, operands_of, typed_like, wires_in, are_wires}
-use Rattle.flat_form.specs.Flat.{flat, end_all, bind, known_in, without_name, zero_variable}
-use Rattle.flat_form.specs.Fine.{MayChange, MayClaim, IsOf}
-use Rattle.flat_form.specs.Good.{Good}
-use Rattle.flat_form.specs.Names.{AllOf, names}
+use Rattle.flat_form.specs.Names.{AllOf}
 use Rattle.flat_form.specs.Shows.{ListBoth}
-use Rattle.flat_form.proofs.Goods.{good_flat}
-use Rattle.flat_typed.specs.Places.{Places, is_part, is_shared, has_wires, part_out, bits_for, times_in, owners_of}
-use Rattle.flat_typed.specs.Footprint.{used_wires, consumed_wires, NoneNames, Touches}
-use Rattle.flat_typed.specs.Relation.{Outside, Stands, FitsPart, IsAnswer}
-use Rattle.flat_typed.specs.Done.{Leaves, ExprDone, StmtBegins, StmtDone, MadeSince, carrying, changeable}
-use Rattle.flat_typed.specs.Scopes.{as_meaning}
-use Rattle.flat_typed.specs.Uses.{IsThere, NoStatics}
+use Rattle.flat_typed.specs.Uses.{NoStatics}
 use Rattle.flat_typed.specs.Lemmas.{Callable, ExpressionIsFine}
-use Rattle.flat_typed.specs.Stay.{FreeStatementIsFine}
-use Rattle.flat_typed.proofs.Ordered.{clash, reach_in_order}
-use Rattle.flat_typed.proofs.Parts.{name_refl, there_entry, found_there}
-use Rattle.flat_typed.proofs.Binding.{none_out}
-use Rattle.flat_typed.proofs.Moving.{spent, holders_spent, owns_all, all_replaced, all_more, found_all}
-use Rattle.flat_typed.proofs.Using.{leaves_names}
-use Rattle.flat_typed.proofs.Growing.{touches_then}
-use Rattle.flat_typed.proofs.Footprints.{operands_apart, consumed_may_change}
-use Rattle.flat_typed.proofs.Forgetting.{stands_at}
-use Rattle.flat_typed.proofs.Uses.{NotOf, uses_not_of}
-use Rattle.flat_typed.proofs.Tame.{AllLeft}
-use Rattle.flat_typed.proofs.Turns.{Does, line_fine}
-use Rattle.flat_typed.proofs.Reached.{Reached, reached_here, one_of, whole_left, made_left, consumed_touches}
-use Rattle.flat_typed.proofs.Ending.{Zeroes, flipped_zeroes, stands_ended}
-use Rattle.flat_typed.proofs.Changing.{same_shape, takes_shape, still_there, use_of, apart_consume, apart_hold, var_there, shows_bits, good_bits, var_may_change, use_consumes}
+use Rattle.flat_typed.proofs.Ordered.{clash}
+use Rattle.flat_typed.proofs.Parts.{name_refl, found_there}
+use Rattle.flat_typed.proofs.Moving.{spent}
+use Rattle.flat_typed.proofs.Reached.{Reached, reached_here, one_of}
 
 -- ---- what the walk tells
 

@@ -1,29 +1,26 @@
 -- Forgetting a variable by a value, as a statement.
 use Rattle.std.proofs.Common.{◌≡◌, ℕ, ◌≤◌, ◌<◌, Bool, true, false, cond, not, ◌||◌, List, [], ◌∷◌, ◌++◌, length, drop, reverse, refl, sym, ap, ap₂, ◌∙◌, subst, arith}
-use Rattle.std.specs.Prelude.{Option, Some, None}
+use Rattle.std.specs.Prelude.{Some, None}
 use Rattle.silq_tree.specs.declared.node.NameId.{NameId}
 use Rattle.silq_tree.specs.declared.node.Spot.{Spot}
 use Rattle.silq_tree.specs.Syntax.{Expression, forget_value}
 use Rattle.silq_types.specs.declared.types.Ty.{Ty}
 use Rattle.silq_types.specs.declared.need.Need.TheVariants as needs
-use Rattle.silq_types.specs.declared.values.Value.{Value}
 use Rattle.silq_types.specs.declared.values.Var.{Var}
 use Rattle.check_scope.specs.declared.uses.Use.{Use}
 use Rattle.check_scope.specs.Context.{Scope, Context, variable, find_var, replace}
 use Rattle.check_scope.specs.Uses.{uses}
 use Rattle.check_expr.proofs.Owners.{gives-more}
-use Rattle.check_fun.specs.Statement.{consumed_there, forget_as}
+use Rattle.check_fun.specs.Statement.{forget_as}
 use Rattle.silq_mean.specs.declared.receiver.Receiver.{Receiver}
 use Rattle.silq_mean.specs.Env.{is_in_block, in_its_block, in_first_block, bound}
 use Rattle.silq_mean.specs.Effect.{Effect, step, claim, end_compared, ◌>>◌}
 use Rattle.silq_mean.specs.Meaning as meanings
 use Rattle.flat_core.specs.declared.step.WireId.{WireId}
 use Rattle.flat_core.specs.declared.step.End.TheVariants.{Zeroed}
-use Rattle.bit_arith.specs.declared.operand.Operand.{Operand}
 use Rattle.bit_arith.specs.Built.{Built}
 use Rattle.bit_arith.specs.Rows.{flip_each}
 use Rattle.bit_arith.specs.Calls.{among}
-use Rattle.flat_form.specs.declared.known.Known.{Known}
 use Rattle.flat_form.specs.declared.known.Known.TheVariants.{Shown, Absent}
 use Rattle.flat_form.specs.State.{Flattening, last, drop_last, first, wires_so_far, operands_of, typed_like, wires_in, are_wires}
 use Rattle.flat_form.specs.Flat.{flat, end_all, bind, known_in, without_name, zero_variable}
@@ -36,7 +33,7 @@ use Rattle.flat_typed.specs.Footprint.{used_wires, consumed_wires, NoneNames, To
 use Rattle.flat_typed.specs.Relation.{Outside, Stands, FitsPart, IsAnswer}
 use Rattle.flat_typed.specs.Done.{outer_names, Leaves, ExprDone, StmtBegins, StmtDone, MadeSince, carrying, changeable}
 use Rattle.flat_typed.specs.Scopes.{as_meaning}
-use Rattle.flat_typed.specs.Uses.{IsThere, NoStatics}
+use Rattle.flat_typed.specs.Uses.{IsThere}
 use Rattle.flat_typed.specs.Lemmas.{Callable, ExpressionIsFine}
 use Rattle.flat_typed.specs.Stay.{FreeStatementIsFine}
 use Rattle.flat_typed.proofs.Ordered.{clash, reach_in_order}
@@ -50,7 +47,7 @@ use Rattle.flat_typed.proofs.Forgetting.{stands_at}
 use Rattle.flat_typed.proofs.Uses.{NotOf, uses_not_of}
 use Rattle.flat_typed.proofs.Tame.{AllLeft}
 use Rattle.flat_typed.proofs.Turns.{Does, line_fine}
-use Rattle.flat_typed.proofs.Reached.{Reached, whole_left, made_left, consumed_touches}
+use Rattle.flat_typed.proofs.Reached.{whole_left, made_left, consumed_touches}
 use Rattle.flat_typed.proofs.Ending.{Zeroes, flipped_zeroes, stands_ended}
 use Rattle.flat_typed.proofs.Changing.{same_shape, takes_shape, still_there, use_of, apart_consume, apart_hold, var_there, shows_bits, good_bits, var_may_change, use_consumes}
 use Rattle.flat_typed.proofs.Claims.{Claimed, claimed, OneAnswer, one_answer, its_twice, found_spent, all_below}

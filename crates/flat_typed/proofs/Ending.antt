@@ -1,16 +1,14 @@
 -- A variable whose wires end as 0: the relation stands again without it.
-use Rattle.std.proofs.Common.{◌≡◌, ◌⊎◌, inl, inr, ℕ, suc, ◌+◌, ◌≤◌, ◌<◌, Bool, true, false, cond, ◌||◌, List, [], ◌∷◌, length, refl, sym, ap, ◌∙◌, subst, arith}
-use Rattle.std.specs.Prelude.{Option, Some, None}
+use Rattle.std.proofs.Common.{◌≡◌, ◌⊎◌, inl, inr, suc, ◌+◌, ◌≤◌, ◌<◌, Bool, true, false, cond, ◌||◌, List, [], ◌∷◌, length, refl, sym, ap, ◌∙◌, subst, arith}
+use Rattle.std.specs.Prelude.{Some, None}
 use Rattle.std.proofs.lemmas.Bool.{cases_lt}
 use Rattle.silq_tree.specs.declared.node.NameId.{NameId}
 use Rattle.silq_types.specs.declared.values.Part.{Part}
-use Rattle.silq_types.specs.declared.values.Value.{Value}
 use Rattle.silq_types.specs.declared.values.Var.{Var}
 use Rattle.silq_types.specs.Types.{is_linear}
 use Rattle.check_scope.specs.Context.{Context, variable, find_var, replace}
 use Rattle.silq_mean.specs.Env.{in_its_block}
 use Rattle.flat_core.specs.declared.step.WireId.{WireId}
-use Rattle.flat_core.specs.declared.step.End.{End}
 use Rattle.flat_core.specs.declared.step.End.TheVariants.{Dropped, Zeroed}
 use Rattle.flat_core.specs.Form.{DraftForm, WireForm}
 use Rattle.flat_core.specs.Label.{wire_in}
@@ -18,7 +16,7 @@ use Rattle.bit_arith.specs.declared.operand.Operand.{Operand}
 use Rattle.bit_arith.specs.declared.operand.Operand.TheVariants.{Const, Literal}
 use Rattle.bit_arith.specs.Built.{Built, Setting}
 use Rattle.bit_arith.specs.Rows.{flip_each}
-use Rattle.bit_arith.specs.Calls.{among, IsTarget}
+use Rattle.bit_arith.specs.Calls.{among}
 use Rattle.bit_arith.specs.Does.{Fresh}
 use Rattle.flat_form.specs.declared.known.Known.TheVariants.{Absent}
 use Rattle.flat_form.specs.State.{Flattening, wires_in}

@@ -1,52 +1,42 @@
 -- Values that are handed over to names: what their places show.
-use Rattle.std.proofs.Common.{◌≡◌, ◌⊎◌, inl, inr, ℕ, suc, ◌+◌, ◌≤◌, ◌<◌, Bool, true, false, cond, not, ◌&&◌, ◌||◌, List, [], ◌∷◌, ◌++◌, length, map, drop, reverse, refl, sym, ap, ap₂, ◌∙◌, subst, arith}
+use Rattle.std.proofs.Common.{◌≡◌, ◌⊎◌, inl, inr, ℕ, ◌+◌, ◌≤◌, ◌<◌, Bool, true, false, cond, not, List, [], ◌∷◌, length, refl, sym, ap, ap₂, ◌∙◌, subst, arith}
 use Rattle.std.specs.Prelude.{◌==◌, ⊤}
 use Rattle.std.specs.List.{list_any}
-use Rattle.std.proofs.lemmas.Bool.{cases_lt, eqb-true, eq-eqb}
+use Rattle.std.proofs.lemmas.Bool.{eqb-true, eq-eqb}
 use Rattle.silq_tree.specs.declared.node.NameId.{NameId}
 use Rattle.silq_tree.specs.Syntax.{Expressions}
 use Rattle.silq_types.specs.declared.types.Ty.{Ty}
 use Rattle.silq_types.specs.declared.need.Need.TheVariants as needs
-use Rattle.silq_types.specs.declared.values.Part.{Part}
 use Rattle.silq_types.specs.declared.values.Value.{Value}
 use Rattle.silq_types.specs.declared.values.Var.{Var}
 use Rattle.silq_types.specs.Types.{is_held, count}
-use Rattle.check_scope.specs.declared.uses.Use.{Use}
 use Rattle.check_scope.specs.Context.{Scope, Context}
-use Rattle.check_expr.specs.Owners.{at_place, owns, owners, owned, Sole, Gives}
+use Rattle.check_expr.specs.Owners.{at_place, owned, Sole, Gives}
 use Rattle.check_expr.specs.Expression.{arguments}
-use Rattle.check_fun.specs.Statement.{bind_names, overwrites_linear}
 use Rattle.silq_mean.specs.declared.receiver.Receiver.{Receiver}
 use Rattle.silq_mean.specs.declared.receiver.Receiver.TheVariants.{Variable}
-use Rattle.silq_mean.specs.Effect.{Effect}
 use Rattle.silq_mean.specs.Meaning as meanings
 use Rattle.flat_core.specs.declared.step.WireId.{WireId}
 use Rattle.bit_arith.specs.declared.operand.Operand.{Operand}
 use Rattle.bit_arith.specs.Calls.{Targets}
 use Rattle.flat_form.specs.declared.known.Known.{Known}
 use Rattle.flat_form.specs.declared.known.Known.TheVariants.{Shown, Absent}
-use Rattle.flat_form.specs.State.{Flattening, wires_so_far, operands_of}
-use Rattle.flat_form.specs.Flat.{flat, as_variable, bind_all}
-use Rattle.flat_form.specs.Fine.{Fine}
+use Rattle.flat_form.specs.State.{Flattening, operands_of}
+use Rattle.flat_form.specs.Flat.{as_variable}
 use Rattle.flat_form.specs.Names.{AllOf, operands_in, names, named_by}
 use Rattle.flat_form.specs.Shows.{ListBoth}
-use Rattle.flat_typed.specs.Places.{Places, with_place, is_part, has_wires, part_out, less_part, bits_for, shown, holds, holders, times_in, carriers, owners_of}
-use Rattle.flat_typed.specs.Footprint.{used_wires, consumed_wires, Touches}
-use Rattle.flat_typed.specs.Relation.{Outside, Stands, FitsPart, IsTakenOver, AllNew, began_of}
-use Rattle.flat_typed.specs.Done.{Agree, Leaves, StmtBegins, StmtDone, MadeSince, changeable}
+use Rattle.flat_typed.specs.Places.{Places, with_place, has_wires, part_out, less_part, bits_for, shown, holders, times_in, carriers, owners_of}
+use Rattle.flat_typed.specs.Relation.{Outside, FitsPart, IsTakenOver, AllNew}
+use Rattle.flat_typed.specs.Done.{Agree, StmtBegins}
 use Rattle.flat_typed.specs.Calls.{Three, carried, ArgsDone}
 use Rattle.flat_typed.specs.Scopes.{as_meaning}
 use Rattle.flat_typed.specs.Uses.{IsThere, NoStatics}
 use Rattle.flat_typed.specs.Lemmas.{Callable, uses_by}
-use Rattle.flat_typed.proofs.Ordered.{clash}
-use Rattle.flat_typed.proofs.Moving.{all_more}
-use Rattle.flat_typed.proofs.Agreeing.{SameFor, stands_agree}
+use Rattle.flat_typed.proofs.Agreeing.{SameFor}
 use Rattle.flat_typed.proofs.Making.{its_place}
 use Rattle.flat_typed.proofs.Placing.{place_other}
 use Rattle.flat_typed.proofs.Tame.{AllLeft}
-use Rattle.flat_typed.proofs.Turns.{sole_now}
-use Rattle.flat_typed.proofs.Reached.{whole_left, made_left, consumed_touches}
-use Rattle.flat_typed.proofs.Naming.{variables_for, IsNamed, SameNames, all_left, in_turn, all_whole, all_named}
+use Rattle.flat_typed.proofs.Naming.{variables_for, IsNamed}
 
 -- ---- what an assignment needs of its values, beside what their effect does
 

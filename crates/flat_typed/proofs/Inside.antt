@@ -1,5 +1,5 @@
 -- A part of a type lies within it.
-use Rattle.std.proofs.Common.{◌≡◌, ℕ, suc, ◌+◌, ◌*◌, ◌≤◌, ◌<◌, Bool, true, false, cond, not, ◌&&◌, List, [], ◌∷◌, length, refl, sym, ap, ◌∙◌, subst, arith, suc-mul, mul-le-mul_right}
+use Rattle.std.proofs.Common.{◌≡◌, ℕ, suc, ◌+◌, ◌*◌, ◌≤◌, ◌<◌, Bool, true, false, cond, List, [], ◌∷◌, refl, sym, ap, subst, arith, suc-mul, mul-le-mul_right}
 use Rattle.std.specs.Prelude.{Option, Some, None, ℤ, pos, negsuc, nat_abs}
 use Rattle.std.proofs.lemmas.Bool.{ltb-true}
 use Rattle.silq_tree.specs.declared.node.NameId.{NameId}
@@ -9,11 +9,10 @@ use Rattle.silq_types.specs.declared.types.Scalar.TheVariants as scalars
 use Rattle.silq_types.specs.declared.types.Shape.{Shape}
 use Rattle.silq_types.specs.declared.types.Shape.TheVariants.{Bit, UInt, Int, Array}
 use Rattle.silq_types.specs.declared.types.Ty.{Ty}
-use Rattle.silq_types.specs.declared.values.Part.{Part}
 use Rattle.silq_types.specs.Types.{Statics, scalar_bits, shape_bits, single_shape, place_indices}
 use Rattle.silq_mean.specs.Meaning.{static_values}
-use Rattle.check_scope.specs.Context.{indices, part_at, is_below, typed_as, bit_at, scalar_part, part_type}
-use Rattle.flat_form.specs.State.{part_shape, part_start, bit_start}
+use Rattle.check_scope.specs.Context.{indices, part_at, is_below, typed_as, scalar_part, part_type}
+use Rattle.flat_form.specs.State.{part_shape, part_start}
 use Rattle.flat_form.specs.Fine.{IndexFits}
 use Rattle.flat_typed.proofs.Ordered.{clash}
 use Rattle.flat_typed.proofs.Parts.{some_same}

@@ -53,3 +53,4 @@ pub mod Assignments
 pub mod Stated
 pub mod Variables
 pub mod Quiet
+pub mod Unchanged

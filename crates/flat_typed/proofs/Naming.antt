@@ -1,5 +1,5 @@
 -- Values that names take over in turn: the relation stands again, with the variables as the owners of their wires.
-use Rattle.std.proofs.Common.{◌≡◌, ◌⊎◌, inl, inr, ℕ, suc, ◌+◌, ◌≤◌, ◌<◌, Bool, true, false, cond, not, ◌&&◌, ◌||◌, List, [], ◌∷◌, length, map, drop, refl, sym, ap, ap₂, ◌∙◌, subst, arith}
+use Rattle.std.proofs.Common.{◌≡◌, ◌⊎◌, ℕ, ◌+◌, ◌≤◌, ◌<◌, Bool, true, false, cond, not, ◌||◌, List, [], ◌∷◌, length, map, drop, refl, sym, ap, ◌∙◌, subst, arith}
 use Rattle.std.specs.Prelude.{Option, Some, None}
 use Rattle.std.specs.List.{list_any}
 use Rattle.silq_tree.specs.declared.node.NameId.{NameId}
@@ -12,24 +12,23 @@ use Rattle.check_fun.specs.Statement.{bind_name, bind_names, passes, is_live_lin
 use Rattle.check_fun.specs.Statement as statements
 use Rattle.silq_mean.specs.declared.receiver.Receiver.{Receiver}
 use Rattle.silq_mean.specs.declared.receiver.Receiver.TheVariants.{Variable}
-use Rattle.silq_mean.specs.Env.{Env, Block, is_in_reach, in_its_block, in_first_block, bound}
+use Rattle.silq_mean.specs.Env.{Env, is_in_reach, in_its_block, in_first_block, bound}
 use Rattle.flat_core.specs.declared.step.WireId.{WireId}
-use Rattle.flat_form.specs.declared.known.TypedBits.{TypedBits}
 use Rattle.flat_form.specs.declared.known.Known.{Known}
 use Rattle.flat_form.specs.declared.known.Known.TheVariants.{Shown}
 use Rattle.flat_form.specs.State.{Flattening}
 use Rattle.flat_form.specs.Flat.{as_variable, bind_all}
 use Rattle.flat_form.specs.Names.{AllOf, operands_in, named_by}
 use Rattle.flat_form.specs.Shows.{ListBoth}
-use Rattle.flat_typed.specs.Places.{Places, is_part, has_wires, part_out, less_part, bits_for, shown, holds, holders, times_in, owners_of}
+use Rattle.flat_typed.specs.Places.{Places, is_part, less_part, bits_for, shown, holds, holders, times_in, owners_of}
 use Rattle.flat_typed.specs.Relation.{Outside, Stands, AllNew}
 use Rattle.flat_typed.specs.Done.{MadeSince, outer_names}
 use Rattle.flat_typed.specs.Calls.{carried}
 use Rattle.flat_typed.proofs.Ordered.{clash, or_left, or_right}
 use Rattle.flat_typed.proofs.Moving.{holders_with}
-use Rattle.flat_typed.proofs.Binding.{old_of, bound_sum, all_bound, out_bound, none_out, NotLost, stands_bound}
+use Rattle.flat_typed.proofs.Binding.{bound_sum, all_bound, out_bound, none_out, NotLost, stands_bound}
 use Rattle.flat_typed.proofs.Sharing.{stands_shared}
-use Rattle.flat_typed.proofs.Using.{all_names, env_names, drop_map, length_map}
+use Rattle.flat_typed.proofs.Using.{env_names, drop_map, length_map}
 use Rattle.flat_typed.proofs.Forgetting.{stands_at}
 
 -- ---- names of blocks

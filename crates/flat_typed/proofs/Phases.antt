@@ -1,6 +1,6 @@
 -- Phases, and calls as statements.
-use Rattle.std.proofs.Common.{◌≡◌, ℕ, ◌<◌, ◌≤◌, ◌-◌, ◌%◌, Bool, true, false, cond, not, List, [], ◌∷◌, ◌++◌, length, reverse, refl, sym, ap, ◌∙◌, subst, arith, mod-lt}
-use Rattle.std.specs.Prelude.{Result, Ok, Err, ℤ, pos, ◌==◌}
+use Rattle.std.proofs.Common.{◌≡◌, ℕ, ◌<◌, ◌-◌, ◌%◌, Bool, true, false, cond, not, List, [], ◌∷◌, ◌++◌, reverse, refl, sym, ap, ◌∙◌, subst, arith, mod-lt}
+use Rattle.std.specs.Prelude.{Result, Ok, Err, ℤ, pos}
 use Rattle.std.specs.Ordering.{int_eq}
 use Rattle.silq_tree.specs.declared.node.NameId.{NameId}
 use Rattle.silq_tree.specs.declared.node.Spot.{Spot}
@@ -40,7 +40,7 @@ use Rattle.flat_typed.specs.Footprint.{used_wires, consumed_wires}
 use Rattle.flat_typed.specs.Relation.{Outside, FitsPart, IsAnswer}
 use Rattle.flat_typed.specs.Done.{StmtBegins, StmtDone, ExprDone, changeable}
 use Rattle.flat_typed.specs.Scopes.{as_meaning}
-use Rattle.flat_typed.specs.Uses.{IsThere, NoStatics}
+use Rattle.flat_typed.specs.Uses.{IsThere}
 use Rattle.flat_typed.specs.Lemmas.{Callable, StatementIsFine, ExpressionIsFine}
 use Rattle.flat_typed.specs.Stay.{FreeStatementIsFine}
 use Rattle.flat_typed.proofs.Ordered.{clash}
@@ -49,7 +49,7 @@ use Rattle.flat_typed.proofs.Flipping.{Flips, flips_turn}
 use Rattle.flat_typed.proofs.Touching.{flips_touch, flips_stay_plain, flips_plain}
 use Rattle.flat_typed.proofs.Tame.{AllLeft}
 use Rattle.flat_typed.proofs.Turns.{Does, line_fine, places_made}
-use Rattle.flat_typed.proofs.Reached.{Reached, expression_reached, reached_here, whole_left, made_left, consumed_touches}
+use Rattle.flat_typed.proofs.Reached.{Reached, reached_here, whole_left, made_left, consumed_touches}
 
 -- ---- eighths of a turn
 

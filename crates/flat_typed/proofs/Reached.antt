@@ -1,5 +1,5 @@
 -- An expression in a statement: from where it begins, and what its walk tells beside its effect.
-use Rattle.std.proofs.Common.{◌≡◌, ◌⊎◌, inl, inr, ℕ, ◌≤◌, ◌<◌, Bool, true, false, cond, not, List, [], ◌∷◌, length, refl, sym, ap, ◌∙◌, subst, arith}
+use Rattle.std.proofs.Common.{◌≡◌, ◌⊎◌, inl, inr, ℕ, ◌≤◌, ◌<◌, Bool, true, false, cond, not, List, [], ◌∷◌, refl, sym, ap, ◌∙◌, subst, arith}
 use Rattle.std.specs.Prelude.{⊤}
 use Rattle.std.proofs.lemmas.Bool.{cases_lt, eq-eqb}
 use Rattle.silq_tree.specs.Syntax.{Expression}
@@ -11,21 +11,19 @@ use Rattle.silq_types.specs.declared.values.Value.{Value}
 use Rattle.silq_types.specs.declared.values.Var.{Var}
 use Rattle.check_scope.specs.declared.uses.Use.{Use}
 use Rattle.check_scope.specs.Walk.{Walk, answer, broken, counted, asked}
-use Rattle.check_scope.specs.Context.{Scope, Context, Check, indices, fail}
+use Rattle.check_scope.specs.Context.{Scope, Context, indices}
 use Rattle.check_scope.specs.Uses.{uses}
 use Rattle.check_expr.specs.Expression.{is_tuple, expr, single}
 use Rattle.check_expr.specs.Owners.{at_place, owns, owners, Gives, Ensures}
 use Rattle.check_expr.proofs.Owners.{gives-more, o_if, o_fail, o_back, o_more}
 use Rattle.silq_mean.specs.declared.receiver.Receiver.{Receiver}
 use Rattle.silq_mean.specs.Written.{is_empty}
-use Rattle.silq_mean.specs.Effect.{Effect}
 use Rattle.silq_mean.specs.Meaning as meanings
 use Rattle.flat_core.specs.declared.step.WireId.{WireId}
-use Rattle.flat_form.specs.State.{Flattening, wires_so_far}
-use Rattle.flat_form.specs.Flat.{flat}
+use Rattle.flat_form.specs.State.{Flattening}
 use Rattle.flat_form.specs.Names.{AllOf, names}
-use Rattle.flat_typed.specs.Places.{Places, is_part, is_shared, has_wires}
-use Rattle.flat_typed.specs.Footprint.{consumed_wires, NoneNames, Touches}
+use Rattle.flat_typed.specs.Places.{Places, is_part, has_wires}
+use Rattle.flat_typed.specs.Footprint.{consumed_wires, Touches}
 use Rattle.flat_typed.specs.Relation.{Outside, FitsPart}
 use Rattle.flat_typed.specs.Done.{Begins, ExprDone, StmtBegins, MadeSince, changeable}
 use Rattle.flat_typed.specs.Scopes.{as_meaning}
@@ -34,7 +32,7 @@ use Rattle.flat_typed.specs.Lemmas.{Callable, ExpressionIsFine}
 use Rattle.flat_typed.proofs.Ordered.{clash}
 use Rattle.flat_typed.proofs.Growing.{touches_more}
 use Rattle.flat_typed.proofs.Footprints.{consumed_may_change}
-use Rattle.flat_typed.proofs.Tame.{Left, AllLeft, left_same}
+use Rattle.flat_typed.proofs.Tame.{AllLeft, left_same}
 use Rattle.flat_typed.proofs.Leaving.{k_any}
 use Rattle.flat_typed.proofs.WalkThere.{u_expr}
 use Rattle.flat_typed.proofs.Turns.{gives_both, wired_live}

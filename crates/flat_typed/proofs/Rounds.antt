@@ -1,6 +1,6 @@
 -- Loops, whose rounds are told, and choices by a static value.
-use Rattle.std.proofs.Common.{◌≡◌, ℕ, zero, suc, Bool, true, false, cond, ◌||◌, List, [], ◌∷◌, ◌++◌, length, refl, sym, ap, ◌∙◌, subst}
-use Rattle.std.specs.Prelude.{Option, Some, None, is_some, ◌==◌, ℤ, pos, ◌+ℤ◌, ◌-ℤ◌, Ok}
+use Rattle.std.proofs.Common.{◌≡◌, ℕ, zero, suc, Bool, true, false, cond, ◌||◌, List, [], ◌∷◌, ◌++◌, refl, sym, ap, ◌∙◌, subst}
+use Rattle.std.specs.Prelude.{Option, Some, None, is_some, ◌==◌, ℤ, pos, ◌+ℤ◌, ◌-ℤ◌}
 use Rattle.silq_tree.specs.declared.node.NameId.{NameId}
 use Rattle.silq_tree.specs.declared.node.Spot.{Spot}
 use Rattle.silq_tree.specs.Syntax.{Expression, Statement, Statements, Otherwise, block, choice, loop, else_block, else_choice, done, next}
@@ -12,7 +12,7 @@ use Rattle.silq_types.specs.declared.need.Need.TheVariants as needs
 use Rattle.silq_types.specs.declared.values.Var.{Var}
 use Rattle.silq_types.specs.Programs.{distance}
 use Rattle.check_scope.specs.Context.{Scope, Context, Check, ◌>>=◌, ◌>>◌, of_result, needed, variables, rules, is_variable, find_var, variable}
-use Rattle.check_expr.specs.Owners.{Gives, Ensures, Sole}
+use Rattle.check_expr.specs.Owners.{Gives, Ensures}
 use Rattle.check_expr.proofs.Owners.{gives-more, o_bind, o_then, o_result, o_rules, o_variables}
 use Rattle.check_fun.specs.Statement as walks
 use Rattle.silq_mean.specs.declared.receiver.Receiver.{Receiver}

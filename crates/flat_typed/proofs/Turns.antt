@@ -1,28 +1,25 @@
 -- Statements on their lines, and one after another.
-use Rattle.std.proofs.Common.{◌≡◌, ◌⊎◌, inl, inr, ℕ, suc, ◌≤◌, ◌<◌, Bool, true, false, cond, not, ◌&&◌, ◌||◌, List, [], ◌∷◌, length, refl, sym, ap, ◌∙◌, subst, arith, nat_lt}
-use Rattle.std.specs.Prelude.{Option, Some, None}
+use Rattle.std.proofs.Common.{◌≡◌, ◌⊎◌, inl, inr, ℕ, ◌≤◌, ◌<◌, Bool, true, false, cond, not, ◌&&◌, ◌||◌, List, [], ◌∷◌, refl, sym, ap, ◌∙◌, subst, arith, nat_lt}
+use Rattle.std.specs.Prelude.{None}
 use Rattle.std.proofs.lemmas.Bool.{cases_lt, lt-ltb, eq-eqb}
 use Rattle.silq_tree.specs.declared.node.NameId.{NameId}
 use Rattle.silq_types.specs.declared.signature.InstanceKey.{InstanceKey}
 use Rattle.silq_types.specs.declared.signature.Signature.{Signature}
 use Rattle.silq_types.specs.declared.values.Var.{Var}
-use Rattle.check_scope.specs.Walk.{Walk, answer, broken, counted, asked, bind}
+use Rattle.check_scope.specs.Walk.{Walk, answer, broken, counted, asked}
 use Rattle.check_scope.specs.Context.{Scope, Context, Check, ◌>>◌, count_statement, pass}
 use Rattle.check_expr.specs.Owners.{at_place, owns, owners, Gives, Sole}
 use Rattle.check_expr.proofs.Owners.{gives-bind, gives-more}
 use Rattle.silq_mean.specs.Effect.{Effect, nothing, statement, ◌>>◌ as ◌▸◌}
 use Rattle.flat_core.specs.declared.step.WireId.{WireId}
 use Rattle.bit_arith.specs.Built.{Setting}
-use Rattle.flat_form.specs.Good.{Good}
 use Rattle.flat_form.specs.State.{Flattening, wires_so_far}
 use Rattle.flat_form.specs.Flat.{flat, on_line, count_statement as counted_too}
-use Rattle.flat_form.specs.Fine.{Fine}
 use Rattle.flat_form.specs.Names.{AllOf, operands_in}
 use Rattle.flat_form.proofs.Goods.{good_statement, good_flat}
 use Rattle.flat_typed.specs.Places.{Places, is_part, is_shared, has_wires, part_out, times_in, holds, holders, owners_of, shown}
-use Rattle.flat_typed.specs.Footprint.{Touches}
 use Rattle.flat_typed.specs.Relation.{Outside, AllNew}
-use Rattle.flat_typed.specs.Done.{Leaves, StmtBegins, StmtDone, MadeSince, changeable}
+use Rattle.flat_typed.specs.Done.{StmtBegins, StmtDone, MadeSince, changeable}
 use Rattle.flat_typed.specs.Lemmas.{Callable, StmtFine}
 use Rattle.flat_typed.specs.Stay.{SomeOf, IsOwner, HadOwner, Stayed, Goes, Keeps}
 use Rattle.flat_typed.proofs.Ordered.{clash}

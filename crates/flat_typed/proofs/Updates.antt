@@ -1,10 +1,9 @@
 -- A part of a variable that a statement changes: its wires may be changed.
-use Rattle.std.proofs.Common.{◌≡◌, ℕ, ◌+◌, ◌≤◌, ◌<◌, Bool, true, false, cond, not, ◌&&◌, ◌||◌, List, [], ◌∷◌, length, refl, sym, ap, ap₂, ◌∙◌, subst, arith}
+use Rattle.std.proofs.Common.{◌≡◌, ℕ, ◌+◌, ◌≤◌, Bool, true, false, cond, not, ◌&&◌, ◌||◌, List, [], ◌∷◌, refl, sym, ap, ap₂, ◌∙◌, subst, arith}
 use Rattle.std.specs.Prelude.{Option, Some, None, ℤ}
 use Rattle.silq_tree.specs.declared.node.NameId.{NameId}
 use Rattle.silq_types.specs.declared.types.Ty.{Ty}
 use Rattle.silq_types.specs.declared.values.Part.{Part}
-use Rattle.silq_types.specs.declared.values.Value.{Value}
 use Rattle.silq_types.specs.declared.values.Var.{Var}
 use Rattle.silq_types.specs.declared.need.Need.{Need}
 use Rattle.silq_types.specs.declared.need.Need.TheVariants as needs
@@ -22,12 +21,12 @@ use Rattle.bit_arith.specs.declared.operand.Operand.TheVariants.{Const, Literal}
 use Rattle.bit_arith.specs.Built.{under_condition}
 use Rattle.bit_arith.specs.Calls.{among, no_target, AllSafe, IsTarget}
 use Rattle.flat_form.specs.declared.known.Known.{Known}
-use Rattle.flat_form.specs.declared.known.Known.TheVariants.{Shown, Lent, Absent}
+use Rattle.flat_form.specs.declared.known.Known.TheVariants.{Lent, Absent}
 use Rattle.flat_form.specs.State.{Flattening, wires_so_far, wires_in, part_of, part_shape, part_start, outside}
 use Rattle.flat_form.specs.Fine.{MayChange, without_part}
 use Rattle.flat_form.specs.Good.{Good}
 use Rattle.flat_form.specs.Names.{AllOf, AllEnv, names}
-use Rattle.flat_typed.specs.Places.{Places, is_part, is_shared, has_wires, part_out, less_part, bits_for, shown, in_order, holders, times_in, owners_of}
+use Rattle.flat_typed.specs.Places.{Places, is_part, is_shared, has_wires, part_out, less_part, bits_for, shown, holders, times_in, owners_of}
 use Rattle.flat_typed.specs.Footprint.{wires_for, consumed_wires, NoneNames}
 use Rattle.flat_typed.specs.Relation.{Outside, Stands, Guards, SparesGuarded}
 use Rattle.flat_typed.specs.Uses.{IsThere}

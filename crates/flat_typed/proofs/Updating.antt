@@ -1,5 +1,5 @@
 -- An update of a variable or of a part of one, as a statement.
-use Rattle.std.proofs.Common.{◌≡◌, ℕ, ◌≤◌, ◌<◌, Bool, true, false, cond, not, ◌&&◌, ◌||◌, List, [], ◌∷◌, ◌++◌, length, drop, reverse, refl, sym, ap, ap₂, ◌∙◌, subst, arith}
+use Rattle.std.proofs.Common.{◌≡◌, ℕ, ◌≤◌, ◌<◌, Bool, true, false, not, ◌&&◌, ◌||◌, List, [], ◌∷◌, ◌++◌, length, drop, reverse, refl, sym, ap, ap₂, ◌∙◌, subst, arith}
 use Rattle.std.specs.Prelude.{Option, Some, None, ℤ}
 use Rattle.silq_tree.specs.declared.node.NameId.{NameId}
 use Rattle.silq_tree.specs.declared.node.Spot.{Spot}
@@ -11,12 +11,12 @@ use Rattle.silq_types.specs.declared.types.Ty.{Ty}
 use Rattle.silq_types.specs.declared.need.Need.TheVariants as needs
 use Rattle.silq_types.specs.declared.values.Value.{Value}
 use Rattle.silq_types.specs.declared.values.Var.{Var}
-use Rattle.silq_types.specs.Types.{is_held, is_number, shape_eq, shape_bits, place_name, place_indices, names as names_in}
+use Rattle.silq_types.specs.Types.{is_held, is_number, shape_eq, place_name, place_indices, names as names_in}
 use Rattle.check_scope.specs.declared.uses.Use.{Use}
 use Rattle.check_scope.specs.Context.{Scope, Context, indices, variable, part_at, part_type, find_var, is_in_condition}
 use Rattle.check_scope.specs.Uses.{uses}
 use Rattle.check_expr.specs.Expression.{is_tuple, expr, lone_wants}
-use Rattle.check_expr.specs.Owners.{Gives, Ensures}
+use Rattle.check_expr.specs.Owners.{Ensures}
 use Rattle.check_expr.proofs.Owners.{gives-more, o_bind, o_then, o_back, o_fail, o_more, o_rules, o_variables}
 use Rattle.check_fun.specs.Statement.{Target, target, target_of, target_type, consumed_there, has_name, needs_number, static_updated, update_part}
 use Rattle.silq_mean.specs.declared.receiver.Receiver.{Receiver}
@@ -26,7 +26,6 @@ use Rattle.flat_core.specs.declared.step.WireId.{WireId}
 use Rattle.bit_arith.specs.declared.operand.Operand.{Operand}
 use Rattle.bit_arith.specs.Built.{Built, Setting}
 use Rattle.bit_arith.specs.Calls.{Targets, among}
-use Rattle.flat_form.specs.declared.known.TypedBits.{TypedBits}
 use Rattle.flat_form.specs.declared.known.Known.TheVariants.{Shown}
 use Rattle.flat_form.specs.State.{Flattening, last, drop_last, first, wires_so_far, operands_of, typed_as, wires_in, part_of, part_shape}
 use Rattle.flat_form.specs.Flat.{flat, known_in, update_by, update_variable}
