@@ -88,7 +88,7 @@ module _ (sc : Scope) (taker : Ty → Receiver) (es : Expressions) (xs : List Na
   under_same = carried_same U (used_wires W c.vars us) (consumed_wires W c.vars us) (wires_so_far st) c.next d.vars (λ w. 0) V xs vs ks handed_done.each shows
 
   whole1 : AllOf (λ u. is_part u ≡ false) d.vars
-  whole1 = whole_left c.vars d.vars h.left b.whole
+  whole1 = whole_left c.vars d.vars (h.left W b.stands.parts) b.whole
 
   stands1 : Stands out sc.held V under d s1
   stands1 =
@@ -119,7 +119,7 @@ module _ (sc : Scope) (taker : Ty → Receiver) (es : Expressions) (xs : List Na
         (stands_at out sc.held V [] (record d { vars = bind_names d.vars xs vs }) (record s1 { env = bind_all s1.env xs ks }) final refl refl refl refl
         (in_turn out sc.held V (wires_so_far st) c.next N xs vs ks d s1 len whole1 over named (λ w. omega arith) stands1));
     whole = all_whole out sc.held V (wires_so_far st) c.next N xs vs d.vars whole1;
-    made = all_named out sc.held V (wires_so_far st) c.next N xs vs ks d.vars named (made_left (wires_so_far st) c.next V c.vars d.vars h.left (λ p le. let a = b.sole.ahead p le in omega (arith, a)));
+    made = all_named out sc.held V (wires_so_far st) c.next N xs vs ks d.vars named (made_left (wires_so_far st) c.next V c.vars d.vars (h.left W b.stands.parts) (λ p le. let a = b.sole.ahead p le in omega (arith, a)));
     none = ap (λ (u : Flattening). u.values) becomes;
     leaves = subst (Leaves st) (sym becomes) (record {
       setting = handed_done.leaves.setting;

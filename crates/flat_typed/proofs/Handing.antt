@@ -50,7 +50,7 @@ pub record HandedOver (sc : Scope) (taker : Ty → Receiver) (es : Expressions) 
   pub does : (out : Outside) (low : ℕ) (W : Places) (s : Flattening) → StmtBegins out sc low (λ p. 0) W c s → ArgsDone out sc takers (meanings.exprs es (as_meaning taker sc) needs.Consumed [] takers) W [] (uses_by es sc c takers) c s vs d
   pub given : (out : Outside) (low : ℕ) (W : Places) (s : Flattening) (b : StmtBegins out sc low (λ p. 0) W c s) → ListBoth (IsGiven (does out low W s b).after c.next d.vars (carried takers vs)) vs (does out low W s b).answers
   pub there : (W : Places) → AllOf (FitsPart W c.vars) c.vars → AllOf (IsThere sc.held c.vars) (uses_by es sc c takers)
-  pub left : AllLeft c.vars d.vars
+  pub left : (W : Places) → AllOf (FitsPart W c.vars) c.vars → AllLeft c.vars d.vars
   pub sole : Sole c.next (λ p. 0) c → Sole c.next (λ p. owned p vs) d
 
 -- the values of some expressions that names take over

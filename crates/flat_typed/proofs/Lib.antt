@@ -54,3 +54,4 @@ pub mod Stated
 pub mod Variables
 pub mod Quiet
 pub mod Unchanged
+pub mod OneValue
