@@ -72,7 +72,7 @@ assigned_tells S sc s xs vs =
         left = ap (λ l. record d { vars = bind_names l xs vs }) h.1.0;
       } }))
 
-arguments_long : (S : InstanceKey → Signature → Type 0) (es : Expressions) (sc : Scope) (other : Need) (l : List Asked) → Ensures S (λ d. ⊤) (arguments es sc other l) (λ vs d. length vs ≡ count es)
+pub arguments_long : (S : InstanceKey → Signature → Type 0) (es : Expressions) (sc : Scope) (other : Need) (l : List Asked) → Ensures S (λ d. ⊤) (arguments es sc other l) (λ vs d. length vs ≡ count es)
 arguments_long S none sc other l = o_back S 0 [] (λ d h. refl)
 arguments_long S (more e es) sc other l =
     o_bind S 0 (k_any S 0 _) (λ vs. o_bind S 0 (k_any S 0 _) (λ v. o_then S 0 (k_any S 0 _) (λ u. o_bind S 0 (arguments_long S es sc other _) (λ rest. o_back S 0 (v ∷ rest) (λ d h. omega (arith, h))))))

@@ -55,3 +55,4 @@ pub mod Variables
 pub mod Quiet
 pub mod Unchanged
 pub mod OneValue
+pub mod Calling

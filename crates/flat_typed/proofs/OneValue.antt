@@ -1,5 +1,5 @@
 -- The one value of an assignment to a name: what its walk tells, and what is left to its effect.
-use Rattle.std.proofs.Common.{◌≡◌, ℕ, ◌+◌, ◌≤◌, Bool, true, false, cond, List, [], ◌∷◌, ◌++◌, length, refl, sym, ap, ◌∙◌, subst, arith}
+use Rattle.std.proofs.Common.{◌≡◌, ℕ, ◌+◌, ◌≤◌, false, cond, List, [], ◌∷◌, length, refl, sym, ap, subst, arith}
 use Rattle.silq_tree.specs.declared.node.NameId.{NameId}
 use Rattle.silq_tree.specs.declared.node.Spot.{Spot}
 use Rattle.silq_tree.specs.Syntax.{Expression, Expressions, none, more, whole, assign}
@@ -7,28 +7,24 @@ use Rattle.silq_types.specs.declared.types.Ty.{Ty}
 use Rattle.silq_types.specs.declared.need.Need.TheVariants as needs
 use Rattle.silq_types.specs.declared.values.Value.{Value}
 use Rattle.silq_types.specs.Types.{count}
-use Rattle.check_scope.specs.Context.{Scope, Context, Check, ◌>>=◌, ◌>>◌}
+use Rattle.check_scope.specs.Context.{Scope, Context}
 use Rattle.check_scope.specs.Uses.{uses}
-use Rattle.check_expr.specs.Owners.{at_place, owned, handed_arguments, Sole, Gives, Ensures}
+use Rattle.check_expr.specs.Owners.{owned, handed_arguments, Sole, Gives, Ensures}
 use Rattle.check_expr.specs.Expression.{is_tuple, lone_need, lone_wants, expr, arguments}
-use Rattle.check_expr.proofs.Owners.{gives-more, sole-less, o_bind, o_then, o_from, o_more, o_back, o_suits, o_arguments}
+use Rattle.check_expr.proofs.Owners.{gives-more, sole-less, o_bind, o_then, o_back, o_suits, o_arguments}
 use Rattle.silq_mean.specs.declared.receiver.Receiver.{Receiver}
 use Rattle.silq_mean.specs.Meaning as meanings
 use Rattle.flat_form.specs.State.{Flattening}
-use Rattle.flat_form.specs.Names.{AllOf}
 use Rattle.flat_form.specs.Shows.{ListBoth}
 use Rattle.flat_typed.specs.Places.{Places}
-use Rattle.flat_typed.specs.Relation.{Outside, FitsPart}
+use Rattle.flat_typed.specs.Relation.{Outside}
 use Rattle.flat_typed.specs.Done.{StmtBegins}
 use Rattle.flat_typed.specs.Calls.{carried, ArgsDone}
 use Rattle.flat_typed.specs.Scopes.{as_meaning}
 use Rattle.flat_typed.specs.Uses.{IsThere, NoStatics}
 use Rattle.flat_typed.specs.Lemmas.{Callable, uses_by}
 use Rattle.flat_typed.specs.Stay.{FreeStatementIsFine}
-use Rattle.flat_typed.proofs.Ordered.{clash}
 use Rattle.flat_typed.proofs.Uses.{all_join}
-use Rattle.flat_typed.proofs.Tame.{AllLeft}
-use Rattle.flat_typed.proofs.Leaving.{k_any}
 use Rattle.flat_typed.proofs.Turns.{gives_later, gives_both}
 use Rattle.flat_typed.proofs.Reached.{Told, expression_tells, one_of}
 use Rattle.flat_typed.proofs.Naming.{variables_for}

@@ -3,7 +3,8 @@ use Rattle.flat_typed.specs.Lemmas.{BlocksAreFine}
 use Rattle.flat_typed.specs.StatementLaws.{PhaseIsFine, CallIsFine, ForgetValueIsFine, UpdateIsFine, NextIsFine, LoopIsFine, StaticChoiceIsFine}
 use Rattle.flat_typed.proofs.Blocks.{blocks_are_fine}
 use Rattle.flat_typed.proofs.Rounds.{statements_next, loop_is_fine, static_choice_is_fine}
-use Rattle.flat_typed.proofs.Phases.{phase_is_fine, call_is_fine}
+use Rattle.flat_typed.proofs.Phases.{phase_is_fine}
+use Rattle.flat_typed.proofs.Calling.{every_call_is_fine}
 use Rattle.flat_typed.proofs.Comparing.{forget_value_is_fine}
 use Rattle.flat_typed.proofs.Updating.{update_is_fine}
 
@@ -14,7 +15,7 @@ pub phases : PhaseIsFine
 phases = phase_is_fine
 
 pub calls : CallIsFine
-calls = call_is_fine
+calls = every_call_is_fine
 
 pub forgets : ForgetValueIsFine
 forgets = forget_value_is_fine

@@ -1,5 +1,5 @@
 -- Laws on statements that are proved, where their expressions are fine and no variable has the name of a static value.
-use Rattle.std.specs.Prelude.{◌≡◌, true, false}
+use Rattle.std.specs.Prelude.{◌≡◌, true}
 use Rattle.silq_tree.specs.declared.node.NameId.{NameId}
 use Rattle.silq_tree.specs.declared.node.Spot.{Spot}
 use Rattle.silq_tree.specs.declared.node.UpdateOp.{UpdateOp}
@@ -7,7 +7,6 @@ use Rattle.silq_tree.specs.Syntax.{Expression, Place, Statement, Statements, Oth
 use Rattle.static_num.specs.Static.{is_static}
 use Rattle.silq_types.specs.declared.types.Ty.{Ty}
 use Rattle.check_scope.specs.Context.{Scope, Context}
-use Rattle.check_expr.specs.Expression.{is_tuple}
 use Rattle.check_fun.specs.Statement.{stmt, stmts, otherwise, otherwise_end, plain_block}
 use Rattle.silq_mean.specs.declared.receiver.Receiver.{Receiver}
 use Rattle.silq_mean.specs.Meaning as meanings
@@ -20,7 +19,7 @@ abbrev pub PhaseIsFine : Type 0
 PhaseIsFine = (e : Expression) (s : Spot) → StatementIsFine (phase e s)
 
 abbrev pub CallIsFine : Type 0
-CallIsFine = (e : Expression) (s : Spot) → ExpressionIsFine e → is_tuple e ≡ false → FreeStatementIsFine (call e s)
+CallIsFine = (e : Expression) (s : Spot) → ExpressionIsFine e → FreeStatementIsFine (call e s)
 
 abbrev pub ForgetValueIsFine : Type 0
 ForgetValueIsFine = (x : NameId) (e : Expression) (s : Spot) → ExpressionIsFine e → FreeStatementIsFine (forget_value x e s)
