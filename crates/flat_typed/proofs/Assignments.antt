@@ -64,13 +64,15 @@ truly false e = clash e
 assigned_tells : (S : InstanceKey → Signature → Type 0) {P : Context → Type 0} (sc : Scope) (s : Spot) (xs : List NameId) (vs : List Value) → Ensures S P (assigned sc s xs vs) (λ u. Assigned P xs vs)
 assigned_tells S sc s xs vs =
     o_bind S 0 (o_variables S 0) (λ vars. o_then S 0 (o_rules S 0 s _) (λ u.
-    record { runs = λ d h. record {
+    record {
+      runs = λ d h. record {
         before = d;
         is = h.1.1;
         over = ap (λ l. overwrites_linear l xs vs) (sym h.1.0) ∙ h.0.1.1.1.0;
         long = eqb-true (length xs) (length vs) (truly (length xs == length vs) h.0.1.1.1.1.0);
         left = ap (λ l. record d { vars = bind_names l xs vs }) h.1.0;
-      } }))
+      };
+    }))
 
 pub arguments_long : (S : InstanceKey → Signature → Type 0) (es : Expressions) (sc : Scope) (other : Need) (l : List Asked) → Ensures S (λ d. ⊤) (arguments es sc other l) (λ vs d. length vs ≡ count es)
 arguments_long S none sc other l = o_back S 0 [] (λ d h. refl)
@@ -161,10 +163,12 @@ spread_is_fine xs es at s fine sc taker c free =
     handed false e = gives-more (Callable sc) 0 (λ r. ⊤) (λ r. count es ≡ length xs → HandedOver sc taker es (variables_for xs) c r.0 r.1) (arguments es sc needs.Consumed [] c) ((k_any (Callable sc) 0 {P = λ d. ⊤} (arguments es sc needs.Consumed [])).runs c tt) (λ r h q. clash (sym (eq-eqb (count es) (length xs) q) ∙ e))
 
     values : Ensures (Callable sc) (λ d. d ≡ c) (arguments es sc needs.Consumed []) (λ vs d. (length vs ≡ count es) × (count es ≡ length xs → HandedOver sc taker es (variables_for xs) c vs d))
-    values = record { runs = λ d q.
-        subst (λ y. Gives (Callable sc) (λ r. (length r.0 ≡ count es) × (count es ≡ length xs → HandedOver sc taker es (variables_for xs) c r.0 r.1)) (arguments es sc needs.Consumed [] y)) (sym q)
-        (gives_both (Callable sc) (λ r. length r.0 ≡ count es) (λ r. count es ≡ length xs → HandedOver sc taker es (variables_for xs) c r.0 r.1) (arguments es sc needs.Consumed [] c)
-        ((arguments_long (Callable sc) es sc needs.Consumed []).runs c tt) (handed (count es == length xs) refl)) }
+    values = record {
+      runs = λ d q.
+          subst (λ y. Gives (Callable sc) (λ r. (length r.0 ≡ count es) × (count es ≡ length xs → HandedOver sc taker es (variables_for xs) c r.0 r.1)) (arguments es sc needs.Consumed [] y)) (sym q)
+          (gives_both (Callable sc) (λ r. length r.0 ≡ count es) (λ r. count es ≡ length xs → HandedOver sc taker es (variables_for xs) c r.0 r.1) (arguments es sc needs.Consumed [] c)
+          ((arguments_long (Callable sc) es sc needs.Consumed []).runs c tt) (handed (count es == length xs) refl));
+    }
 
 -- ---- one value
 
@@ -249,10 +253,12 @@ assign_is_fine x e s fine sc taker c free =
 
     values : (t : Bool) → is_tuple e ≡ t → Ensures (Callable sc) (λ d. d ≡ c) (expr e sc (lone_need e needs.Consumed) []) (λ vs d. is_tuple e ≡ false → Handed vs d)
     values true t = o_more (Callable sc) 0 (k_any (Callable sc) 0 (expr e sc (lone_need e needs.Consumed) [])) (λ vs d h z. clash (sym t ∙ z))
-    values false t = record { runs = λ d q.
-        subst (λ y. Gives (Callable sc) (λ r. is_tuple e ≡ false → Handed r.0 r.1) (expr e sc (lone_need e needs.Consumed) [] y)) (sym q)
-        (gives-more (Callable sc) 0 (λ r. Handed r.0 r.1) (λ r. is_tuple e ≡ false → Handed r.0 r.1) (expr e sc (lone_need e needs.Consumed) [] c)
-        (one_handed (Callable sc) (λ r. HandedOver sc taker (more e none) (variables_for (x ∷ [])) c r.0 r.1) e sc c t (fine sc taker (x ∷ []) c refl free)) (λ r h z. h)) }
+    values false t = record {
+      runs = λ d q.
+          subst (λ y. Gives (Callable sc) (λ r. is_tuple e ≡ false → Handed r.0 r.1) (expr e sc (lone_need e needs.Consumed) [] y)) (sym q)
+          (gives-more (Callable sc) 0 (λ r. Handed r.0 r.1) (λ r. is_tuple e ≡ false → Handed r.0 r.1) (expr e sc (lone_need e needs.Consumed) [] c)
+          (one_handed (Callable sc) (λ r. HandedOver sc taker (more e none) (variables_for (x ∷ [])) c r.0 r.1) e sc c t (fine sc taker (x ∷ []) c refl free)) (λ r h z. h));
+    }
 
     ends : (vs : List Value) (g : Context) → Assigned (λ d. (is_tuple e ≡ false) × (is_tuple e ≡ false → Handed vs d)) (x ∷ []) vs g → Does sc c its_effect g
     ends [] g k = absurd (let l = k.long in omega (arith, l))

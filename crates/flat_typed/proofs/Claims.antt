@@ -69,9 +69,11 @@ module _ (sc : Scope) (c : Context) (x : NameId) where
   pub aims : (s : Spot) (other : ℕ) → Ensures (Callable sc) (λ d. d ≡ c) (target sc (whole x) s other) (λ t d. Aimed c x t × (d ≡ c))
   aims s other =
       o_bind (Callable sc) 0 (o_back (Callable sc) 0 [] {Q = λ zs d. (zs ≡ []) × (d ≡ c)} (λ d h. (refl, h))) (λ values. o_bind (Callable sc) 0 (o_variables (Callable sc) 0) (λ vars. o_then (Callable sc) 0 (o_rules (Callable sc) 0 s _) (λ u.
-      record { runs = λ d h.
-          subst (λ zs. Gives (Callable sc) (λ r. Aimed c x r.0 × (r.1 ≡ c)) (target_of s other (part_at x zs) (find_var vars (variable x)) d)) (sym h.1.1.0)
-          ((aim_of s other (find_var vars (variable x)) (ap (λ (b : Context). find_var b.vars (variable x)) (sym h.1.1.1) ∙ ap (λ l. find_var l (variable x)) (sym h.1.0))).runs d h.1.1.1) })))
+      record {
+        runs = λ d h.
+            subst (λ zs. Gives (Callable sc) (λ r. Aimed c x r.0 × (r.1 ≡ c)) (target_of s other (part_at x zs) (find_var vars (variable x)) d)) (sym h.1.1.0)
+            ((aim_of s other (find_var vars (variable x)) (ap (λ (b : Context). find_var b.vars (variable x)) (sym h.1.1.1) ∙ ap (λ l. find_var l (variable x)) (sym h.1.0))).runs d h.1.1.1);
+      })))
 
   pub claimed : (taker : Ty → Receiver) (e : Expression) (s : Spot) → ExpressionIsFine e → NoStatics sc c.vars → Ensures (Callable sc) (λ d. d ≡ c) (forget_as sc x e s) (λ u. Claimed sc taker x e c)
   claimed taker e s fine free =
@@ -80,27 +82,31 @@ module _ (sc : Scope) (c : Context) (x : NameId) where
       o_bind (Callable sc) 0 (one_of (Callable sc) (λ vs d. Aimed c x t × Reached sc taker needs.Held e c vs d) e vs) (λ v.
       o_bind (Callable sc) 0 (o_variables (Callable sc) 0) (λ after.
       o_then (Callable sc) 0 (o_rules (Callable sc) 0 s _) (λ u.
-      record { runs = λ d h.
-          let aim = h.1.1.1.0 in
-          record {
-            owner = t.owner;
-            found = aim.found;
-            live = aim.live;
-            value = v;
-            middle = d;
-            reached = h.1.1.1.1;
-            stays = ap₂ (λ l p. consumed_there l p) (sym h.1.0) (sym (found_there c.vars x t.owner aim.found)) ∙ h.0.0;
-            unheld = h.0.1.0;
-            loose = ap (is_in_condition sc.held) (sym aim.part) ∙ h.0.1.1.0;
-            quantum = ap (λ (y : Ty). y.classical) (sym aim.ty) ∙ (or_both t.ty.classical (has_name x (names_in e)) (or_both (t.ty.classical || has_name x (names_in e)) (not (shape_eq t.ty.shape v.ty.shape)) h.0.1.1.1.0).0).0;
-            unnamed = (or_both t.ty.classical (has_name x (names_in e)) (or_both (t.ty.classical || has_name x (names_in e)) (not (shape_eq t.ty.shape v.ty.shape)) h.0.1.1.1.0).0).1;
-            shape = ap (λ (y : Ty). shape_eq y.shape v.ty.shape) (sym aim.ty) ∙ truly (shape_eq t.ty.shape v.ty.shape) (or_both (t.ty.classical || has_name x (names_in e)) (not (shape_eq t.ty.shape v.ty.shape)) h.0.1.1.1.0).1;
-            left = refl;
-          } })))))
+      record {
+        runs = λ d h.
+            let aim = h.1.1.1.0 in
+            record {
+              owner = t.owner;
+              found = aim.found;
+              live = aim.live;
+              value = v;
+              middle = d;
+              reached = h.1.1.1.1;
+              stays = ap₂ (λ l p. consumed_there l p) (sym h.1.0) (sym (found_there c.vars x t.owner aim.found)) ∙ h.0.0;
+              unheld = h.0.1.0;
+              loose = ap (is_in_condition sc.held) (sym aim.part) ∙ h.0.1.1.0;
+              quantum = ap (λ (y : Ty). y.classical) (sym aim.ty) ∙ (or_both t.ty.classical (has_name x (names_in e)) (or_both (t.ty.classical || has_name x (names_in e)) (not (shape_eq t.ty.shape v.ty.shape)) h.0.1.1.1.0).0).0;
+              unnamed = (or_both t.ty.classical (has_name x (names_in e)) (or_both (t.ty.classical || has_name x (names_in e)) (not (shape_eq t.ty.shape v.ty.shape)) h.0.1.1.1.0).0).1;
+              shape = ap (λ (y : Ty). shape_eq y.shape v.ty.shape) (sym aim.ty) ∙ truly (shape_eq t.ty.shape v.ty.shape) (or_both (t.ty.classical || has_name x (names_in e)) (not (shape_eq t.ty.shape v.ty.shape)) h.0.1.1.1.0).1;
+              left = refl;
+            };
+      })))))
     where
       kept : (t : Target) → Ensures (Callable sc) (λ d. Aimed c x t × (d ≡ c)) (expr e sc needs.Held (lone_wants e (t.ty ∷ []))) (λ vs d. is_tuple e ≡ false → Aimed c x t × Reached sc taker needs.Held e c vs d)
-      kept t = record { runs = λ d h. gives-more (Callable sc) 0 (λ r. is_tuple e ≡ false → Reached sc taker needs.Held e c r.0 r.1) (λ r. is_tuple e ≡ false → Aimed c x t × Reached sc taker needs.Held e c r.0 r.1) (expr e sc needs.Held (lone_wants e (t.ty ∷ [])) d)
-          ((reached_here e fine sc taker needs.Held (lone_wants e (t.ty ∷ [])) c free).runs d h.1) (λ r q z. (h.0, q z)) }
+      kept t = record {
+        runs = λ d h. gives-more (Callable sc) 0 (λ r. is_tuple e ≡ false → Reached sc taker needs.Held e c r.0 r.1) (λ r. is_tuple e ≡ false → Aimed c x t × Reached sc taker needs.Held e c r.0 r.1) (expr e sc needs.Held (lone_wants e (t.ty ∷ [])) d)
+            ((reached_here e fine sc taker needs.Held (lone_wants e (t.ty ∷ [])) c free).runs d h.1) (λ r q z. (h.0, q z));
+      }
 
 -- ---- lists and environments
 

@@ -79,7 +79,6 @@ unowned_stays U (v ∷ vs) [] p z = refl
 unowned_stays U (v ∷ vs) (k ∷ ks) p z =
     place_other (with_all U vs ks) v.place (operands_of k) p (apart_place p v.place (omega (arith, z))) ∙ unowned_stays U vs ks p (omega (arith, z))
 
-
 -- another place than those of some values
 all_show : (U : Places) (n : ℕ) (ps : List Operand) (vs : List Value) (ks : List Known) → owned n vs ≡ 0 → ListBoth (λ (v : Value) (k : Known). U v.place ≡ operands_of k) vs ks
     → ListBoth (λ (v : Value) (k : Known). with_place U n ps v.place ≡ operands_of k) vs ks
@@ -97,11 +96,12 @@ pub each_shows : (U : Places) (vs : List Value) (ks : List Known) → ListBoth (
 each_shows U [] [] h one = h
 each_shows U [] (k ∷ ks) h one = absurd h
 each_shows U (v ∷ vs) [] h one = absurd h
-each_shows U (v ∷ vs) (k ∷ ks) h one =
-    (its_place (with_all U vs ks) v.place (operands_of k),
-    all_show (with_all U vs ks) v.place (operands_of k) vs ks
-    (let a = one v.place in let e : at_place v.place v.place ≡ 1 = ap (λ t. cond t 1 0) (eq-eqb v.place v.place refl) in omega (arith, a, e))
-    (each_shows U vs ks h.1 (λ p. let a = one p in omega (arith, a))))
+each_shows U (v ∷ vs) (k ∷ ks) h one = (
+  its_place (with_all U vs ks) v.place (operands_of k),
+  all_show (with_all U vs ks) v.place (operands_of k) vs ks
+      (let a = one v.place in let e : at_place v.place v.place ≡ 1 = ap (λ t. cond t 1 0) (eq-eqb v.place v.place refl) in omega (arith, a, e))
+      (each_shows U vs ks h.1 (λ p. let a = one p in omega (arith, a))),
+)
 
 -- ---- owners by another function of places
 
@@ -143,13 +143,15 @@ module _ (U : Places) (used consumed : Targets) (n low : ℕ) (vars : List Var) 
   named_all (x ∷ xs) [] [] under t h g m = tt
   named_all (x ∷ xs) [] (k ∷ ks) under t h g m = absurd h
   named_all (x ∷ xs) (v ∷ vs) [] under t h g m = absurd h
-  named_all (x ∷ xs) (v ∷ vs) (k ∷ ks) under t h g m =
-      (record {
-        shows = ap as_variable t.0.shows ∙ ap (λ ps. Shown (record { classical = v.ty.classical; shape = v.ty.shape; operands = ps; own = true; began = 0 })) (sym h.0);
-        unheld = g.0.unheld;
-        shares = λ e w le. ap (λ ps. list_any (named_by w) ps) h.0 ∙ (sym (ap (λ q. names q w) t.0.shows) ∙ g.0.shares e w (subst (λ a. 1 ≤ a) (m w) le));
-        made = λ e. made e (t.0.own (ap not e)).1;
-      }, named_all xs vs ks under t.1 h.1 g.1 m)
+  named_all (x ∷ xs) (v ∷ vs) (k ∷ ks) under t h g m = (
+    record {
+      shows = ap as_variable t.0.shows ∙ ap (λ ps. Shown (record { classical = v.ty.classical; shape = v.ty.shape; operands = ps; own = true; began = 0 })) (sym h.0);
+      unheld = g.0.unheld;
+      shares = λ e w le. ap (λ ps. list_any (named_by w) ps) h.0 ∙ (sym (ap (λ q. names q w) t.0.shows) ∙ g.0.shares e w (subst (λ a. 1 ≤ a) (m w) le));
+      made = λ e. made e (t.0.own (ap not e)).1;
+    },
+    named_all xs vs ks under t.1 h.1 g.1 m,
+  )
     where
       made : v.ty.classical ≡ false → (v.place < low) ⊎ AllNew n (operands_of k) → (v.place < low) ⊎ AllNew n (V v.place)
       made e (inl l) = inl l

@@ -56,3 +56,4 @@ pub mod Quiet
 pub mod Unchanged
 pub mod OneValue
 pub mod Calling
+pub mod UpdateWalk

@@ -59,11 +59,13 @@ sole_told es sc c =
 
 module _ (e : Expression) (sc : Scope) (c : Context) (free : NoStatics sc c.vars) (t : is_tuple e ≡ false) where
   told_first : Ensures (Callable sc) (λ d. d ≡ c) (expr e sc (lone_need e needs.Consumed) (lone_wants e [])) (λ vs d. is_tuple e ≡ false → Told sc needs.Consumed e c d)
-  told_first = record { runs = λ d q.
-      subst (λ y. Gives (Callable sc) (λ r. is_tuple e ≡ false → Told sc needs.Consumed e c r.1) (expr e sc (lone_need e needs.Consumed) (lone_wants e []) y)) (sym q)
-      (gives-more (Callable sc) 0 (λ r. Told sc (lone_need e needs.Consumed) e c r.1) (λ r. is_tuple e ≡ false → Told sc needs.Consumed e c r.1) (expr e sc (lone_need e needs.Consumed) (lone_wants e []) c)
-      (expression_tells e sc (lone_need e needs.Consumed) (lone_wants e []) c t free)
-      (λ r h z. subst (λ n. Told sc n e c r.1) (ap (λ b. cond b needs.Held needs.Consumed) t) h)) }
+  told_first = record {
+    runs = λ d q.
+        subst (λ y. Gives (Callable sc) (λ r. is_tuple e ≡ false → Told sc needs.Consumed e c r.1) (expr e sc (lone_need e needs.Consumed) (lone_wants e []) y)) (sym q)
+        (gives-more (Callable sc) 0 (λ r. Told sc (lone_need e needs.Consumed) e c r.1) (λ r. is_tuple e ≡ false → Told sc needs.Consumed e c r.1) (expr e sc (lone_need e needs.Consumed) (lone_wants e []) c)
+        (expression_tells e sc (lone_need e needs.Consumed) (lone_wants e []) c t free)
+        (λ r h z. subst (λ n. Told sc n e c r.1) (ap (λ b. cond b needs.Held needs.Consumed) t) h));
+  }
 
   told_all : Ensures (Callable sc) (λ d. d ≡ c) (arguments (more e none) sc needs.Consumed []) (λ vs d. Told sc needs.Consumed e c d)
   told_all =

@@ -95,9 +95,11 @@ reached_here e fine sc taker need wants c free = go (is_tuple e) refl
   where
     go : (t : Bool) → is_tuple e ≡ t → Ensures (Callable sc) (λ d. d ≡ c) (expr e sc need wants) (λ vs d. is_tuple e ≡ false → Reached sc taker need e c vs d)
     go true t = o_more (Callable sc) 0 (k_any (Callable sc) 0 (expr e sc need wants)) (λ vs d h z. clash (sym t ∙ z))
-    go false t = record { runs = λ d q.
-        subst (λ y. Gives (Callable sc) (λ r. is_tuple e ≡ false → Reached sc taker need e c r.0 r.1) (expr e sc need wants y)) (sym q)
-        (gives-more (Callable sc) 0 (λ r. Reached sc taker need e c r.0 r.1) (λ r. is_tuple e ≡ false → Reached sc taker need e c r.0 r.1) (expr e sc need wants c) (expression_reached e fine sc taker need wants c t free) (λ r h z. h)) }
+    go false t = record {
+      runs = λ d q.
+          subst (λ y. Gives (Callable sc) (λ r. is_tuple e ≡ false → Reached sc taker need e c r.0 r.1) (expr e sc need wants y)) (sym q)
+          (gives-more (Callable sc) 0 (λ r. Reached sc taker need e c r.0 r.1) (λ r. is_tuple e ≡ false → Reached sc taker need e c r.0 r.1) (expr e sc need wants c) (expression_reached e fine sc taker need wants c t free) (λ r h z. h));
+    }
 
 -- one value is asked
 pub one_of : (S : InstanceKey → Signature → Type 0) (Q : List Value → Context → Type 0) (e : Expression) (vs : List Value) → Ensures S (λ d. is_tuple e ≡ false → Q vs d) (single e vs) (λ v d. (is_tuple e ≡ false) × Q (v ∷ []) d)

@@ -196,9 +196,11 @@ module _ (e : Expression) (ss : Statements) (end : Spot) (other : Otherwise) (s 
   static_runs : Ensures (Callable sc) (λ d. d ≡ c) static_walk (λ u. Does sc c (either_effect (is_true (meanings.static_value sc.statics e))))
   static_runs =
       o_bind (Callable sc) 0 (o_result (Callable sc) 0 (needed_at sc.statics e (at e))) (λ z.
-      record { runs = λ d h.
-          subst (λ y. Gives (Callable sc) (λ r. Does sc c (either_effect (is_true (meanings.static_value sc.statics e))) r.1) (either_walk (is_true z) y)) (sym h.1)
-          (subst (λ y. Gives (Callable sc) (λ r. Does sc c (either_effect (is_true y)) r.1) (either_walk (is_true z) c)) (sym (static_is sc.statics e (at e) z h.0)) (either_fine (is_true z))) })
+      record {
+        runs = λ d h.
+            subst (λ y. Gives (Callable sc) (λ r. Does sc c (either_effect (is_true (meanings.static_value sc.statics e))) r.1) (either_walk (is_true z) y)) (sym h.1)
+            (subst (λ y. Gives (Callable sc) (λ r. Does sc c (either_effect (is_true y)) r.1) (either_walk (is_true z) c)) (sym (static_is sc.statics e (at e) z h.0)) (either_fine (is_true z)));
+      })
 
   static_choice : is_static sc.statics e ≡ true → StmtFine sc c (walks.stmt (choice e (block ss end) other s) sc) (meanings.stmt (choice e (block ss end) other s) (as_meaning taker sc))
   static_choice is =

@@ -85,7 +85,9 @@ module _ (S : InstanceKey → Signature → Type 0) where
   branch_tells Q inner s c h =
       gives-bind S 0 (λ r. Q r.1) (λ r. BranchLeft Q c r.1) (inner c) (λ r. (none_changed c.vars r.1.vars s >> end_from (length c.vars) s) r.1) h
       (λ r q. (o_then S 0 {P = λ x. x ≡ r.1} {Q = λ u x. AllUnchanged c.vars r.1.vars × (x ≡ r.1)} {R = λ u x. BranchLeft Q c x} (none_changed_tells {P = λ x. x ≡ r.1} c.vars r.1.vars s)
-      (λ u. record { runs = λ x k.
-          subst (λ y. Gives S (λ z. BranchLeft Q c z.1) (end_from (length c.vars) s y)) (sym k.1)
-          (gives-more S 0 (λ z. ClosedFrom (length c.vars) r.1 z.1) (λ z. BranchLeft Q c z.1) (end_from (length c.vars) s r.1) (closed_from S 0 (length c.vars) s r.1)
-          (λ z i. record { inner = r.1; is = q; unchanged = k.0; closed = i })) })).runs r.1 refl)
+      (λ u. record {
+        runs = λ x k.
+            subst (λ y. Gives S (λ z. BranchLeft Q c z.1) (end_from (length c.vars) s y)) (sym k.1)
+            (gives-more S 0 (λ z. ClosedFrom (length c.vars) r.1 z.1) (λ z. BranchLeft Q c z.1) (end_from (length c.vars) s r.1) (closed_from S 0 (length c.vars) s r.1)
+            (λ z i. record { inner = r.1; is = q; unchanged = k.0; closed = i }));
+      })).runs r.1 refl)
