@@ -186,6 +186,7 @@ module _ (out : Outside) (held : List (List Part)) (W : Places) (under : List Va
       leaves = leaves_names s x (use_part (wires_so_far s) need is (known_in s x)) (after_use need is (known_in s x));
       touches = touches_none (Beyond consumed (wires_so_far s)) s.built.draft;
       plain = λ w m. m;
+      unmade = λ m. m;
     }
       where
         carries_none : (t : Bool) → cond (t && (is_consumed need && not h.owner.ty.classical)) (v ∷ []) [] ≡ []

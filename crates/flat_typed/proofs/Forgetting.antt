@@ -148,6 +148,7 @@ module _ (out : Outside) (sc : Scope) (low : ℕ) (W : Places) (c : Context) (st
     };
     touches = touches_none (changeable out W c.vars []) st.built.draft;
     plain = λ q w m. m;
+    unmade = b.unmade;
   })
     where
       v : Var

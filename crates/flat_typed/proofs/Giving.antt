@@ -28,13 +28,13 @@ use Rattle.flat_form.specs.Flat.{give_copy, give_repeated, array_of, repeated, f
 use Rattle.flat_form.specs.Fine.{FineStep, IsAny, IsStatic, IsOf}
 use Rattle.flat_form.specs.Names.{named_by}
 use Rattle.flat_typed.specs.Places.{Places, times_in}
-use Rattle.flat_typed.specs.Footprint.{Touches, StaysPlain}
+use Rattle.flat_typed.specs.Footprint.{Touches, StaysPlain, Unmade}
 use Rattle.flat_typed.specs.Relation.{Outside, Stands, IsAnswer}
 use Rattle.flat_typed.specs.Done.{Leaves, carrying}
 use Rattle.flat_typed.proofs.Ordered.{clash}
 use Rattle.flat_typed.proofs.Growing.{touches_then, stands_grown}
 use Rattle.flat_typed.proofs.Flipping.{Flips, copy_answer}
-use Rattle.flat_typed.proofs.Touching.{flips_touch, flips_plain, flips_stay_plain, flips_copied}
+use Rattle.flat_typed.proofs.Touching.{flips_touch, flips_plain, flips_stay_plain, flips_unmade, flips_copied}
 use Rattle.flat_typed.proofs.Placing.{named_times, made_range, made_once, stands_pushed}
 
 -- ---- what an expression may touch
@@ -72,6 +72,7 @@ pub record GivesValue (out : Outside) (held : List (List Part)) (W : Places) (ne
   pub leaves : Leaves s e
   pub touches : Touches (Beyond consumed n) s.built.draft e.built.draft
   pub plain : StaysPlain s.built.draft e.built.draft
+  pub unmade : Unmade s.built.draft → Unmade e.built.draft
 
 -- a row that changes no old wire, and answers operands with wires that are used or new, of which it has none twice
 pub record Works (used : Targets) (n : ℕ) (s : Flattening) (g : Given (List Operand)) : Type 0 where
@@ -127,6 +128,7 @@ module _ (out : Outside) (held : List (List Part)) (W : Places) (need : Need) (u
     leaves = record { setting = refl; callers = refl; blocks = refl; names = refl };
     touches = flips_touch (Beyond consumed n) s.built g.built (works.flips (Beyond consumed n) (wires_so_far s) (omega arith));
     plain = flips_stay_plain (λ w. false) 0 s.built g.built (works.flips (λ w. false) 0 (omega arith));
+    unmade = flips_unmade (λ w. false) 0 s.built g.built (works.flips (λ w. false) 0 (omega arith));
   }
 
 -- ---- copies

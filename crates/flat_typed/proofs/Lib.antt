@@ -57,3 +57,5 @@ pub mod Unchanged
 pub mod OneValue
 pub mod Calling
 pub mod UpdateWalk
+pub mod Behind
+pub mod Outcomes

@@ -35,8 +35,8 @@ use Rattle.flat_typed.proofs.Ordered.{clash, or_left, or_right}
 use Rattle.flat_typed.proofs.Owning.{same_swap, among_times, value_may_change}
 use Rattle.flat_typed.proofs.Keeping.{KnowsBefore, fresh_may_change}
 use Rattle.flat_typed.proofs.Growing.{touches_then}
-use Rattle.flat_typed.proofs.Touching.{flips_touch, flips_stay_plain, flips_taken}
-use Rattle.flat_typed.proofs.Telling.{measures_only, measuring_touches, end_told, ends_stay_plain}
+use Rattle.flat_typed.proofs.Touching.{flips_touch, flips_stay_plain, flips_unmade, flips_taken}
+use Rattle.flat_typed.proofs.Telling.{measures_only, measuring_touches, measuring_unmade, end_told, ends_stay_plain}
 use Rattle.flat_typed.proofs.Placing.{stands_pushed}
 use Rattle.flat_typed.proofs.Taking.{Offer, Around, Carried, carried_taken}
 use Rattle.flat_typed.proofs.Giving.{Beyond, is_beyond, GivesValue}
@@ -190,7 +190,11 @@ module _ (out : Outside) (held : List (List Part)) (W : Places) (need : Need) (u
         flips_stay_plain (λ w. false) 0 s.built t.built (flips_taken (λ w. false) 0 s.setting u s.built (omega arith)) w
         (sym ((measures_only (λ w. true) s.setting (wires_in t.answer) t.built (λ w a. refl)).mixed w)
         ∙ ends_stay_plain Measured (wires_in t.answer) (measure_all s.setting (wires_in t.answer) t.built) w m);
+    unmade = λ h. measuring_unmade Measured s.setting (wires_in t.answer) t.built below (flips_unmade (λ w. false) 0 s.built t.built (flips_taken (λ w. false) 0 s.setting u s.built (omega arith)) h);
   }
+    where
+      below : (w : WireId) → among (wires_in t.answer) w ≡ true → w.number < length t.built.draft.wires
+      below w a = (k.stands.free w (let q = subst (λ ps. 1 ≤ times_in w ps) k.own.0 (among_times w t.answer a) in omega (arith, q))).0
 
   -- a measure outside all conditions
   pub measure_done : last s ≡ Shown u → s.setting.condition ≡ None → Good s → KnowsBefore n s → NoneNames (among (wires_in (W x.place))) (drop 1 s.values) → Offer W needs.Consumed used consumed n low x u → Around out W n low under c s x (Shown u)

@@ -1,5 +1,5 @@
 -- Which wires rows of steps touch, row by row.
-use Rattle.std.proofs.Common.{◌≡◌, true, List, length, sym, ◌∙◌, arith}
+use Rattle.std.proofs.Common.{List, length, sym, ◌∙◌, arith}
 use Rattle.flat_core.specs.declared.step.WireId.{WireId}
 use Rattle.flat_core.specs.declared.step.End.TheVariants.{Measured}
 use Rattle.flat_core.specs.Label.{same_wire}

@@ -34,7 +34,7 @@ use Rattle.flat_typed.specs.Relation.{Outside, Stands, IsAnswer, is_argument, ta
 use Rattle.flat_typed.specs.Done.{carrying}
 use Rattle.flat_typed.specs.Lemmas.{need_of}
 use Rattle.flat_typed.proofs.Ordered.{clash}
-use Rattle.flat_typed.proofs.Touching.{flips_touch, flips_stay_plain, flips_taken_for}
+use Rattle.flat_typed.proofs.Touching.{flips_touch, flips_stay_plain, flips_unmade, flips_taken_for}
 use Rattle.flat_typed.proofs.Placing.{stands_pushed}
 use Rattle.flat_typed.proofs.Taking.{Offer, Around, Suits, TakesOver, Carried, Shares, carried_copy, carried_taken, bare, kept_shares}
 
@@ -77,6 +77,7 @@ module _ (out : Outside) (held : List (List Part)) (W : Places) (used consumed :
       leaves = record { setting = refl; callers = refl; blocks = refl; names = refl };
       touches = λ T. flips_touch T s.built given.built (flips_taken_for T (length s.built.draft.wires) r s.setting u s.built (omega arith));
       plain = flips_stay_plain (λ w. false) 0 s.built given.built (flips_taken_for (λ w. false) 0 r s.setting u s.built (omega arith));
+      unmade = flips_unmade (λ w. false) 0 s.built given.built (flips_taken_for (λ w. false) 0 r s.setting u s.built (omega arith));
     }
 
     -- with wires that others may show
@@ -93,6 +94,7 @@ module _ (out : Outside) (held : List (List Part)) (W : Places) (used consumed :
       leaves = record { setting = refl; callers = refl; blocks = refl; names = refl };
       touches = λ T. flips_touch T s.built given.built (flips_taken_for T (length s.built.draft.wires) r s.setting u s.built (omega arith));
       plain = flips_stay_plain (λ w. false) 0 s.built given.built (flips_taken_for (λ w. false) 0 r s.setting u s.built (omega arith));
+      unmade = flips_unmade (λ w. false) 0 s.built given.built (flips_taken_for (λ w. false) 0 r s.setting u s.built (omega arith));
     }
 
   -- ---- each receiver

@@ -28,7 +28,7 @@ use Rattle.flat_form.specs.State.{Flattening, build, wires_so_far, are_wires, ar
 use Rattle.flat_form.specs.Flat.{class_for}
 use Rattle.flat_form.specs.Names.{AllOf, named_by}
 use Rattle.flat_typed.specs.Places.{Places, with_place, times_in}
-use Rattle.flat_typed.specs.Footprint.{Within, Touches, StaysPlain}
+use Rattle.flat_typed.specs.Footprint.{Within, Touches, StaysPlain, Unmade}
 use Rattle.flat_typed.specs.Relation.{FitsPart, Outside, Stands, IsTakenOver, AllNew, taken_type, is_carried, is_own}
 use Rattle.flat_typed.specs.Done.{Agree, Leaves, carrying}
 use Rattle.flat_typed.specs.Calls.{carried}
@@ -57,7 +57,7 @@ pub record Around (out : Outside) (W : Places) (n low : ℕ) (under : List Value
   pub knows : KnowsNone out W under c s.callers n
   pub grown : n ≤ wires_so_far s
   pub fresh : Fresh s.built.draft
-  pub unmade : (w : WireId) → wires_so_far s ≤ w.number → is_measured s.built.draft.steps w ≡ false
+  pub unmade : Unmade s.built.draft
   pub there : (w : WireId) → 1 ≤ times_in w (operands_of k) → w.number < wires_so_far s
   pub untold : is_own k ≡ false → (w : WireId) → 1 ≤ times_in w (operands_of k) → n ≤ w.number → is_measured s.built.draft.steps w ≡ false → (wire_in s.built.draft.wires w).ending ≡ Dropped
   pub alone : low ≤ v.place → owners v.place c.vars ≡ 0
@@ -85,6 +85,7 @@ pub record TakesOver (out : Outside) (held : List (List Part)) (W : Places) (use
   pub leaves : Leaves s e
   pub touches : (T : Targets) → Touches T s.built.draft e.built.draft
   pub plain : StaysPlain s.built.draft e.built.draft
+  pub unmade : Unmade s.built.draft → Unmade e.built.draft
 
 -- wires that the value has as its own
 pub record Carried (out : Outside) (held : List (List Part)) (W : Places) (used consumed : Targets) (n low : ℕ) (under : List Value) (c : Context) (s : Flattening) (v : Value) (g : Given (List Operand)) : Type 0 where

@@ -20,9 +20,9 @@ use Rattle.bit_arith.specs.Built.{Built, Setting, push}
 use Rattle.bit_arith.specs.Rows.{had, had_under, measure}
 use Rattle.bit_arith.specs.Calls.{Targets, among}
 use Rattle.flat_form.specs.Flat.{end_all, measure_all}
-use Rattle.flat_form.proofs.Later.{end_all_steps}
+use Rattle.flat_form.proofs.Later.{end_all_steps, end_all_length}
 use Rattle.flat_typed.specs.Places.{times_in}
-use Rattle.flat_typed.specs.Footprint.{is_mixed, Touches, StaysPlain}
+use Rattle.flat_typed.specs.Footprint.{is_mixed, Touches, StaysPlain, Unmade}
 use Rattle.flat_typed.proofs.Ordered.{clash}
 use Rattle.flat_typed.proofs.Owning.{wire_is}
 use Rattle.flat_typed.proofs.Using.{touches_none}
@@ -209,3 +209,19 @@ end_told e (v ∷ ws) b w lt a = go (among ws w) refl (λ n. end_told e ws (reco
     go false n i =
         ap (λ (r : WireForm). r.ending) ((ends_touch (among ws) e ws (record b { draft = with_end b.draft v e }) (λ x y. y)).ends w (subst (λ m. w.number < m) (sym longer) lt) n)
         ∙ first (same_wire w v) refl a n
+
+-- wires that are there are measured, and none that is not made
+pub measuring_unmade : (e : End) (at : Setting) (ws : List WireId) (b : Built) → ((w : WireId) → among ws w ≡ true → w.number < length b.draft.wires) → Unmade b.draft → Unmade (end_all e ws (measure_all at ws b)).draft
+measuring_unmade e at ws b low u w le =
+    ap (λ ss. is_measured ss w) (end_all_steps e ws (measure_all at ws b))
+    ∙ ((measures_only (among ws) at ws b (λ v a. a)).measured w (none (among ws w) refl) ∙ u w past)
+  where
+    past : length b.draft.wires ≤ w.number
+    past =
+        let q = end_all_length e ws (measure_all at ws b) in
+        let r = ap (λ rs. length rs) (measures_only (among ws) at ws b (λ v a. a)).wires in
+        omega (arith, q, r, le)
+
+    none : (t : Bool) → among ws w ≡ t → t ≡ false
+    none false a = refl
+    none true a = let lt = low w a in let q = past in absurd (omega (arith, lt, q))

@@ -27,7 +27,7 @@ use Rattle.flat_form.specs.declared.known.TypedBits.{TypedBits}
 use Rattle.flat_form.specs.State.{is_signed, are_wires, are_new, as_they_are, copied, taken, kept, only_operand}
 use Rattle.flat_form.specs.Flat.{by_one, by_two, turn_both, taken_for, update_by}
 use Rattle.flat_form.specs.Names.{AllOf}
-use Rattle.flat_typed.specs.Footprint.{is_mixed, Touches, StaysPlain}
+use Rattle.flat_typed.specs.Footprint.{is_mixed, Touches, StaysPlain, Unmade}
 use Rattle.flat_typed.proofs.Ordered.{clash, or_left, or_right}
 use Rattle.flat_typed.proofs.Owning.{same_swap}
 use Rattle.flat_typed.proofs.Growing.{Plain}
@@ -51,6 +51,9 @@ flips_touch T b e f = record {
 
 pub flips_stay_plain : (T : Targets) (n : ℕ) (b e : Built) → Flips T n b e → StaysPlain b.draft e.draft
 flips_stay_plain T n b e f w m = sym (f.mixed w) ∙ m
+
+pub flips_unmade : (T : Targets) (n : ℕ) (b e : Built) → Flips T n b e → Unmade b.draft → Unmade e.draft
+flips_unmade T n b e f u w le = f.measured w ∙ u w (let g = f.few in omega (arith, g, le))
 
 -- a wire that no step changes is not mixed
 pub unmixed : (steps : List Step) (w : WireId) → label_after steps w ≡ 0 → is_mixed steps w ≡ false

@@ -156,6 +156,7 @@ module _ (out : Outside) (sc : Scope) (low : ℕ) (others : ℕ → ℕ) (W : Pl
     leaves = leaves_names s x given (after_use needs.Consumed [] (known_in s x));
     touches = touches_none (consumed_wires W c.vars us) s.built.draft;
     plain = λ q w m. m;
+    unmade = b.unmade;
   }
     where
       bits : TypedBits

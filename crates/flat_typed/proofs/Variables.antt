@@ -211,6 +211,7 @@ module _ (out : Outside) (sc : Scope) (low : ℕ) (others : ℕ → ℕ) (W : Pl
     leaves = g.leaves;
     touches = touches_none (consumed_wires W c.vars (uses_of need (Some h.var))) s.built.draft;
     plain = λ q w e. e;
+    unmade = b.unmade;
   }
     where
       named : (w : WireId) → wires_of_part W c.vars (variable x) w ≡ true → used_wires W c.vars (uses_of need (Some h.var)) w ≡ true

@@ -28,7 +28,7 @@ use Rattle.flat_form.specs.Fine.{Fine}
 use Rattle.flat_form.specs.Names.{names}
 use Rattle.flat_form.specs.Shows.{ListBoth}
 use Rattle.flat_typed.specs.Places.{Places, times_in, carriers}
-use Rattle.flat_typed.specs.Footprint.{used_wires, consumed_wires, Owed, Touches, StaysPlain}
+use Rattle.flat_typed.specs.Footprint.{used_wires, consumed_wires, Owed, Touches, StaysPlain, Unmade}
 use Rattle.flat_typed.specs.Relation.{Outside, Stands, IsTakenOver, is_carried, began_of}
 use Rattle.flat_typed.specs.Scopes.{as_meaning, scope_for}
 use Rattle.flat_typed.specs.Done.{Agree, StmtBegins, Leaves, changeable, kinds}
@@ -65,6 +65,7 @@ pub record ArgsDone (out : Outside) (sc : Scope) (takers : List Receiver) (e : E
   pub leaves : Leaves s (flat e s)
   pub touches : Touches (consumed_wires W c.vars us) s.built.draft (flat e s).built.draft
   pub plain : is_qfree sc.this.mark ≡ true → StaysPlain s.built.draft (flat e s).built.draft
+  pub unmade : Unmade (flat e s).built.draft
 
 -- ---- bodies
 
@@ -103,6 +104,7 @@ pub record BodyDone (out : Outside) (f : Function) (h : Header) (e : Effect) (W 
   pub callers : (flat e s).callers ≡ s.callers
   pub touches : Touches (changeable out W (param_vars 0 f.params h.params) []) s.built.draft (flat e s).built.draft
   pub plain : is_qfree f.mark ≡ true → StaysPlain s.built.draft (flat e s).built.draft
+  pub unmade : Unmade (flat e s).built.draft
 
 -- the body of an instance, wherever it is entered
 abbrev pub BodyFine : List (NameId × BuiltIn) → List Function → (Ty → Receiver) → Function → List ℤ → Header → List Returned → Type 0

@@ -22,7 +22,7 @@ use Rattle.flat_form.specs.Names.{AllOf}
 use Rattle.flat_form.specs.Good.{Good}
 use Rattle.flat_form.specs.Shows.{ListBoth}
 use Rattle.flat_typed.specs.Places.{Places, is_part, has_wires, owners_of}
-use Rattle.flat_typed.specs.Footprint.{used_wires, consumed_wires, NoneNames, Touches, StaysPlain}
+use Rattle.flat_typed.specs.Footprint.{used_wires, consumed_wires, NoneNames, Touches, StaysPlain, Unmade}
 use Rattle.flat_typed.specs.Relation.{Outside, Stands, IsAnswer, AllNew, is_own}
 
 -- ---- lists
@@ -68,6 +68,7 @@ Counted under others = (p : ℕ) → owned p under ≤ others p
 -- from where the relation stands, with `others` places under way, and no value below names what it consumes
 pub record Begins (out : Outside) (sc : Scope) (low : ℕ) (others : ℕ → ℕ) (W : Places) (under : List Value) (us : List Use) (c : Context) (s : Flattening) : Type 0 where
   pub good : Good s
+  pub unmade : Unmade s.built.draft
   pub sole : Sole low others c
   pub counted : Counted under others
   pub stands : Stands out sc.held W under c s
@@ -87,6 +88,7 @@ pub record ExprDone (out : Outside) (sc : Scope) (need : Need) (e : Effect) (W :
   pub leaves : Leaves s (flat e s)
   pub touches : Touches (consumed_wires W c.vars us) s.built.draft (flat e s).built.draft
   pub plain : is_qfree sc.this.mark ≡ true → StaysPlain s.built.draft (flat e s).built.draft
+  pub unmade : Unmade (flat e s).built.draft
 
 -- ---- statements
 
@@ -97,6 +99,7 @@ changeable out W vars under w = not (out.guarded w) && nat_lt 0 (owners_of W var
 -- at a statement's beginning no value and no part is under way, and some block is open
 pub record StmtBegins (out : Outside) (sc : Scope) (low : ℕ) (others : ℕ → ℕ) (W : Places) (c : Context) (s : Flattening) : Type 0 where
   pub good : Good s
+  pub unmade : Unmade s.built.draft
   pub sole : Sole low others c
   pub stands : Stands out sc.held W [] c s
   pub whole : AllOf (λ v. is_part v ≡ false) c.vars
@@ -115,3 +118,4 @@ pub record StmtDone (out : Outside) (sc : Scope) (e : Effect) (W : Places) (c : 
   pub leaves : Leaves s (flat e s)
   pub touches : Touches (changeable out W c.vars []) s.built.draft (flat e s).built.draft
   pub plain : is_qfree sc.this.mark ≡ true → StaysPlain s.built.draft (flat e s).built.draft
+  pub unmade : Unmade (flat e s).built.draft

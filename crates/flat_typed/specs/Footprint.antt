@@ -69,3 +69,7 @@ pub record Touches (T : Targets) (d e : DraftForm) : Type 0 where
 -- steps that are X or P alone: no wire is mixed that was not
 abbrev pub StaysPlain : DraftForm → DraftForm → Type 0
 StaysPlain d e = (w : WireId) → is_mixed e.steps w ≡ true → is_mixed d.steps w ≡ true
+
+-- a wire that is not made is not measured
+abbrev pub Unmade : DraftForm → Type 0
+Unmade d = (w : WireId) → length d.wires ≤ w.number → is_measured d.steps w ≡ false
