@@ -23,7 +23,7 @@ use Rattle.flat_form.specs.Fine.{Fine}
 use Rattle.flat_form.specs.Names.{AllOf}
 use Rattle.flat_form.specs.Shows.{ListBoth}
 use Rattle.flat_typed.specs.Places.{Places, is_part, owners_of}
-use Rattle.flat_typed.specs.Footprint.{used_wires, consumed_wires, Touches, StaysPlain}
+use Rattle.flat_typed.specs.Footprint.{used_wires, consumed_wires, Touches, StaysPlain, Unmade}
 use Rattle.flat_typed.specs.Relation.{Outside, Stands, FitsPart, IsTakenOver}
 use Rattle.flat_typed.specs.Done.{Leaves, StmtBegins, StmtDone, changeable}
 use Rattle.flat_typed.specs.Calls.{carried, ArgsDone}
@@ -129,4 +129,5 @@ module _ (sc : Scope) (taker : Ty → Receiver) (es : Expressions) (xs : List Na
     });
     touches = subst (λ (u : Flattening). Touches (changeable out W c.vars []) st.built.draft u.built.draft) (sym becomes) (consumed_touches out sc low W c st us s1 b (h.there W b.stands.parts) handed_done.touches);
     plain = λ q. subst (λ (u : Flattening). StaysPlain st.built.draft u.built.draft) (sym becomes) (handed_done.plain q);
+    unmade = subst (λ (u : Flattening). Unmade u.built.draft) (sym becomes) handed_done.unmade;
   })

@@ -67,6 +67,7 @@ stands_opened out sc W c s r = record {
 begins_opened : (out : Outside) (sc : Scope) (low : ℕ) (W : Places) (c : Context) (s : Flattening) → StmtBegins out sc low (λ p. 0) W c s → StmtBegins out sc low (λ p. 0) W c (record s { env = [] ∷ s.env })
 begins_opened out sc low W c s b = record {
   good = good_opened s b.good;
+  unmade = b.unmade;
   sole = b.sole;
   stands = stands_opened out sc W c s b.stands;
   whole = b.whole;
@@ -143,6 +144,7 @@ module _ (out : Outside) (sc : Scope) (low : ℕ) (W : Places) (c : Context) (s 
     };
     touches = h.touches;
     plain = h.plain;
+    unmade = h.unmade;
   })
     where
       many : length (in_order (drop 1 inside.env)) ≡ length c.vars

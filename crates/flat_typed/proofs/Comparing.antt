@@ -29,7 +29,7 @@ use Rattle.flat_form.specs.Good.{Good}
 use Rattle.flat_form.specs.Names.{AllOf, names}
 use Rattle.flat_form.proofs.Goods.{good_flat}
 use Rattle.flat_typed.specs.Places.{Places, is_part, is_shared, has_wires, part_out, bits_for, times_in, owners_of}
-use Rattle.flat_typed.specs.Footprint.{used_wires, consumed_wires, NoneNames, Touches, StaysPlain}
+use Rattle.flat_typed.specs.Footprint.{used_wires, consumed_wires, NoneNames, Touches, StaysPlain, Unmade}
 use Rattle.flat_typed.specs.Relation.{Outside, Stands, FitsPart, IsAnswer}
 use Rattle.flat_typed.specs.Done.{outer_names, Leaves, ExprDone, StmtBegins, StmtDone, MadeSince, carrying, changeable}
 use Rattle.flat_typed.specs.Scopes.{as_meaning}
@@ -206,6 +206,7 @@ module _ (x : NameId) (e : Expression) (sc : Scope) (taker : Ty → Receiver) (c
     });
     touches = subst (λ (u : Flattening). Touches (changeable out W c.vars []) st.built.draft u.built.draft) (sym (becomes l)) touches;
     plain = λ q. subst (λ (u : Flattening). StaysPlain st.built.draft u.built.draft) (sym (becomes l)) (λ w m. h.plain q w (zeroes.plain w m));
+    unmade = subst (λ (u : Flattening). Unmade u.built.draft) (sym (becomes l)) (zeroes.unmade h.unmade);
   })
 
 -- forgetting by a value is fine

@@ -12,6 +12,7 @@ use Rattle.flat_core.specs.declared.step.WireId.{WireId}
 use Rattle.flat_core.specs.declared.step.End.TheVariants.{Dropped, Zeroed}
 use Rattle.flat_core.specs.Form.{DraftForm, WireForm}
 use Rattle.flat_core.specs.Label.{wire_in}
+use Rattle.flat_core.specs.Drafts.{is_measured}
 use Rattle.bit_arith.specs.declared.operand.Operand.{Operand}
 use Rattle.bit_arith.specs.declared.operand.Operand.TheVariants.{Const, Literal}
 use Rattle.bit_arith.specs.Built.{Built, Setting}
@@ -22,9 +23,9 @@ use Rattle.flat_form.specs.declared.known.Known.TheVariants.{Absent}
 use Rattle.flat_form.specs.State.{Flattening, wires_in}
 use Rattle.flat_form.specs.Flat.{end_all}
 use Rattle.flat_form.specs.Names.{AllOf, named_by, names}
-use Rattle.flat_form.proofs.Later.{end_all_length}
+use Rattle.flat_form.proofs.Later.{end_all_length, end_all_steps}
 use Rattle.flat_typed.specs.Places.{Places, is_shared, has_wires, part_out, less_part, bits_for, shown, holds, times_in, owners_of, linear_owners, linear_holders}
-use Rattle.flat_typed.specs.Footprint.{is_mixed, Owed, Touches, StaysPlain}
+use Rattle.flat_typed.specs.Footprint.{is_mixed, Owed, Touches, StaysPlain, Unmade}
 use Rattle.flat_typed.specs.Relation.{Outside, Stands, FitsPart, SparesGuarded}
 use Rattle.flat_typed.proofs.Ordered.{clash}
 use Rattle.flat_typed.proofs.Parts.{found_there}
@@ -53,6 +54,7 @@ pub record Zeroes (ps : List Operand) (d e : DraftForm) : Type 0 where
   pub told : (w : WireId) → w.number < length d.wires → among (wires_in ps) w ≡ true → (wire_in e.wires w).ending ≡ Zeroed
   pub new : (w : WireId) → length d.wires ≤ w.number → w.number < length e.wires → ((wire_in e.wires w).input ≡ false) × (is_mixed e.steps w ≡ false)
   pub plain : StaysPlain d e
+  pub unmade : Unmade d → Unmade e
 
 pub flipped_zeroes : (at : Setting) (ps qs : List Operand) (b : Built) → Fresh b.draft → ((w : WireId) → 1 ≤ times_in w ps → w.number < length b.draft.wires)
     → Zeroes ps b.draft (end_all Zeroed (wires_in ps) (flip_each at (wires_in ps) qs b)).draft
@@ -63,6 +65,7 @@ flipped_zeroes at ps qs b fresh there = record {
       let below : w.number < length b1.draft.wires = let l = end_all_length Zeroed ws b1 in omega (arith, l, lt) in
       (ap (λ (r : WireForm). r.input) (ends.ends w below (other w le (among ws w) refl) ∙ f.new w le below), mixed w le (is_mixed (end_all Zeroed ws b1).draft.steps w) refl);
   plain = λ w m. flips_stay_plain (among ws) (length b.draft.wires) b b1 f w (ends_stay_plain Zeroed ws b1 w m);
+  unmade = λ h w le. ap (λ ss. is_measured ss w) (end_all_steps Zeroed ws b1) ∙ (f.measured w ∙ h w (let g = f.few in let l = end_all_length Zeroed ws b1 in omega (arith, g, l, le)));
 }
   where
     ws : List WireId

@@ -91,6 +91,7 @@ phase_done out sc low W c st k lt b = record {
   leaves = record { setting = refl; callers = refl; blocks = refl; names = refl };
   touches = touches_more no_target (changeable out W c.vars []) st.built.draft after.draft (flips_touch no_target st.built after f) (λ w l t. refl);
   plain = λ q. flips_stay_plain no_target (wires_so_far st) st.built after f;
+  unmade = λ w le. f.measured w ∙ b.unmade w (let g = f.few in omega (arith, g, le));
 }
   where
     after : Built
@@ -134,6 +135,7 @@ effect_done e out sc taker low W c d st r b = record {
   leaves = h.leaves;
   touches = consumed_touches out sc low W c st (uses e sc c.vars needs.Consumed) (flat (meanings.expr e (as_meaning taker sc) needs.Consumed) st) b t.0 h.touches;
   plain = h.plain;
+  unmade = h.unmade;
 }
   where
     h : ExprDone out sc needs.Consumed (meanings.expr e (as_meaning taker sc) needs.Consumed) W [] (uses e sc c.vars needs.Consumed) c st [] d

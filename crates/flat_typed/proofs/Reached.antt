@@ -69,6 +69,7 @@ pub record Reached (sc : Scope) (taker : Ty → Receiver) (need : Need) (e : Exp
 begins_expression : (out : Outside) (sc : Scope) (low : ℕ) (W : Places) (c : Context) (s : Flattening) (us : List Use) → StmtBegins out sc low (λ p. 0) W c s → Begins out sc low (λ p. 0) W [] us c s
 begins_expression out sc low W c s us b = record {
   good = b.good;
+  unmade = b.unmade;
   sole = b.sole;
   counted = λ p. omega arith;
   stands = b.stands;

@@ -63,7 +63,7 @@ module _ (I : List Var → Type 0) (sc : Scope) (m : ℤ → Check (Unit {0})) (
 
 module _ (out : Outside) (sc : Scope) (x : NameId) (z : ℤ) (W : Places) (c : Context) (s : Flattening) where
   begins_with : (low : ℕ) → StmtBegins out sc low (λ p. 0) W c s → StmtBegins out (walks.with_static sc x z) low (λ p. 0) W c s
-  begins_with low b = record { good = b.good; sole = b.sole; stands = b.stands; whole = b.whole; block = b.block; open_air = b.open_air; none = b.none }
+  begins_with low b = record { good = b.good; unmade = b.unmade; sole = b.sole; stands = b.stands; whole = b.whole; block = b.block; open_air = b.open_air; none = b.none }
 
   done_with : (e : Effect) (d : Context) → StmtDone out (walks.with_static sc x z) e W c s d → StmtDone out sc e W c s d
   done_with e d h = record {
@@ -77,6 +77,7 @@ module _ (out : Outside) (sc : Scope) (x : NameId) (z : ℤ) (W : Places) (c : C
     leaves = h.leaves;
     touches = h.touches;
     plain = h.plain;
+    unmade = h.unmade;
   }
 
 static_fine : (sc : Scope) (x : NameId) (z : ℤ) (c : Context) (m : Check (Unit {0})) (e : Effect) → StmtFine (walks.with_static sc x z) c m e → StmtFine sc c m e

@@ -103,6 +103,7 @@ module _ (out : Outside) (sc : Scope) (W : Places) (c : Context) (st : Flattenin
   pub begins_on_line : (low : ℕ) (others : ℕ → ℕ) → StmtBegins out sc low others W c st → StmtBegins out sc low others W c (on_line l (counted_too st))
   begins_on_line low others b = record {
     good = good_statement l st b.good;
+    unmade = b.unmade;
     sole = b.sole;
     stands = stands_at out sc.held W [] c st its_line refl refl refl refl b.stands;
     whole = b.whole;
@@ -128,6 +129,7 @@ module _ (out : Outside) (sc : Scope) (W : Places) (c : Context) (st : Flattenin
     };
     touches = h.touches;
     plain = h.plain;
+    unmade = h.unmade;
   }
 
 -- counted in the walk, and on its line in the flat form
@@ -160,6 +162,7 @@ module _ (out : Outside) (sc : Scope) (low : ℕ) (W : Places) (c d : Context) (
   pub begins_next : StmtBegins out sc low (λ p. 0) W c s → (h : StmtDone out sc e W c s d) → Stayed c d → StmtBegins out sc low (λ p. 0) h.after d (flat e s)
   begins_next b h t = record {
     good = good_flat e s b.good h.fine;
+    unmade = h.unmade;
     sole = sole_since low c d b.sole t.sole;
     stands = h.stands;
     whole = h.whole;
@@ -205,6 +208,7 @@ module _ (out : Outside) (sc : Scope) (low : ℕ) (W : Places) (c d : Context) (
       };
       touches = touches_then (changeable out W c.vars []) (changeable out h.after d.vars []) s.built.draft (flat e s).built.draft (flat f (flat e s)).built.draft h.touches k.touches same;
       plain = λ q w m. h.plain q w (k.plain q w m);
+      unmade = k.unmade;
     }
       where
         one : (v : Var) → MadeSince (wires_so_far (flat e s)) d.next k.after v → HadOwner d v → MadeSince (wires_so_far s) c.next k.after v
@@ -279,6 +283,7 @@ done_nothing out sc low W c s b = record {
   leaves = record { setting = refl; callers = refl; blocks = refl; names = refl };
   touches = touches_none (changeable out W c.vars []) s.built.draft;
   plain = λ q w m. m;
+  unmade = b.unmade;
 }
 
 pub nothing_fine : (sc : Scope) (c : Context) → StmtFine sc c pass nothing

@@ -34,7 +34,7 @@ use Rattle.flat_form.specs.Good.{Good}
 use Rattle.flat_form.specs.Names.{AllOf, names}
 use Rattle.flat_form.proofs.Goods.{good_flat}
 use Rattle.flat_typed.specs.Places.{Places, is_part, is_shared, has_wires, part_out, bits_for}
-use Rattle.flat_typed.specs.Footprint.{used_wires, consumed_wires, NoneNames, Touches, StaysPlain}
+use Rattle.flat_typed.specs.Footprint.{used_wires, consumed_wires, NoneNames, Touches, StaysPlain, Unmade}
 use Rattle.flat_typed.specs.Relation.{Outside, Stands, FitsPart, IsAnswer}
 use Rattle.flat_typed.specs.Done.{Leaves, ExprDone, StmtBegins, StmtDone, carrying, changeable}
 use Rattle.flat_typed.specs.Scopes.{as_meaning}
@@ -215,6 +215,7 @@ module _ (p : Place) (op : UpdateOp) (e : Expression) (sc : Scope) (taker : Ty �
     leaves = subst (Leaves st) (sym becomes) (record { setting = h.leaves.setting; callers = h.leaves.callers; blocks = h.leaves.blocks; names = h.leaves.names });
     touches = subst (λ (u : Flattening). Touches (changeable out W c.vars []) st.built.draft u.built.draft) (sym becomes) touches;
     plain = λ q. subst (λ (u : Flattening). StaysPlain st.built.draft u.built.draft) (sym becomes) (λ w m. h.plain q w (flips_stay_plain (among ws) (wires_so_far s1) s1.built changed flips w m));
+    unmade = subst (λ (u : Flattening). Unmade u.built.draft) (sym becomes) (λ w le. flips.measured w ∙ h.unmade w (let g = flips.few in omega (arith, g, le)));
   }
 
   pub update_done : StmtDone out sc (E0 >> step (update_to (place_name p) (meanings.static_values (place_indices p) sc.statics) op)) W c st d
