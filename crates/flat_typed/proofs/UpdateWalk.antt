@@ -1,65 +1,28 @@
 -- What the walk of an update tells.
-use Rattle.std.proofs.Common.{◌≡◌, ℕ, ◌≤◌, ◌<◌, Bool, true, false, not, ◌&&◌, ◌||◌, List, [], ◌∷◌, ◌++◌, length, drop, reverse, refl, sym, ap, ap₂, ◌∙◌, subst, arith}
+use Rattle.std.proofs.Common.{◌≡◌, ℕ, Bool, true, false, not, ◌&&◌, ◌||◌, List, [], ◌∷◌, refl, sym, ap, ap₂, ◌∙◌}
 use Rattle.std.specs.Prelude.{Option, Some, None, ℤ}
-use Rattle.silq_tree.specs.declared.node.NameId.{NameId}
 use Rattle.silq_tree.specs.declared.node.Spot.{Spot}
 use Rattle.silq_tree.specs.declared.node.UpdateOp.{UpdateOp}
-use Rattle.silq_tree.specs.declared.node.UpdateOp.TheVariants as updates
-use Rattle.silq_tree.specs.Syntax.{Expression, Place, update}
-use Rattle.silq_types.specs.declared.types.Shape.{Shape}
+use Rattle.silq_tree.specs.Syntax.{Expression, Place}
 use Rattle.silq_types.specs.declared.types.Ty.{Ty}
 use Rattle.silq_types.specs.declared.need.Need.TheVariants as needs
 use Rattle.silq_types.specs.declared.values.Value.{Value}
 use Rattle.silq_types.specs.declared.values.Var.{Var}
 use Rattle.silq_types.specs.Types.{is_held, is_number, shape_eq, place_name, place_indices, names as names_in}
-use Rattle.check_scope.specs.declared.uses.Use.{Use}
 use Rattle.check_scope.specs.Context.{Scope, Context, indices, variable, part_at, part_type, find_var, is_in_condition}
-use Rattle.check_scope.specs.Uses.{uses}
 use Rattle.check_expr.specs.Expression.{is_tuple, expr, lone_wants}
 use Rattle.check_expr.specs.Owners.{Ensures}
 use Rattle.check_expr.proofs.Owners.{gives-more, o_bind, o_then, o_back, o_fail, o_more, o_rules, o_variables}
 use Rattle.check_fun.specs.Statement.{Target, target, target_of, target_type, consumed_there, has_name, needs_number, static_updated, update_part}
 use Rattle.silq_mean.specs.declared.receiver.Receiver.{Receiver}
-use Rattle.silq_mean.specs.Effect.{Effect, step, update_to, ◌>>◌}
 use Rattle.silq_mean.specs.Meaning as meanings
-use Rattle.flat_core.specs.declared.step.WireId.{WireId}
-use Rattle.bit_arith.specs.declared.operand.Operand.{Operand}
-use Rattle.bit_arith.specs.Built.{Built, Setting}
-use Rattle.bit_arith.specs.Calls.{Targets, among}
-use Rattle.flat_form.specs.declared.known.Known.TheVariants.{Shown}
-use Rattle.flat_form.specs.State.{Flattening, last, drop_last, first, wires_so_far, operands_of, typed_as, wires_in, part_of, part_shape}
-use Rattle.flat_form.specs.Flat.{flat, known_in, update_by, update_variable}
-use Rattle.flat_form.specs.Fine.{IsOf, IsUpdated, FitsIndex, UpdatesPart, MayUpdate}
-use Rattle.flat_form.specs.Good.{Good}
-use Rattle.flat_form.specs.Names.{AllOf, names}
-use Rattle.flat_form.proofs.Goods.{good_flat}
-use Rattle.flat_typed.specs.Places.{Places, is_part, is_shared, has_wires, part_out, bits_for}
-use Rattle.flat_typed.specs.Footprint.{used_wires, consumed_wires, NoneNames, Touches, StaysPlain}
-use Rattle.flat_typed.specs.Relation.{Outside, Stands, FitsPart, IsAnswer}
-use Rattle.flat_typed.specs.Done.{Leaves, ExprDone, StmtBegins, StmtDone, carrying, changeable}
-use Rattle.flat_typed.specs.Scopes.{as_meaning}
-use Rattle.flat_typed.specs.Uses.{IsThere, NoStatics}
+use Rattle.flat_typed.specs.Uses.{NoStatics}
 use Rattle.flat_typed.specs.Lemmas.{Callable, ExpressionIsFine}
-use Rattle.flat_typed.specs.Stay.{FreeStatementIsFine}
 use Rattle.flat_typed.proofs.Ordered.{clash}
 use Rattle.flat_typed.proofs.Parts.{found_there}
-use Rattle.flat_typed.proofs.Binding.{none_out}
-use Rattle.flat_typed.proofs.Moving.{found_all}
-use Rattle.flat_typed.proofs.Growing.{stands_grown, touches_then}
-use Rattle.flat_typed.proofs.Footprints.{operands_apart, consumed_may_change}
-use Rattle.flat_typed.proofs.Forgetting.{stands_at}
 use Rattle.flat_typed.proofs.Scopes.{indices_are}
-use Rattle.flat_typed.proofs.There.{part_class}
-use Rattle.flat_typed.proofs.Uses.{NotOf, name_of_part, uses_not_of}
-use Rattle.flat_typed.proofs.Tame.{AllLeft}
-use Rattle.flat_typed.proofs.Flipping.{Flips, flips_each, flips_add, flips_sub}
-use Rattle.flat_typed.proofs.Touching.{flips_touch, flips_stay_plain, flips_plain, among_may}
-use Rattle.flat_typed.proofs.Turns.{Does, line_fine}
-use Rattle.flat_typed.proofs.Reached.{Reached, reached_here, one_of, whole_left, made_left, consumed_touches}
-use Rattle.flat_typed.proofs.Changing.{same_shape, takes_shape, still_there, shows_bits, good_bits}
-use Rattle.flat_typed.proofs.Claims.{OneAnswer, one_answer, all_below}
-use Rattle.flat_typed.proofs.Inside.{Inside, part_inside, exact_indices}
-use Rattle.flat_typed.proofs.Updates.{use_at, part_consume, part_hold, part_there, part_may_change, part_consumes}
+use Rattle.flat_typed.proofs.Reached.{Reached, reached_here, one_of}
+use Rattle.flat_typed.proofs.Inside.{exact_indices}
 
 -- ---- what the walk tells
 

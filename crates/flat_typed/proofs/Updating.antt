@@ -1,6 +1,6 @@
 -- An update of a variable or of a part of one, as a statement.
 use Rattle.std.proofs.Common.{◌≡◌, ℕ, ◌≤◌, ◌<◌, Bool, true, false, not, ◌&&◌, ◌||◌, List, [], ◌∷◌, ◌++◌, length, drop, reverse, refl, sym, ap, ap₂, ◌∙◌, subst, arith}
-use Rattle.std.specs.Prelude.{Option, Some, None, ℤ}
+use Rattle.std.specs.Prelude.{Some, None}
 use Rattle.silq_tree.specs.declared.node.NameId.{NameId}
 use Rattle.silq_tree.specs.declared.node.Spot.{Spot}
 use Rattle.silq_tree.specs.declared.node.UpdateOp.{UpdateOp}
@@ -9,16 +9,13 @@ use Rattle.silq_tree.specs.Syntax.{Expression, Place, update}
 use Rattle.silq_types.specs.declared.types.Shape.{Shape}
 use Rattle.silq_types.specs.declared.types.Ty.{Ty}
 use Rattle.silq_types.specs.declared.need.Need.TheVariants as needs
-use Rattle.silq_types.specs.declared.values.Value.{Value}
 use Rattle.silq_types.specs.declared.values.Var.{Var}
-use Rattle.silq_types.specs.Types.{is_held, is_number, shape_eq, place_name, place_indices, names as names_in}
+use Rattle.silq_types.specs.Types.{is_number, place_name, place_indices}
 use Rattle.check_scope.specs.declared.uses.Use.{Use}
-use Rattle.check_scope.specs.Context.{Scope, Context, indices, variable, part_at, part_type, find_var, is_in_condition}
+use Rattle.check_scope.specs.Context.{Scope, Context, indices, variable, part_at, find_var}
 use Rattle.check_scope.specs.Uses.{uses}
-use Rattle.check_expr.specs.Expression.{is_tuple, expr, lone_wants}
-use Rattle.check_expr.specs.Owners.{Ensures}
-use Rattle.check_expr.proofs.Owners.{gives-more, o_bind, o_then, o_back, o_fail, o_more, o_rules, o_variables}
-use Rattle.check_fun.specs.Statement.{Target, target, target_of, target_type, consumed_there, has_name, needs_number, static_updated, update_part}
+use Rattle.check_expr.proofs.Owners.{gives-more}
+use Rattle.check_fun.specs.Statement.{needs_number, update_part}
 use Rattle.silq_mean.specs.declared.receiver.Receiver.{Receiver}
 use Rattle.silq_mean.specs.Effect.{Effect, step, update_to, ◌>>◌}
 use Rattle.silq_mean.specs.Meaning as meanings
@@ -38,24 +35,22 @@ use Rattle.flat_typed.specs.Footprint.{used_wires, consumed_wires, NoneNames, To
 use Rattle.flat_typed.specs.Relation.{Outside, Stands, FitsPart, IsAnswer}
 use Rattle.flat_typed.specs.Done.{Leaves, ExprDone, StmtBegins, StmtDone, carrying, changeable}
 use Rattle.flat_typed.specs.Scopes.{as_meaning}
-use Rattle.flat_typed.specs.Uses.{IsThere, NoStatics}
+use Rattle.flat_typed.specs.Uses.{IsThere}
 use Rattle.flat_typed.specs.Lemmas.{Callable, ExpressionIsFine}
 use Rattle.flat_typed.specs.Stay.{FreeStatementIsFine}
 use Rattle.flat_typed.proofs.Ordered.{clash}
-use Rattle.flat_typed.proofs.Parts.{found_there}
 use Rattle.flat_typed.proofs.Binding.{none_out}
 use Rattle.flat_typed.proofs.Moving.{found_all}
 use Rattle.flat_typed.proofs.Growing.{stands_grown, touches_then}
 use Rattle.flat_typed.proofs.Footprints.{operands_apart, consumed_may_change}
 use Rattle.flat_typed.proofs.Forgetting.{stands_at}
-use Rattle.flat_typed.proofs.Scopes.{indices_are}
 use Rattle.flat_typed.proofs.There.{part_class}
 use Rattle.flat_typed.proofs.Uses.{NotOf, name_of_part, uses_not_of}
 use Rattle.flat_typed.proofs.Tame.{AllLeft}
 use Rattle.flat_typed.proofs.Flipping.{Flips, flips_each, flips_add, flips_sub}
 use Rattle.flat_typed.proofs.Touching.{flips_touch, flips_stay_plain, flips_plain, among_may}
 use Rattle.flat_typed.proofs.Turns.{Does, line_fine}
-use Rattle.flat_typed.proofs.Reached.{Reached, reached_here, one_of, whole_left, made_left, consumed_touches}
+use Rattle.flat_typed.proofs.Reached.{whole_left, made_left, consumed_touches}
 use Rattle.flat_typed.proofs.Changing.{same_shape, takes_shape, still_there, shows_bits, good_bits}
 use Rattle.flat_typed.proofs.Claims.{OneAnswer, one_answer, all_below}
 use Rattle.flat_typed.proofs.Inside.{Inside, part_inside, exact_indices}
