@@ -7,4 +7,6 @@ pub mod Calls
 pub mod Lemmas
 pub mod Uses
 pub mod Laws
+pub mod Stay
+pub mod StatementLaws
 pub mod Steps
