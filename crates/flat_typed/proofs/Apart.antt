@@ -1,15 +1,12 @@
 -- Parts that are used: a wire of a consumed part has an owner, and is no wire of a part that does not overlap it.
-use Rattle.std.proofs.Common.{◌≡◌, ◌⊎◌, inl, inr, ℕ, suc, ◌+◌, ◌-◌, ◌≤◌, ◌<◌, Bool, true, false, cond, not, ◌&&◌, ◌||◌, List, [], ◌∷◌, length, take, drop, refl, sym, ap, ◌∙◌, subst, arith}
+use Rattle.std.proofs.Common.{◌≡◌, inl, inr, ℕ, ◌+◌, ◌-◌, ◌≤◌, Bool, true, false, cond, not, ◌&&◌, ◌||◌, List, [], ◌∷◌, take, drop, refl, sym, ap, ◌∙◌, subst, arith}
 use Rattle.std.specs.Prelude.{Option, Some, None, ℤ}
-use Rattle.std.specs.List.{list_any}
 use Rattle.silq_tree.specs.declared.node.NameId.{NameId}
 use Rattle.silq_types.specs.declared.types.Shape.{Shape}
-use Rattle.silq_types.specs.declared.types.Ty.{Ty}
 use Rattle.silq_types.specs.declared.values.Part.{Part}
 use Rattle.silq_types.specs.declared.values.Value.{Value}
 use Rattle.silq_types.specs.declared.values.Var.{Var}
 use Rattle.silq_types.specs.Types.{same_name, shape_bits}
-use Rattle.silq_types.specs.Calls.{is_consumed}
 use Rattle.silq_mean.specs.Written.{is_empty}
 use Rattle.check_scope.specs.declared.uses.Use.{Use}
 use Rattle.check_scope.specs.Context.{Context, indices, variable, same_part, overlaps, is_prefix, find_var, part_type}
@@ -19,18 +16,15 @@ use Rattle.flat_core.specs.declared.step.WireId.{WireId}
 use Rattle.bit_arith.specs.declared.operand.Operand.{Operand}
 use Rattle.bit_arith.specs.Calls.{among}
 use Rattle.flat_form.specs.declared.known.Known.TheVariants.{Absent}
-use Rattle.flat_form.specs.State.{Flattening, outside, wires_in, part_shape, part_start, part_of}
-use Rattle.flat_form.specs.Names.{AllOf, operands_in, named_by, names}
-use Rattle.flat_typed.specs.Places.{Places, is_part, is_shared, has_wires, part_out, less_part, bits_for, shown, times_in, holds, holders, owners_of}
+use Rattle.flat_form.specs.State.{Flattening, wires_in, part_shape, part_start, part_of}
+use Rattle.flat_form.specs.Names.{AllOf, operands_in}
+use Rattle.flat_typed.specs.Places.{Places, is_part, part_out, less_part, bits_for, shown, times_in}
 use Rattle.flat_typed.specs.Footprint.{wires_for, wires_of_part}
-use Rattle.flat_typed.specs.Relation.{PartsDiffer, HasNone, FitsPart, IsPartOf, Outside, Stands}
+use Rattle.flat_typed.specs.Relation.{PartsDiffer, FitsPart, IsPartOf, Outside, Stands}
 use Rattle.flat_typed.specs.Uses.{IsThere}
 use Rattle.flat_typed.proofs.Ordered.{clash, same_is_equal, or_left, or_right}
-use Rattle.flat_typed.proofs.Parts.{found_there, some_same, name_refl}
-use Rattle.flat_typed.proofs.Changes.{whole_is}
-use Rattle.flat_typed.proofs.Moving.{found_all}
-use Rattle.flat_typed.proofs.Owning.{among_times}
-use Rattle.flat_typed.proofs.Spans.{times_split, span_and_rest, Apart, lie_apart, parts_apart, part_and_outside, part_at_most, part_is_outside}
+use Rattle.flat_typed.proofs.Parts.{found_there, some_same}
+use Rattle.flat_typed.proofs.Spans.{times_split, span_and_rest, Apart, lie_apart, part_at_most, part_is_outside}
 use Rattle.std.proofs.lemmas.List.{drop-drop}
 
 -- ---- three spans of a list

@@ -1,11 +1,10 @@
 -- What one operand uses and the other consumes has no wire in common, and what is consumed may be changed.
-use Rattle.std.proofs.Common.{◌≡◌, ◌⊎◌, inl, inr, ℕ, suc, ◌+◌, ◌≤◌, ◌<◌, Bool, true, false, cond, not, ◌&&◌, ◌||◌, List, [], ◌∷◌, refl, sym, ap, ap₂, ◌∙◌, subst, arith}
-use Rattle.std.specs.Prelude.{Option, Some, None, nat_lt}
+use Rattle.std.proofs.Common.{◌≡◌, ◌⊎◌, inl, inr, suc, ◌+◌, ◌≤◌, Bool, true, false, cond, not, ◌&&◌, ◌||◌, List, [], ◌∷◌, refl, sym, ap, ap₂, ◌∙◌, subst, arith}
+use Rattle.std.specs.Prelude.{Option, Some, None}
 use Rattle.std.specs.List.{list_any}
 use Rattle.std.proofs.lemmas.Bool.{lt-ltb}
 use Rattle.silq_tree.specs.declared.node.NameId.{NameId}
 use Rattle.silq_types.specs.declared.need.Need.{Need}
-use Rattle.silq_types.specs.declared.need.Need.TheVariants as needs
 use Rattle.silq_types.specs.declared.values.Part.{Part}
 use Rattle.silq_types.specs.declared.values.Value.{Value}
 use Rattle.silq_types.specs.declared.values.Var.{Var}
@@ -18,13 +17,11 @@ use Rattle.check_expr.proofs.Alike.{same_part_same}
 use Rattle.flat_core.specs.declared.step.WireId.{WireId}
 use Rattle.bit_arith.specs.declared.operand.Operand.{Operand}
 use Rattle.bit_arith.specs.Calls.{among}
-use Rattle.flat_form.specs.declared.known.Known.{Known}
 use Rattle.flat_form.specs.State.{Flattening, wires_so_far, wires_in, part_of}
 use Rattle.flat_form.specs.Names.{AllOf, operands_in, named_by, names}
-use Rattle.flat_typed.specs.Places.{Places, is_part, is_shared, has_wires, part_out, less_part, bits_for, shown, times_in, holds, holders, owners_of}
-use Rattle.flat_typed.specs.Footprint.{wires_of_part, used_wires, consumed_wires, Within}
+use Rattle.flat_typed.specs.Places.{Places, is_part, is_shared, has_wires, part_out, shown, times_in, holds, holders, owners_of}
+use Rattle.flat_typed.specs.Footprint.{wires_of_part, used_wires, consumed_wires}
 use Rattle.flat_typed.specs.Relation.{Outside, Stands, SparesGuarded}
-use Rattle.flat_typed.specs.Done.{changeable}
 use Rattle.flat_typed.specs.Uses.{IsThere, OperandsApart, ConsumedMayChange}
 use Rattle.flat_typed.proofs.Ordered.{clash, same_is_equal, or_left, or_right}
 use Rattle.flat_typed.proofs.Parts.{found_there, some_same, name_refl}

@@ -1,5 +1,5 @@
 -- What a value without wires of its own may keep: wires that its expression made, which nothing else names.
-use Rattle.std.proofs.Common.{◌≡◌, ◌⊎◌, inl, inr, ℕ, suc, ◌≤◌, ◌<◌, Bool, true, false, cond, not, ◌&&◌, List, [], ◌∷◌, drop, refl, sym, ap, ◌∙◌, subst, arith}
+use Rattle.std.proofs.Common.{◌≡◌, ◌⊎◌, inl, inr, ℕ, suc, ◌≤◌, ◌<◌, Bool, true, false, cond, not, ◌&&◌, List, [], ◌∷◌, drop, refl, sym, subst, arith}
 use Rattle.std.specs.Prelude.{Option, Some, None, nat_le}
 use Rattle.std.proofs.lemmas.Bool.{cases_lt, leb-true}
 use Rattle.flat_core.specs.declared.step.WireId.{WireId}
@@ -11,13 +11,12 @@ use Rattle.bit_arith.specs.declared.operand.Operand.TheVariants.{Const, Literal}
 use Rattle.bit_arith.specs.Built.{under_condition}
 use Rattle.bit_arith.specs.Calls.{AllSafe, no_target, among, IsTarget}
 use Rattle.flat_form.specs.declared.known.TypedBits.{TypedBits}
-use Rattle.flat_form.specs.declared.known.Known.{Known}
 use Rattle.flat_form.specs.State.{Flattening, drop_last, wires_so_far, wires_in, are_new}
-use Rattle.flat_form.specs.Names.{AllOf, AllEnv, CallerOf, names, named_by}
+use Rattle.flat_form.specs.Names.{AllOf, AllEnv, CallerOf, names}
 use Rattle.flat_form.specs.Fine.{MayChange}
 use Rattle.flat_typed.specs.Places.{times_in}
 use Rattle.flat_typed.proofs.Ordered.{clash}
-use Rattle.flat_typed.proofs.Owning.{same_refl, wire_is, among_times, times_distinct, each_named, all_targets, all_each, env_each, callers_each}
+use Rattle.flat_typed.proofs.Owning.{wire_is, among_times, times_distinct, each_named, all_targets, all_each, env_each, callers_each}
 
 ands : (a b c d : Bool) → (a && (b && (not c && d))) ≡ true → ((b ≡ true) × (c ≡ false)) × (d ≡ true)
 ands true true false d e = ((refl, refl), e)

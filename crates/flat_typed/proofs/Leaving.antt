@@ -1,5 +1,5 @@
 -- Steps of an expression's walk that leave all variables: what holds of the variables holds behind them.
-use Rattle.std.proofs.Common.{◌≡◌, ℕ, Bool, true, false, cond, ◌&&◌, List, [], ◌∷◌, refl, sym, ap, ◌∙◌}
+use Rattle.std.proofs.Common.{◌≡◌, ℕ, Bool, false, List, [], ◌∷◌}
 use Rattle.std.specs.Prelude.{⊤, Option, Some, None, Ok, ℤ}
 use Rattle.silq_tree.specs.declared.node.NameId.{NameId}
 use Rattle.silq_tree.specs.declared.node.Spot.{Spot}
@@ -7,7 +7,6 @@ use Rattle.silq_tree.specs.declared.node.UnaryOp.{UnaryOp}
 use Rattle.silq_tree.specs.declared.node.BinaryOp.{BinaryOp}
 use Rattle.silq_tree.specs.Syntax.{Expression, ScalarType}
 use Rattle.silq_types.specs.declared.types.Scalar.{Scalar}
-use Rattle.silq_types.specs.declared.types.Shape.{Shape}
 use Rattle.silq_types.specs.declared.types.Ty.{Ty}
 use Rattle.silq_types.specs.declared.signature.InstanceKey.{InstanceKey}
 use Rattle.silq_types.specs.declared.signature.Returned.{Returned}
@@ -24,10 +23,9 @@ use Rattle.silq_mean.specs.Written.{needed_at, scalar_type}
 use Rattle.check_scope.specs.Walk.{Walk, answer, broken, counted, asked}
 use Rattle.check_scope.specs.Context.{Scope, Context, Check, ◌>>=◌, is_known_name}
 use Rattle.check_scope.specs.Places.{new_value}
-use Rattle.check_expr.specs.Expression.{origin_of, one_value, static_value, typed_value, single, is_tuple, unary_value, binary_value, binary_shape, flip_value, gate_value, gate_values, many, placed, result_values, result_origin, argument_at}
+use Rattle.check_expr.specs.Expression.{origin_of, one_value, static_value, typed_value, single, is_tuple, unary_value, binary_value, flip_value, gate_value, gate_values, many, placed, result_values, result_origin, argument_at}
 use Rattle.check_expr.specs.Owners.{Gives, Ensures}
-use Rattle.check_expr.proofs.Owners.{o_bind, o_then, o_more, o_from, o_back, o_fail, o_if, o_rules, o_result, o_variables}
-use Rattle.flat_typed.proofs.Ordered.{clash}
+use Rattle.check_expr.proofs.Owners.{o_bind, o_then, o_from, o_back, o_fail, o_if, o_rules, o_result, o_variables}
 
 module _ (S : InstanceKey → Signature → Type 0) (low : ℕ) where
   -- of the variables

@@ -38,3 +38,5 @@ pub mod Behind
 pub mod Outcomes
 pub mod Lending
 pub mod LentParts
+pub mod UsesThere
+pub mod WalkThere

@@ -1,7 +1,7 @@
 -- A value with wires that nobody owns: it is under way as their owner, also where its place is new.
-use Rattle.std.proofs.Common.{◌≡◌, ◌⊎◌, inl, inr, ℕ, suc, ◌+◌, ◌≤◌, ◌<◌, Bool, true, false, cond, not, List, [], ◌∷◌, refl, sym, ap, ◌∙◌, subst, arith}
+use Rattle.std.proofs.Common.{◌≡◌, ◌⊎◌, inl, inr, ℕ, suc, ◌+◌, ◌≤◌, ◌<◌, Bool, true, false, cond, List, [], ◌∷◌, refl, sym, ap, ◌∙◌, subst, arith}
 use Rattle.std.specs.Prelude.{◌==◌}
-use Rattle.std.proofs.lemmas.Bool.{eq-eqb, eqb-true, cases_lt}
+use Rattle.std.proofs.lemmas.Bool.{eq-eqb, cases_lt}
 use Rattle.silq_types.specs.declared.values.Part.{Part}
 use Rattle.silq_types.specs.declared.values.Value.{Value}
 use Rattle.silq_types.specs.declared.values.Var.{Var}
@@ -13,12 +13,11 @@ use Rattle.flat_core.specs.declared.step.End.TheVariants.{Dropped}
 use Rattle.flat_core.specs.Label.{wire_in}
 use Rattle.bit_arith.specs.declared.operand.Operand.{Operand}
 use Rattle.bit_arith.specs.Calls.{IsTarget}
-use Rattle.flat_form.specs.State.{Flattening, wires_in}
+use Rattle.flat_form.specs.State.{Flattening}
 use Rattle.flat_form.specs.Names.{AllOf, CallerOf, names}
-use Rattle.flat_typed.specs.Places.{Places, with_place, is_shared, shown, times_in, holders, linear_holders, carriers, linear_carriers, owners_of, linear_owners}
+use Rattle.flat_typed.specs.Places.{Places, with_place, is_shared, shown, times_in, linear_holders, linear_carriers, owners_of, linear_owners}
 use Rattle.flat_typed.specs.Relation.{FitsPart, Outside, Stands}
 use Rattle.flat_typed.specs.Done.{Counted}
-use Rattle.flat_typed.proofs.Ordered.{clash}
 use Rattle.flat_typed.proofs.Owning.{each_named}
 use Rattle.flat_typed.proofs.Agreeing.{SameFor, stands_agree}
 

@@ -1,8 +1,8 @@
 -- The use of a place, as a list: the part that it names is there.
-use Rattle.std.proofs.Common.{◌≡◌, ◌⊎◌, inl, inr, Bool, true, false, cond, not, ◌&&◌, ◌||◌, List, [], ◌∷◌, refl, sym, ap, ap₂, ◌∙◌, subst, arith}
+use Rattle.std.proofs.Common.{◌≡◌, inl, inr, Bool, true, false, cond, not, ◌&&◌, ◌||◌, List, [], ◌∷◌, refl, sym, ap, ap₂, ◌∙◌, subst, arith}
 use Rattle.std.specs.Prelude.{⊤, Option, Some, None, is_some, Result, Ok, Err, ℤ}
 use Rattle.silq_tree.specs.declared.node.NameId.{NameId}
-use Rattle.silq_tree.specs.Syntax.{Expression, Expressions, Place, whole, part, part_of_part, none, more}
+use Rattle.silq_tree.specs.Syntax.{Place, whole, part, part_of_part, none, more}
 use Rattle.static_num.specs.declared.values.StaticFault.{StaticFault}
 use Rattle.static_num.specs.Static.{eval_of}
 use Rattle.silq_types.specs.declared.types.Ty.{Ty}
@@ -19,14 +19,14 @@ use Rattle.check_scope.specs.Places.{disturbs, is_moved, use_place}
 use Rattle.check_scope.specs.Uses.{with_index, index_values, part_or_whole, place_use}
 use Rattle.check_expr.proofs.Owners.{found_part, gives-more}
 use Rattle.flat_form.specs.Names.{AllOf}
-use Rattle.flat_typed.specs.Places.{Places, is_part, is_shared}
+use Rattle.flat_typed.specs.Places.{Places}
 use Rattle.flat_typed.specs.Relation.{FitsPart, IsPartOf}
 use Rattle.flat_typed.specs.Uses.{IsThere, PlacesAreThere}
 use Rattle.flat_typed.proofs.Ordered.{clash}
 use Rattle.flat_typed.proofs.Parts.{found_there, some_same}
 use Rattle.flat_typed.proofs.Moving.{found_all}
 use Rattle.flat_typed.proofs.Uses.{name_of_part}
-use Rattle.flat_typed.proofs.There.{UsedWhole, UsedPart, Used, PlaceUsed, o_place, part_class}
+use Rattle.flat_typed.proofs.There.{UsedWhole, Used, PlaceUsed, o_place, part_class}
 
 -- ---- index values of a place: there are at most two
 

@@ -1,6 +1,6 @@
 -- What the meaning of a part of a body sees is what typing sees: static values, headers and functions by name.
-use Rattle.std.proofs.Common.{◌≡◌, ℕ, suc, ◌<◌, Bool, true, false, cond, ◌&&◌, ◌||◌, List, [], ◌∷◌, length, map, refl, sym, ap, ap₂, ◌∙◌, subst, arith}
-use Rattle.std.specs.Prelude.{Option, Some, None, Result, Ok, Err, ℤ, ◌==◌}
+use Rattle.std.proofs.Common.{◌≡◌, ℕ, ◌<◌, Bool, true, false, cond, ◌&&◌, ◌||◌, List, [], ◌∷◌, length, map, refl, ap, ap₂, ◌∙◌, subst, arith}
+use Rattle.std.specs.Prelude.{Some, None, Result, Ok, Err, ℤ, ◌==◌}
 use Rattle.std.proofs.lemmas.Bool.{eqb-true, eq-eqb}
 use Rattle.silq_tree.specs.declared.node.NameId.{NameId}
 use Rattle.silq_tree.specs.declared.node.Spot.{Spot}
@@ -27,12 +27,11 @@ use Rattle.check_expr.specs.Owners.{Ensures}
 use Rattle.check_expr.proofs.Owners.{o_bind, o_then, o_more, o_back, o_result, o_names}
 use Rattle.silq_mean.specs.declared.receiver.Receiver.{Receiver}
 use Rattle.silq_mean.specs.declared.receiver.Receiver.TheVariants.{Argument, CallResult}
-use Rattle.silq_mean.specs.Effect.{Effect, ◌>>◌, step, leave_body}
+use Rattle.silq_mean.specs.Effect.{◌>>◌, step, leave_body}
 use Rattle.silq_mean.specs.Meaning.{or_zero, static_value, static_values, or_bit, scalar_of, type_or_bit, type_of, param_of, parameters_of, scope, body, functions}
 use Rattle.flat_typed.specs.Calls.{parted}
 use Rattle.flat_typed.specs.Scopes.{as_meaning, scope_for}
 use Rattle.flat_typed.specs.Laws.{Stood}
-use Rattle.flat_typed.proofs.Ordered.{clash}
 
 -- ---- answers
 

@@ -1,5 +1,5 @@
 -- A classical value that is bound to a name: it shares its wires, and owns none.
-use Rattle.std.proofs.Common.{◌≡◌, ◌⊎◌, inl, inr, ℕ, ◌+◌, ◌≤◌, Bool, true, false, cond, not, ◌||◌, List, [], ◌∷◌, drop, refl, sym, ap, ◌∙◌, subst, arith}
+use Rattle.std.proofs.Common.{◌≡◌, ◌⊎◌, inl, inr, ◌+◌, ◌≤◌, Bool, true, false, cond, not, ◌||◌, List, drop, refl, sym, ap, ◌∙◌, subst, arith}
 use Rattle.std.specs.List.{list_any}
 use Rattle.silq_tree.specs.declared.node.NameId.{NameId}
 use Rattle.silq_types.specs.declared.values.Part.{Part}
@@ -14,7 +14,7 @@ use Rattle.flat_core.specs.declared.step.WireId.{WireId}
 use Rattle.flat_form.specs.declared.known.Known.TheVariants.{Absent}
 use Rattle.flat_form.specs.State.{Flattening}
 use Rattle.flat_form.specs.Names.{AllOf, operands_in, named_by, names}
-use Rattle.flat_typed.specs.Places.{Places, is_part, is_shared, has_wires, part_out, less_part, bits_for, shown, times_in, holds, holders, linear_holders, owners_of, linear_owners}
+use Rattle.flat_typed.specs.Places.{Places, is_part, is_shared, has_wires, less_part, bits_for, shown, times_in, holds, holders, linear_holders, owners_of, linear_owners}
 use Rattle.flat_typed.specs.Relation.{FitsPart, Outside, Stands, SparesGuarded}
 use Rattle.flat_typed.proofs.Ordered.{clash}
 use Rattle.flat_typed.proofs.Changes.{bound_shows}

@@ -1,22 +1,20 @@
 -- What an expression may do to variables: it consumes some of them, and leaves all else.
-use Rattle.std.proofs.Common.{◌≡◌, ℕ, Bool, true, false, cond, not, ◌&&◌, ◌||◌, List, [], ◌∷◌, refl, sym, ap, ap₂, ◌∙◌, subst, arith}
+use Rattle.std.proofs.Common.{◌≡◌, ℕ, Bool, true, false, cond, not, ◌&&◌, ◌||◌, List, [], ◌∷◌, refl, sym, ap, ap₂, ◌∙◌, subst}
 use Rattle.std.specs.Prelude.{Option, Some, None}
 use Rattle.silq_tree.specs.declared.node.NameId.{NameId}
 use Rattle.silq_types.specs.declared.types.Ty.{Ty}
 use Rattle.silq_types.specs.declared.values.Origin.{Origin}
 use Rattle.silq_types.specs.declared.values.Part.{Part}
 use Rattle.silq_types.specs.declared.values.Var.{Var}
-use Rattle.silq_types.specs.Types.{same_name, is_held}
-use Rattle.silq_types.specs.Calls.{is_consumed}
+use Rattle.silq_types.specs.Types.{is_held}
 use Rattle.silq_mean.specs.Written.{is_empty}
 use Rattle.check_scope.specs.declared.uses.Use.{Use}
 use Rattle.check_scope.specs.Context.{indices, variable, same_part, overlaps, is_prefix, find_var, replace, part_type}
 use Rattle.check_scope.specs.Places.{disturbs}
 use Rattle.check_expr.proofs.Alike.{same_part_same}
-use Rattle.check_expr.proofs.Owners.{found_part}
 use Rattle.flat_form.specs.Names.{AllOf}
-use Rattle.flat_typed.specs.Places.{Places, is_part, is_shared}
-use Rattle.flat_typed.specs.Relation.{FitsPart, IsPartOf}
+use Rattle.flat_typed.specs.Places.{Places, is_part}
+use Rattle.flat_typed.specs.Relation.{FitsPart}
 use Rattle.flat_typed.specs.Done.{kinds}
 use Rattle.flat_typed.specs.Uses.{IsThere}
 use Rattle.flat_typed.proofs.Ordered.{clash}

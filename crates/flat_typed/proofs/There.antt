@@ -1,9 +1,9 @@
 -- The use of a place whose walk answers: the part that it names is there.
-use Rattle.std.proofs.Common.{◌≡◌, ◌⊎◌, inl, inr, ℕ, Bool, true, false, cond, not, ◌&&◌, ◌||◌, List, [], ◌∷◌, refl, sym, ap, ap₂, ◌∙◌, subst, arith}
-use Rattle.std.specs.Prelude.{Option, Some, None, is_some, ℤ, pos, negsuc}
+use Rattle.std.proofs.Common.{◌≡◌, ◌⊎◌, inl, inr, ℕ, Bool, true, false, cond, ◌&&◌, List, [], ◌∷◌, refl, sym, ap, ◌∙◌, arith}
+use Rattle.std.specs.Prelude.{Option, Some, None, ℤ}
 use Rattle.silq_tree.specs.declared.node.NameId.{NameId}
 use Rattle.silq_tree.specs.declared.node.Spot.{Spot}
-use Rattle.silq_tree.specs.Syntax.{Place, Expressions}
+use Rattle.silq_tree.specs.Syntax.{Place}
 use Rattle.silq_types.specs.declared.types.Scalar.{Scalar}
 use Rattle.silq_types.specs.declared.types.Scalar.TheVariants as scalars
 use Rattle.silq_types.specs.declared.types.Shape.{Shape}
@@ -11,28 +11,20 @@ use Rattle.silq_types.specs.declared.types.Shape.TheVariants.{Bit, UInt, Int, Ar
 use Rattle.silq_types.specs.declared.types.Ty.{Ty}
 use Rattle.silq_types.specs.declared.signature.InstanceKey.{InstanceKey}
 use Rattle.silq_types.specs.declared.signature.Signature.{Signature}
-use Rattle.silq_types.specs.declared.values.Value.{Value}
 use Rattle.silq_types.specs.declared.values.Part.{Part}
 use Rattle.silq_types.specs.declared.values.Var.{Var}
-use Rattle.silq_types.specs.Types.{Statics, place_name, place_indices, is_held}
+use Rattle.silq_types.specs.Types.{place_name, place_indices, is_held}
 use Rattle.silq_types.specs.declared.need.Need.{Need}
 use Rattle.silq_types.specs.declared.need.Need.TheVariants as needs
-use Rattle.silq_types.specs.Calls.{is_consumed}
 use Rattle.silq_mean.specs.Meaning.{static_values}
-use Rattle.check_scope.specs.declared.uses.Use.{Use}
-use Rattle.check_scope.specs.Context.{Scope, Context, ◌>>=◌, indices, part_at, variable, is_below, typed_as, bit_at, scalar_part, part_type, is_in_condition, find_var, replace}
+use Rattle.check_scope.specs.Context.{Scope, Context, ◌>>=◌, indices, part_at, variable, is_below, typed_as, scalar_part, part_type, is_in_condition, find_var, replace}
 use Rattle.check_scope.specs.Places.{disturbs, is_moved, unmoved, use_part, use_found, use_place}
-use Rattle.check_scope.specs.Uses.{index_values, part_or_whole, place_use}
+use Rattle.check_scope.specs.Uses.{index_values}
 use Rattle.check_expr.specs.Owners.{Ensures}
-use Rattle.check_expr.proofs.Alike.{same_part_same}
-use Rattle.check_expr.proofs.Owners.{o_bind, o_then, o_more, o_back, o_fail, o_if, o_rules, o_variables, found_part}
-use Rattle.flat_form.specs.Names.{AllOf}
-use Rattle.flat_typed.specs.Places.{Places, is_part, is_shared}
-use Rattle.flat_typed.specs.Relation.{FitsPart, IsPartOf}
-use Rattle.flat_typed.specs.Uses.{IsThere}
+use Rattle.check_expr.proofs.Owners.{o_bind, o_then, o_more, o_back, o_fail, o_if, o_rules, o_variables}
 use Rattle.flat_typed.proofs.Ordered.{clash, or_left, or_right}
 use Rattle.flat_typed.proofs.Parts.{some_same}
-use Rattle.flat_typed.proofs.Moving.{spent, found_all}
+use Rattle.flat_typed.proofs.Moving.{spent}
 use Rattle.flat_typed.proofs.Scopes.{indices_are}
 
 -- ---- what the walk tells
@@ -94,7 +86,8 @@ module _ (S : InstanceKey → Signature → Type 0) (low : ℕ) (c : Context) (s
           left = inl (m, ap (λ (b : Context). replace b.vars (spent v)) h.1);
         });
       })
-      (λ m. record { runs = λ d h. (o_left need v.ty v (Used sc need c x q) (λ a e k l. inl (record {
+      (λ m. record {
+        runs = λ d h. (o_left need v.ty v (Used sc need c x q) (λ a e k l. inl (record {
           var = v;
           found = ap (λ l. find_var l q) (sym same) ∙ f;
           live = h.0.0;
@@ -102,23 +95,26 @@ module _ (S : InstanceKey → Signature → Type 0) (low : ℕ) (c : Context) (s
           loose = λ k. and_false (is_moved need v.ty) (is_in_condition sc.held q) h.0.1.1.0 k;
           clear = ap (λ l. disturbs l q) (sym same) ∙ h.0.1.1.1.0;
           left = inr (l ∙ ap (λ (b : Context). b.vars) k);
-        }))).runs d h.1 }))
+        }))).runs d h.1;
+      }))
   o_used s need x q vars None (Some w) same f g = by_type (part_type w.ty.classical w.ty.shape (indices q)) refl
     where
       by_type : (t : Option Ty) → part_type w.ty.classical w.ty.shape (indices q) ≡ t → Ensures S (λ d. d ≡ c) (use_part sc s need q w vars t) (λ v. Used sc need c x q)
       by_type None k = o_then S low (o_rules S low s _) (λ u. o_fail S low _)
       by_type (Some t) k =
-          o_then S low (o_rules S low s _) (λ u. record { runs = λ d h. (o_left need t w (Used sc need c x q) (λ a e i l. inr (record {
-            none = ap (λ l. find_var l q) (sym same) ∙ f;
-            owner = w;
-            found = ap (λ l. find_var l (variable x)) (sym same) ∙ g;
-            live = h.0.0;
-            ty = t;
-            kind = k;
-            clear = ap (λ l. disturbs l q) (sym same) ∙ or_left (disturbs vars q) (is_moved need w.ty) h.0.1.1.1.0;
-            unmoved = or_right (disturbs vars q) (is_moved need w.ty) h.0.1.1.1.0;
-            left = l ∙ ap (λ (b : Context). b.vars) i;
-          }))).runs d h.1 })
+          o_then S low (o_rules S low s _) (λ u. record {
+            runs = λ d h. (o_left need t w (Used sc need c x q) (λ a e i l. inr (record {
+              none = ap (λ l. find_var l q) (sym same) ∙ f;
+              owner = w;
+              found = ap (λ l. find_var l (variable x)) (sym same) ∙ g;
+              live = h.0.0;
+              ty = t;
+              kind = k;
+              clear = ap (λ l. disturbs l q) (sym same) ∙ or_left (disturbs vars q) (is_moved need w.ty) h.0.1.1.1.0;
+              unmoved = or_right (disturbs vars q) (is_moved need w.ty) h.0.1.1.1.0;
+              left = l ∙ ap (λ (b : Context). b.vars) i;
+            }))).runs d h.1;
+          })
   o_used s need x q vars None None same f g = o_fail S low _
 
   pub o_place : (w : Place) (s : Spot) (need : Need) → Ensures S (λ d. d ≡ c) (use_place sc w s need) (λ v. PlaceUsed sc need c w)

@@ -1,5 +1,5 @@
 -- What an expression uses, as a list: joined lists, other variables of the same kinds, and names that it does not have.
-use Rattle.std.proofs.Common.{◌≡◌, ℕ, Bool, true, false, cond, ◌&&◌, ◌||◌, List, [], ◌∷◌, ◌++◌, drop, refl, sym, ap, ap₂, ◌∙◌, subst, arith}
+use Rattle.std.proofs.Common.{◌≡◌, ℕ, Bool, true, false, cond, ◌&&◌, ◌||◌, List, [], ◌∷◌, ◌++◌, drop, refl, sym, ap, ap₂, ◌∙◌, subst}
 use Rattle.std.specs.Prelude.{Option, Some, None, is_some, ℤ}
 use Rattle.silq_tree.specs.declared.node.NameId.{NameId}
 use Rattle.silq_tree.specs.declared.node.Spot.{Spot}
@@ -24,7 +24,7 @@ use Rattle.flat_typed.specs.Places.{Places}
 use Rattle.flat_typed.specs.Footprint.{wires_for, wires_of_part, used_wires, consumed_wires}
 use Rattle.flat_typed.specs.Done.{kinds}
 use Rattle.flat_typed.proofs.Ordered.{clash, or_left, or_right}
-use Rattle.flat_typed.proofs.Parts.{found_there, some_same}
+use Rattle.flat_typed.proofs.Parts.{found_there}
 
 -- ---- joined lists
 

@@ -1,5 +1,5 @@
 -- Laws of the relation between typing and flattening that are proved.
-use Rattle.std.specs.Prelude.{◌≡◌, ◌<◌, true, false, List, ◌∷◌, drop, length, ℕ, take, Some, Ok, ℤ}
+use Rattle.std.specs.Prelude.{◌≡◌, ◌<◌, false, List, ◌∷◌, drop, length, ℕ, take, Some, Ok, ℤ}
 use Rattle.silq_tree.specs.declared.node.NameId.{NameId}
 use Rattle.silq_tree.specs.declared.node.Spot.{Spot}
 use Rattle.silq_tree.specs.Syntax.{forget, Function}

@@ -1,21 +1,20 @@
 -- From an accepted program to what flattening needs: the theorem, and the lemma of each construct.
-use Rattle.std.specs.Prelude.{◌≡◌, ℕ, true, false, List, [], ◌∷◌, length, map, drop, Some, None, is_some, ℤ, Ok, ◌⊎◌, ⊤}
+use Rattle.std.specs.Prelude.{◌≡◌, ℕ, false, List, [], ◌∷◌, length, map, drop, ℤ, Ok, ◌⊎◌}
 use Rattle.silq_tree.specs.declared.node.NameId.{NameId}
 use Rattle.silq_tree.specs.declared.node.Spot.{Spot}
 use Rattle.silq_tree.specs.Syntax.{Expression, Expressions, Statement, Statements, Function}
 use Rattle.silq_types.specs.declared.types.Ty.{Ty}
 use Rattle.silq_types.specs.declared.values.Value.{Value}
-use Rattle.silq_types.specs.declared.values.Var.{Var}
 use Rattle.silq_types.specs.declared.signature.InstanceKey.{InstanceKey}
 use Rattle.silq_types.specs.declared.signature.Signature.{Signature}
 use Rattle.silq_types.specs.Known.{Signatures}
-use Rattle.silq_mean.specs.Written.{Header, value_of}
+use Rattle.silq_mean.specs.Written.{Header}
 use Rattle.silq_types.specs.Types.{count}
 use Rattle.silq_types.specs.declared.need.Need.{Need}
 use Rattle.silq_types.specs.declared.need.Need.TheVariants as needs
 use Rattle.silq_types.specs.declared.built_in.BuiltIn.{BuiltIn}
 use Rattle.check_scope.specs.declared.uses.Use.{Use}
-use Rattle.check_scope.specs.Context.{Scope, Context, Check, variable, find_var}
+use Rattle.check_scope.specs.Context.{Scope, Context, Check}
 use Rattle.silq_types.specs.Programs.{Program}
 use Rattle.check_scope.specs.Uses.{uses, all_uses, argument_uses, some_pair, both_consume, consume_and_hold}
 use Rattle.check_scope.specs.Walk.{Counts}
@@ -32,8 +31,7 @@ use Rattle.flat_form.specs.State.{Flattening}
 use Rattle.flat_form.specs.Names.{AllOf}
 use Rattle.flat_form.specs.Jobs.{FineJob, EndsWell}
 use Rattle.flat_typed.specs.Places.{Places}
-use Rattle.flat_typed.specs.Relation.{Outside, PartsDiffer, FitsPart, is_argument}
-use Rattle.flat_typed.specs.Uses.{IsThere}
+use Rattle.flat_typed.specs.Relation.{Outside, is_argument}
 use Rattle.flat_typed.specs.Scopes.{as_meaning, scope_for}
 use Rattle.flat_typed.specs.Done.{Begins, ExprDone, StmtBegins, StmtDone}
 use Rattle.flat_typed.specs.Calls.{ArgsDone, BodyFine, CallFine}
@@ -109,18 +107,6 @@ ArgumentsAreFine es =
     (arguments es sc other asks c)
 
 -- ---- laws of typing alone
-
--- no variable has the name of a static value
-abbrev pub NoStatics : Scope → List Var → Type 0
-NoStatics sc vars = (x : NameId) → is_some (value_of sc.statics x) ≡ true → find_var vars (variable x) ≡ None
-
--- the parts that an expression uses are there
-abbrev pub UsesAreThere : Type 0
-UsesAreThere =
-    (e : Expression) (sc : Scope) (need : Need) (wants : List Ty) (c : Context) → is_tuple e ≡ false → NoStatics sc c.vars →
-    Gives (λ k s. ⊤)
-    (λ r. (W : Places) → PartsDiffer c.vars → AllOf (FitsPart W c.vars) c.vars → AllOf (IsThere sc.held c.vars) (uses e sc c.vars need))
-    (expr e sc need wants c)
 
 -- a place that had no owner gets none
 abbrev pub DeadStaysDead : Type 0

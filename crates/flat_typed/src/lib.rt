@@ -9,7 +9,7 @@
 pub mod steps;
 
 ghost use Rattle.flat_typed.specs.Laws.{ForgetIsFine, OwnMayChange, BlocksClose, BodiesSee, CallsStand};
-ghost use Rattle.flat_typed.specs.Uses.{OperandsApart, ConsumedMayChange, PlacesAreThere};
+ghost use Rattle.flat_typed.specs.Uses.{OperandsApart, ConsumedMayChange, PlacesAreThere, UsesAreThere};
 
 /// A statement `forget x;` that is accepted needs nothing that flattening lacks, and keeps the relation.
 pub fn forget_is_fine()
@@ -50,4 +50,10 @@ pub fn bodies_see()
 /// A function that is found by its name stands at its number, and a call of it does what its body does, with the functions before it.
 pub fn calls_stand()
     ensures { CallsStand }
+{}
+
+/// So are the parts that an accepted expression uses, each in the variables that stood before it; and the expression leaves the parts, types
+/// and places of all variables.
+pub fn uses_are_there()
+    ensures { UsesAreThere }
 {}
