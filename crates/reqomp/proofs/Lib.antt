@@ -3,3 +3,7 @@ pub mod Greedy
 pub mod CircuitEdges
 pub mod LevelZero
 pub mod Marks
+pub mod Sameness
+pub mod OneList
+pub mod Length
+pub mod EqualMarks
