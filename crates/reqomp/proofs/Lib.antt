@@ -7,3 +7,5 @@ pub mod Sameness
 pub mod OneList
 pub mod Length
 pub mod EqualMarks
+pub mod AtTop
+pub mod Redone
