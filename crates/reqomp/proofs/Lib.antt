@@ -9,3 +9,4 @@ pub mod Length
 pub mod EqualMarks
 pub mod AtTop
 pub mod Redone
+pub mod Widths
