@@ -10,3 +10,4 @@ pub mod EqualMarks
 pub mod AtTop
 pub mod Redone
 pub mod Widths
+pub mod LevelSlots
