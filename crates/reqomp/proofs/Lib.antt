@@ -11,3 +11,4 @@ pub mod AtTop
 pub mod Redone
 pub mod Widths
 pub mod LevelSlots
+pub mod Counted

@@ -1,15 +1,15 @@
 -- The steps that a level does again for a vertex, found in one pass back over the steps, and the labels that it needs.
-use Rattle.std.specs.Prelude.{ℕ, zero, suc, Bool, false, cond, ◌||◌, ◌↔◌, List, [], ◌∷◌, ◌++◌, length, Contains}
+use Rattle.std.specs.Prelude.{◌≡◌, ℕ, zero, suc, ◌+◌, Bool, false, cond, ◌||◌, ◌↔◌, List, [], ◌∷◌, ◌++◌, length, slice_get, Some, Contains}
 use Rattle.flat_core.specs.declared.step.Step.{Step}
 use Rattle.flat_core.specs.declared.step.WireId.{WireId}
 use Rattle.flat_core.specs.declared.step.StepId.{StepId}
 use Rattle.flat_core.specs.Form.{FlatForm}
-use Rattle.flat_core.specs.Label.{step_id, changes, used, step_at, label_before}
+use Rattle.flat_core.specs.Label.{step_id, changes, used, step_at, top, label_before}
 use Rattle.graph_core.specs.declared.vertex.Vertex.{Vertex}
 use Rattle.graph_core.specs.declared.vertex.Vertex.TheVariants.{Forward, Reverse, Free}
 use Rattle.graph_core.specs.Circuit.{IsVertex, Uses}
 use Rattle.reqomp.specs.Simple.{has_wire, marked_at}
-use Rattle.reqomp.specs.Level.{Needs, IsRedone}
+use Rattle.reqomp.specs.Level.{RestsOn, Needs, IsRedone}
 
 -- those of some wires that are marked
 abbrev pub marked_among : List WireId → List WireId → List WireId
@@ -56,3 +56,18 @@ pub data IsUsedBy (f : FlatForm) (marked : List WireId) (v : Vertex) (steps : Li
 -- the labels that a vertex needs are told by the steps that are done again for it
 abbrev pub NeedsAreUsed : Type 0
 NeedsAreUsed = (f : FlatForm) (marked : List WireId) (v : Vertex) (steps : List StepId) → IsRedone f marked v steps → (w : WireId) (i : ℕ) → Needs f marked v w i ↔ IsUsedBy f marked v steps w i
+
+-- the marked wires that a vertex rests on, each of them once
+pub record AreRestedOn (f : FlatForm) (marked : List WireId) (v : Vertex) (wires : List WireId) : Type 0 where
+  pub only : (w : WireId) → Contains wires w → RestsOn f marked v w
+  pub all : (w : WireId) → RestsOn f marked v w → Contains wires w
+  pub once : (i j : ℕ) (w : WireId) → slice_get wires i ≡ Some w → slice_get wires j ≡ Some w → i ≡ j
+
+-- how many steps change one of some wires
+abbrev pub steps_over : FlatForm → List WireId → ℕ
+steps_over f [] = 0
+steps_over f (w ∷ rest) = top f w + steps_over f rest
+
+-- so many steps are done again as the wires that the vertex rests on have
+abbrev pub RedoneIsCounted : Type 0
+RedoneIsCounted = (f : FlatForm) (marked : List WireId) (v : Vertex) (steps : List StepId) (wires : List WireId) → IsRedone f marked v steps → AreRestedOn f marked v wires → length steps ≡ steps_over f wires
