@@ -1,6 +1,6 @@
 -- The edges of a level's graph by the places of users on chains.
-use Rattle.std.proofs.Common.{◌≡◌, ℕ, zero, suc, ◌+◌, ◌-◌, ◌<◌, ◌≤◌, true, ◌&&◌, ltb, List, slice_get, option_map, Some, None, Contains, refl, sym, ap, ◌∙◌, subst, inl, inr, arith, ltb-true}
-use Rattle.std.proofs.lemmas.Bool.{cases_Bool, and_parts}
+use Rattle.std.proofs.Common.{◌≡◌, ℕ, zero, suc, ◌+◌, ◌-◌, ◌<◌, ◌≤◌, true, false, ◌&&◌, ltb, List, slice_get, option_map, Some, None, Contains, refl, sym, ap, ◌∙◌, subst, inl, inr, arith, ltb-true}
+use Rattle.std.proofs.lemmas.Bool.{cases_Bool, and_parts, both_ways}
 use Rattle.std.proofs.lemmas.Option.{none-some, same_Some}
 use Rattle.flat_core.specs.declared.step.Step.{Step}
 use Rattle.flat_core.specs.declared.step.Step.TheVariants.{X, H, P, M}
@@ -12,13 +12,13 @@ use Rattle.graph_core.specs.declared.vertex.Vertex.{Vertex}
 use Rattle.graph_core.specs.declared.vertex.Vertex.TheVariants.{Forward, Reverse, Free}
 use Rattle.graph_core.specs.declared.vertex.EdgeKind.{EdgeKind}
 use Rattle.graph_core.specs.declared.vertex.EdgeKind.TheVariants.{Control, Availability}
-use Rattle.graph_core.specs.Circuit.{steps_on, chain, maker, restorer, holder, doing, undoing, Edge, along, after_holder, before_next, before_first}
+use Rattle.graph_core.specs.Circuit.{IsVertex, steps_on, chain, maker, restorer, holder, doing, undoing, Edge, along, after_holder, before_next, before_first}
 use Rattle.graph_core.specs.Slots.{slot}
 use Rattle.graph_core.proofs.Places.{some_at, contains_at, place_of}
-use Rattle.graph_core.proofs.Chains.{length-steps_on, from_on, forward_at, reverse_at, same_wire_is, on_chain, placed}
+use Rattle.graph_core.proofs.Chains.{length-steps_on, from_on, forward_at, reverse_at, same_wire_is, on_chain, place, at_place, placed}
 use Rattle.graph_core.proofs.Needs.{label_before-le-top}
 use Rattle.reqomp.specs.Level.{Needs, itself, below, IsKept}
-use Rattle.reqomp.specs.LevelGraph.{IsKeptEdge, LevelGraphIsSame, KeptSlotEdge, in_kept_chain, from_kept_before, to_kept_after, KeptEdgesBySlots}
+use Rattle.reqomp.specs.LevelGraph.{stands_on, IsKeptEdge, LevelGraphIsSame, KeptSlotEdge, in_kept_chain, from_kept_before, to_kept_after, KeptEdgesBySlots}
 
 pub level_graph_is_same : LevelGraphIsSame
 level_graph_is_same f marked g is = record {
@@ -31,17 +31,17 @@ level_graph_is_same f marked g is = record {
 
 -- a user of any kind of need stands after the first vertices of a chain, and before the others
 record Stands (f : FlatForm) (needs : Vertex → WireId → ℕ → Type 0) (u : Vertex) (w : WireId) (i : ℕ) : Type 0 where
-  place : ℕ
-  is : place ≡ slot f u w i
-  behind : (j : ℕ) → place ≡ suc j → (h : Vertex) × (slice_get (chain f w) j ≡ Some h) × Edge f needs Control h u
-  holds : (h : Vertex) → holder f u w i ≡ Some h → (j : ℕ) × (place ≡ suc j) × (slice_get (chain f w) j ≡ Some h)
-  empty : holder f u w i ≡ None → place ≡ 0
-  ahead : (v : Vertex) → slice_get (chain f w) place ≡ Some v → Edge f needs Availability u v
+  there : ℕ
+  is : there ≡ slot f u w i
+  behind : (j : ℕ) → there ≡ suc j → (h : Vertex) × (slice_get (chain f w) j ≡ Some h) × Edge f needs Control h u
+  holds : (h : Vertex) → holder f u w i ≡ Some h → (j : ℕ) × (there ≡ suc j) × (slice_get (chain f w) j ≡ Some h)
+  empty : holder f u w i ≡ None → there ≡ 0
+  ahead : (v : Vertex) → slice_get (chain f w) there ≡ Some v → Edge f needs Availability u v
 
 module _ (f : FlatForm) (needs : Vertex → WireId → ℕ → Type 0) (u : Vertex) (w : WireId) where
   held : (i j : ℕ) (h : Vertex) → suc j ≡ slot f u w i → needs u w i → holder f u w i ≡ Some h → slice_get (chain f w) j ≡ Some h → Stands f needs u w i
   held i j h s n is at = record {
-    place = suc j;
+    there = suc j;
     is = s;
     holds = λ x e. (j, refl, at ∙ sym is ∙ e);
     empty = λ e. absurd (none-some h (sym e ∙ is));
@@ -51,7 +51,7 @@ module _ (f : FlatForm) (needs : Vertex → WireId → ℕ → Type 0) (u : Vert
 
   by_maker : (i : ℕ) → i ≡ slot f u w i → needs u w i → holder f u w i ≡ maker f w i → i ≤ top f w → Stands f needs u w i
   by_maker zero s n is le = record {
-    place = 0;
+    there = 0;
     is = s;
     holds = λ h e. absurd (none-some h (sym is ∙ e));
     empty = λ e. refl;
@@ -105,6 +105,26 @@ module _ (f : FlatForm) (marked : List WireId) (ok : KeepsEnds f) where
             n (subst (Contains marked) (one_chain f v x w b.on a.on) m);
       }
 
+  on_wire : (v : Vertex) (w : WireId) → stands_on f v w ≡ on_chain f w v
+  on_wire (Forward s) w = refl
+  on_wire (Reverse s) w = refl
+  on_wire (Free x) w = refl
+
+  kept_told : (v : Vertex) → IsKept f marked v → (w : WireId) → Contains marked w → stands_on f v w ≡ false
+  kept_told v k w m = elim (cases_Bool (stands_on f v w)) [
+    | inl t ↦ absurd (k.unmarked w m (contains_at (chain f w) (place f w v) v (at_place f w v k.vertex (sym (on_wire v w) ∙ t))))
+    | inr e ↦ e
+  ]
+
+  told_kept : (v : Vertex) → IsVertex f v → ((w : WireId) → Contains marked w → stands_on f v w ≡ false) → IsKept f marked v
+  told_kept v h off = record {
+    vertex = h;
+    unmarked = λ w m c.
+        let p = place_of (chain f w) v c in
+        let a = placed f ok w p.0 v p.1 in
+        both_ways (stands_on f v w) (off w m) (on_wire v w ∙ a.on);
+  }
+
   needs_low : (u : Vertex) (w : WireId) (i : ℕ) → Needs f marked u w i → i ≤ top f w
   needs_low u w i (itself (doing {s = s} l c) n) = label_before-le-top f s w
   needs_low u w i (itself (undoing {s = s} l d c) n) = label_before-le-top f s w
@@ -152,6 +172,7 @@ module _ (f : FlatForm) (marked : List WireId) (ok : KeepsEnds f) where
 
 pub kept_edges_by_slots : KeptEdgesBySlots
 kept_edges_by_slots f marked ok = record {
+  told = λ v. ((λ k. (k.vertex, kept_told f marked ok v k)), (λ t. told_kept f marked ok v t.0 t.1));
   kept = kept_on f marked ok;
   edges = λ kind a b. ((λ e. to_slots f marked ok kind a b e.from e.to e.edge), from_slots f marked ok kind a b);
 }

@@ -1,14 +1,16 @@
 -- The graph of a level as an arena has it: its edges by their kinds, and by the places of users on chains.
-use Rattle.std.specs.Prelude.{◌≡◌, ℕ, suc, ◌↔◌, List, slice_get, Some, Contains}
+use Rattle.std.specs.Prelude.{◌≡◌, ℕ, suc, ◌↔◌, Bool, false, List, slice_get, Some, Contains}
 use Rattle.flat_core.specs.declared.step.WireId.{WireId}
 use Rattle.flat_core.specs.Form.{FlatForm}
+use Rattle.flat_core.specs.Label.{changes, same_wire, step_at}
 use Rattle.flat_core.specs.Ends.{KeepsEnds}
 use Rattle.graph_core.specs.declared.vertex.Vertex.{Vertex}
+use Rattle.graph_core.specs.declared.vertex.Vertex.TheVariants.{Forward, Reverse, Free}
 use Rattle.graph_core.specs.declared.vertex.EdgeKind.{EdgeKind}
 use Rattle.graph_core.specs.declared.vertex.EdgeKind.TheVariants.{Target, Control, Availability}
 use Rattle.graph_core.specs.Arena.{Arena, digraph_of}
 use Rattle.graph_core.specs.Digraph.{IsSame}
-use Rattle.graph_core.specs.Circuit.{chain, Edge}
+use Rattle.graph_core.specs.Circuit.{IsVertex, chain, Edge}
 use Rattle.graph_core.specs.Slots.{slot}
 use Rattle.unqomp.specs.GraphOf.{HasVertices, HasEdges}
 use Rattle.reqomp.specs.Level.{Needs, IsKept, level_graph}
@@ -34,8 +36,15 @@ pub data KeptSlotEdge (f : FlatForm) (marked : List WireId) : EdgeKind → Verte
   from_kept_before : {u h : Vertex} {w : WireId} {i : ℕ} → IsKept f marked u → Needs f marked u w i → (j : ℕ) → slot f u w i ≡ suc j → slice_get (chain f w) j ≡ Some h → KeptSlotEdge f marked Control h u
   to_kept_after : {u v : Vertex} {w : WireId} {i : ℕ} → IsKept f marked u → Needs f marked u w i → slice_get (chain f w) (slot f u w i) ≡ Some v → KeptSlotEdge f marked Availability u v
 
--- what an unmarked wire has on its chain is kept, and both forms have the same edges
+-- whether a vertex stands on the chain of a wire
+abbrev pub stands_on : FlatForm → Vertex → WireId → Bool
+stands_on f (Forward s) w = changes w (step_at f s)
+stands_on f (Reverse s) w = changes w (step_at f s)
+stands_on f (Free x) w = same_wire x w
+
+-- what stands on no marked wire is kept, with all that an unmarked wire has on its chain, and both forms have the same edges
 pub record HasKeptSlots (f : FlatForm) (marked : List WireId) : Type 0 where
+  pub told : (v : Vertex) → IsKept f marked v ↔ (IsVertex f v × ((w : WireId) → Contains marked w → stands_on f v w ≡ false))
   pub kept : (w : WireId) (j : ℕ) (v : Vertex) → ¬ Contains marked w → slice_get (chain f w) j ≡ Some v → IsKept f marked v
   pub edges : (kind : EdgeKind) (a b : Vertex) → IsKeptEdge f marked kind a b ↔ KeptSlotEdge f marked kind a b
 
