@@ -1,6 +1,5 @@
 -- The moves of a level are as many as its kept vertices give, in whichever order these are counted.
-use Rattle.std.proofs.Common.{◌≡◌, ℕ, suc, ◌+◌, ◌*◌, ◌≤◌, ◌⊎◌, List, [], ◌∷◌, ◌++◌, map, reverse, length, slice_get, Some, Contains, refl, sym, ap, ◌∙◌, subst, inl, inr, arith, length-append, le_antisymm}
-use Rattle.std.specs.Bool.{⊤}
+use Rattle.std.proofs.Common.{◌≡◌, ℕ, suc, ◌+◌, ◌*◌, ◌≤◌, ◌⊎◌, List, [], ◌∷◌, ◌++◌, map, reverse, length, Contains, refl, sym, ap, ◌∙◌, subst, inl, inr, arith, length-append, le_antisymm}
 use Rattle.std.proofs.lemmas.List.{length-map, length-reverse}
 use Rattle.std.proofs.lemmas.List.Elements.{Contains-append_left, Contains-append_right}
 use Rattle.flat_core.specs.declared.step.WireId.{WireId}
@@ -8,7 +7,6 @@ use Rattle.flat_core.specs.declared.step.StepId.{StepId}
 use Rattle.flat_core.specs.Form.{FlatForm}
 use Rattle.graph_core.specs.declared.vertex.Vertex.{Vertex}
 use Rattle.graph_core.specs.Digraph.{Digraph, IsRun, IsLinearOrder}
-use Rattle.graph_core.proofs.Places.{place_of}
 use Rattle.topo_order.proofs.Orders.{contains_nil, contains_cases, contains_here, contains_later, ready_order_is_linear}
 use Rattle.move_plan.specs.declared.moves.Move.{Move}
 use Rattle.move_plan.specs.declared.moves.Move.TheVariants.{Up, Down}
@@ -17,24 +15,10 @@ use Rattle.reqomp.specs.Simple.{marked_at}
 use Rattle.reqomp.specs.Level.{level_graph, IsRedone, AreMoves, none, more}
 use Rattle.reqomp.specs.Planning.{GiveMoves, no_moves, more_moves, AreSomeKept, AreAllKept, HasLength, LevelLength}
 use Rattle.reqomp.proofs.OneList.{redone_is_one}
-
--- no vertex stands twice in a list
-abbrev AreDistinct : List Vertex → Type 0
-AreDistinct [] = ⊤
-AreDistinct (v ∷ rest) = (¬ Contains rest v) × AreDistinct rest
+use Rattle.reqomp.proofs.Apart.{AreApart, apart_by_place}
 
 abbrev AreWithin : List Vertex → List Vertex → Type 0
 AreWithin xs ys = (v : Vertex) → Contains xs v → Contains ys v
-
-distinct_by_place : (xs : List Vertex) → ((i j : ℕ) (v : Vertex) → slice_get xs i ≡ Some v → slice_get xs j ≡ Some v → i ≡ j) → AreDistinct xs
-distinct_by_place [] once = tt
-distinct_by_place (x ∷ xs) once = (first, distinct_by_place xs later)
-  where
-    first : ¬ Contains xs x
-    first c = let p = place_of xs x c in let e : 0 ≡ suc p.0 = once 0 (suc p.0) x refl p.1 in omega arith
-
-    later : (i j : ℕ) (v : Vertex) → slice_get xs i ≡ Some v → slice_get xs j ≡ Some v → i ≡ j
-    later i j v p q = let e : suc i ≡ suc j = once (suc i) (suc j) v p q in omega arith
 
 -- what is taken in its turn was not taken before
 run_fresh : (g : Digraph) (taken order : List Vertex) → IsRun g taken order → (x : Vertex) → Contains order x → ¬ Contains taken x
@@ -44,11 +28,11 @@ run_fresh g taken (v ∷ rest) run x c t = elim (contains_cases v x rest c) [
   | inr i ↦ run_fresh g (taken ++ v ∷ []) rest run.1 x i (Contains-append_left taken (v ∷ []) x t)
 ]
 
-run_distinct : (g : Digraph) (taken order : List Vertex) → IsRun g taken order → AreDistinct order
-run_distinct g taken [] run = tt
-run_distinct g taken (v ∷ rest) run = (
+run_apart : (g : Digraph) (taken order : List Vertex) → IsRun g taken order → AreApart order
+run_apart g taken [] run = tt
+run_apart g taken (v ∷ rest) run = (
   (λ c. run_fresh g (taken ++ v ∷ []) rest run.1 v c (Contains-append_right taken (v ∷ []) v (contains_here v v [] refl))),
-  run_distinct g (taken ++ v ∷ []) rest run.1,
+  run_apart g (taken ++ v ∷ []) rest run.1,
 )
 
 run_vertices : (g : Digraph) (taken order : List Vertex) → IsRun g taken order → (x : Vertex) → Contains order x → g.IsVertex x
@@ -96,7 +80,7 @@ module _ (f : FlatForm) (marked : List WireId) where
       }
 
   -- vertices that stand in a list give no more moves than it
-  no_more : (xs : List Vertex) (m : ℕ) → GiveMoves f marked xs m → AreDistinct xs → (ys : List Vertex) (n : ℕ) → GiveMoves f marked ys n → AreWithin xs ys → m ≤ n
+  no_more : (xs : List Vertex) (m : ℕ) → GiveMoves f marked xs m → AreApart xs → (ys : List Vertex) (n : ℕ) → GiveMoves f marked ys n → AreWithin xs ys → m ≤ n
   no_more xs m no_moves once ys n give in_ys = omega arith
   no_more xs m (more_moves {v = v} {steps = steps} {rest = rest} {n = less} r a) once ys n give in_ys =
       let o = others ys n give v steps r (in_ys v (contains_here v v rest refl)) in
@@ -125,13 +109,13 @@ module _ (f : FlatForm) (marked : List WireId) where
       give = moves_give order moves a
 
       part : (vertices : List Vertex) (n : ℕ) → AreSomeKept f marked vertices → GiveMoves f marked vertices n → n ≤ length moves
-      part vertices n are count = no_more vertices n count (distinct_by_place vertices are.once) order (length moves) give (λ v c. o.whole v (are.kept v c))
+      part vertices n are count = no_more vertices n count (apart_by_place vertices are.once) order (length moves) give (λ v c. o.whole v (are.kept v c))
 
       whole : (vertices : List Vertex) (n : ℕ) → AreAllKept f marked vertices → GiveMoves f marked vertices n → length moves ≡ n
       whole vertices n are count =
           let up : n ≤ length moves = part vertices n are.some count in
           let down : length moves ≤ n =
-          no_more order (length moves) give (run_distinct (level_graph f marked) [] order o.run) vertices n count
+          no_more order (length moves) give (run_apart (level_graph f marked) [] order o.run) vertices n count
           (λ v c. are.all v (run_vertices (level_graph f marked) [] order o.run v c)) in
           le_antisymm down up
 

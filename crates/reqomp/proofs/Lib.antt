@@ -5,6 +5,7 @@ pub mod LevelZero
 pub mod Marks
 pub mod Sameness
 pub mod OneList
+pub mod Apart
 pub mod Length
 pub mod EqualMarks
 pub mod AtTop
