@@ -3,3 +3,13 @@ pub mod Greedy
 pub mod CircuitEdges
 pub mod LevelZero
 pub mod Marks
+pub mod Sameness
+pub mod OneList
+pub mod Apart
+pub mod Length
+pub mod EqualMarks
+pub mod AtTop
+pub mod Redone
+pub mod Widths
+pub mod LevelSlots
+pub mod Counted

@@ -2,7 +2,7 @@
 use Rattle.std.proofs.Common.{◌≡◌, ℕ, zero, suc, ◌<◌, ◌≤◌, [], ◌∷◌, refl, arith}
 use Rattle.flat_core.specs.Label.{wire_id}
 use Rattle.reqomp.specs.Simple.{marked_at}
-use Rattle.reqomp.specs.Example.{two_ands, ExampleMarks}
+use Rattle.reqomp.specs.Example.{two_ands, ExampleMarks, ExampleRedone}
 
 first_of : (k : ℕ) → k < 8 → marked_at two_ands (suc k) ≡ wire_id 5 ∷ []
 first_of zero l = refl
@@ -30,4 +30,13 @@ example_marks = record {
   both_from_nine = refl;
   both_to_last = refl;
   first_of_levels = first_of_levels;
+}
+
+pub example_redone : ExampleRedone
+example_redone = record {
+  both = refl;
+  first_alone = refl;
+  none_again = refl;
+  use_of_first = refl;
+  use_of_second = refl;
 }

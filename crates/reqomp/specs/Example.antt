@@ -5,8 +5,10 @@ use Rattle.flat_core.specs.declared.step.Step.TheVariants.{X, H}
 use Rattle.flat_core.specs.declared.step.End.TheVariants.{Output, Dropped}
 use Rattle.flat_core.specs.declared.step.Lit.{Lit}
 use Rattle.flat_core.specs.Form.{WireForm, FlatForm}
-use Rattle.flat_core.specs.Label.{wire_id}
+use Rattle.flat_core.specs.Label.{step_id, wire_id}
+use Rattle.graph_core.specs.declared.vertex.Vertex.TheVariants.{Forward, Reverse}
 use Rattle.reqomp.specs.Simple.{simple_wires, marked_at}
+use Rattle.reqomp.specs.Redone.{redone}
 
 abbrev pub on_wire : ℕ → Option Lit
 on_wire n = Some (record { wire = wire_id n; positive = true })
@@ -60,3 +62,13 @@ pub record ExampleMarks : Type 0 where
   pub both_from_nine : marked_at two_ands 9 ≡ wire_id 5 ∷ (wire_id 6 ∷ [])
   pub both_to_last : marked_at two_ands 16 ≡ wire_id 5 ∷ (wire_id 6 ∷ [])
   pub first_of_levels : (k : ℕ) → 0 < k → k ≤ 8 → marked_at two_ands k ≡ wire_id 5 ∷ []
+
+-- the steps that are done again at the last level and at level 1
+pub record ExampleRedone : Type 0 where
+  -- the use of the second and does both ands again, or the second alone where the first is not marked
+  pub both : redone xor_of_ands (marked_at xor_of_ands 16) (Forward (step_id 2)) ≡ step_id 0 ∷ (step_id 1 ∷ [])
+  pub first_alone : redone xor_of_ands (marked_at xor_of_ands 1) (Reverse (step_id 1)) ≡ step_id 0 ∷ []
+  pub none_again : redone xor_of_ands (marked_at xor_of_ands 1) (Forward (step_id 2)) ≡ []
+  -- each use of one of two ands does that one again
+  pub use_of_first : redone two_ands (marked_at two_ands 16) (Forward (step_id 4)) ≡ step_id 0 ∷ []
+  pub use_of_second : redone two_ands (marked_at two_ands 16) (Forward (step_id 3)) ≡ step_id 1 ∷ []
