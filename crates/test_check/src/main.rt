@@ -47,6 +47,11 @@ fn answer(alloc: Global, words: &str, text: &str) -> Result<String, AllocError> 
     String::from_str(alloc, if is_fine { "fine" } else { note })
 }
 
+// Prints a note that is not the wanted one.
+fn print_missed(rt: &impl Print, number: u64, got: &str, wanted: &str) -> io::Result<()> {
+    println!(rt; "line {number}: got {got}, wanted {wanted}")
+}
+
 // Whether the note of a row is the wanted one. Another one is printed.
 fn is_met(rt: &impl Print, alloc: Global, number: u64, row: &str) -> io::Result<bool> {
     let (program, wanted) = row.split_once('\t').unwrap_or((row, "a note"));
@@ -55,7 +60,7 @@ fn is_met(rt: &impl Print, alloc: Global, number: u64, row: &str) -> io::Result<
     let got = answer(alloc, words, &text)?;
     let met = got.as_str() == wanted;
     if !met {
-        println!(rt; "line {number}: got {got}, wanted {wanted}")?;
+        print_missed(rt, number, &got, wanted)?;
     }
     Ok(met)
 }
