@@ -10,13 +10,7 @@ if [ ! -x "$program" ]; then
     exit 1
 fi
 for kind in graph order; do
-    if [ $# -gt 0 ]; then
-        sizes=$*
-    elif [ $kind = graph ]; then
-        sizes="12500 25000 50000 99997"
-    else
-        sizes="50 100 200 400 800 1600"
-    fi
+    sizes=${*:-12500 25000 50000 99997}
     for n in $sizes; do
         /usr/bin/time -f "%e %M" -o /tmp/bench_graph.$$ "$program" "$n" $kind >/dev/null || exit 1
         awk -v kind=$kind -v n="$n" '{ printf "%s n=%d %.2f s %.1f MB\n", kind, n, $1, $2 / 1024 }' /tmp/bench_graph.$$
