@@ -1,12 +1,13 @@
 //! The check of a program.
 
-ghost use Rattle.std.specs.Prelude.{◌≡◌, length, Ok, Some, IfOk, IfErr};
+ghost use Rattle.std.specs.Prelude.{◌≡◌, ◌<◌, length, option_and_then, reverse, Ok, Some, IfOk, IfErr};
 ghost use Rattle.silq_tree.specs.Arena.{program_at};
 ghost use Rattle.silq_types.specs.declared.signature.Signature.{Signature};
 ghost use Rattle.silq_types.specs.Known.{signature_of};
 ghost use Rattle.check_fun.specs.Entry.{check_named, number_of_name};
-ghost use Rattle.check_scope.specs.Library.{AreFunsBelow};
+ghost use Rattle.check_scope.specs.Library.{AreFunsBelow, found_at, functions_of};
 ghost use Rattle.check_scope.specs.Steps.{IsFirst};
+ghost use Rattle.silq_types.specs.Calls.{find_fun};
 ghost use Rattle.silq_types.specs.Words.{words_of};
 
 use crate::entry::{check_entry, name_with_text, unknown_entry};
@@ -27,8 +28,8 @@ pub struct Checked {
     pub known: Known,
 }
 
-/// Checks a program from the function `entry` with these static values: accepted, or the first broken rule, unsupported item or
-/// passed limit in the order of the walk.
+/// Checks a program from the function `entry` with these static values: accepted, with the function of that name as its entry,
+/// or the first broken rule, unsupported item or passed limit in the order of the walk.
 pub fn check(
     alloc: Global,
     program: Program,
@@ -37,6 +38,9 @@ pub fn check(
 ) -> Result<Checked, CheckFault>
     requires { AreFunsBelow (length program.tree.funs) program.funs }
     ensures library { IfOk result (λ c. c.library ≡ record { nodes = program.tree; words = words_of program.names; funs = program.funs }) }
+    ensures below { IfOk result (λ c. c.entry.fun.number < length c.library.funs) }
+    ensures found { IfOk result (λ c. option_and_then (find_fun (reverse (functions_of c.library))) (number_of_name program.names entry.now) ≡ Some (found_at c.library c.entry.fun.number)) }
+    ensures values { IfOk result (λ c. c.entry.statics ≡ statics.now) }
     ensures accepted { IfOk result (λ c. (s : Signature) × (check_named (record { words = words_of program.names; funs = program_at program.tree program.funs }) (number_of_name program.names entry.now) statics.now ≡ Ok (record { entry = s; met = c.known })) × (signature_of c.known c.entry ≡ Some s)) }
     ensures refused { IfErr result (λ f. IsFirst f (check_named (record { words = words_of program.names; funs = program_at program.tree program.funs }) (number_of_name program.names entry.now) statics.now)) }
 {

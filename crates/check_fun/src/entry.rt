@@ -114,6 +114,7 @@ fn walk_entry(
     requires fun { number < length library.now.funs }
     requires at { at ≡ (function_at library.now number).at }
     requires rules { rules_of_entry (function_at library.now number) statics.now ≡ Ok tt }
+    ensures key { IfOk result (λ r. r.0 ≡ record { fun = record { number = number }; statics = statics.now }) }
     ensures accepted { IfOk result (λ r. (s : Signed) × (entry_of (program_of library.now) statics.now (Some (found_at library.now number)) ≡ Ok (record { entry = s; met = r.1 })) × (signature_of r.1 r.0 ≡ Some s)) }
     ensures refused { IfErr result (λ f. IsFirst f (entry_of (program_of library.now) statics.now (Some (found_at library.now number)))) }
 {
@@ -137,6 +138,7 @@ fn check_found(
     statics: &[i64],
 ) -> Result<(InstanceKey, Known), CheckFault>
     requires { number < length library.now.funs }
+    ensures key { IfOk result (λ r. r.0 ≡ record { fun = record { number = number }; statics = statics.now }) }
     ensures accepted { IfOk result (λ r. (s : Signed) × (entry_of (program_of library.now) statics.now (Some (found_at library.now number)) ≡ Ok (record { entry = s; met = r.1 })) × (signature_of r.1 r.0 ≡ Some s)) }
     ensures refused { IfErr result (λ f. IsFirst f (entry_of (program_of library.now) statics.now (Some (found_at library.now number)))) }
 {
@@ -153,6 +155,9 @@ pub(crate) fn check_entry(
     name: NameId,
     statics: &[i64],
 ) -> Result<(InstanceKey, Known), CheckFault>
+    ensures below { IfOk result (λ r. r.0.fun.number < length library.now.funs) }
+    ensures found { IfOk result (λ r. find_fun (reverse (functions_of library.now)) name ≡ Some (found_at library.now r.0.fun.number)) }
+    ensures values { IfOk result (λ r. r.0.statics ≡ statics.now) }
     ensures accepted { IfOk result (λ r. (s : Signed) × (entry_of (program_of library.now) statics.now (find_fun (reverse (functions_of library.now)) name) ≡ Ok (record { entry = s; met = r.1 })) × (signature_of r.1 r.0 ≡ Some s)) }
     ensures refused { IfErr result (λ f. IsFirst f (entry_of (program_of library.now) statics.now (find_fun (reverse (functions_of library.now)) name))) }
 {
