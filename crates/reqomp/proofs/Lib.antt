@@ -13,3 +13,4 @@ pub mod Redone
 pub mod Widths
 pub mod LevelSlots
 pub mod Counted
+pub mod InOrder
