@@ -1,4 +1,4 @@
 mod PathTerms
 mod Sampling
-mod ParameterLists
-mod PathJoints
+pub mod ParameterLists
+pub mod PathJoints

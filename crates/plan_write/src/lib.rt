@@ -2,7 +2,7 @@
 //! The text of a plan's circuit, put move by move.
 
 pub mod fault;
-pub mod gates;
+pub(crate) mod gates;
 pub mod write;
 
 pub use fault::WriteFault;
