@@ -14,3 +14,5 @@ pub mod Widths
 pub mod LevelSlots
 pub mod Counted
 pub mod InOrder
+pub mod Marking
+pub mod Contracted

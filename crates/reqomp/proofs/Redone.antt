@@ -31,7 +31,7 @@ needs_are_used f marked v steps r w i = (to w i, from w i)
     from w i (again {s = s} c u n) = let o = r.only s c in below o.1 (record { step = o.2; changing = o.3; uses = u }) n
 
 -- the marked wires among some are those that are in both lists
-marked_in : (marked xs : List WireId) (w : WireId) → Contains (marked_among marked xs) w → Contains xs w × Contains marked w
+pub marked_in : (marked xs : List WireId) (w : WireId) → Contains (marked_among marked xs) w → Contains xs w × Contains marked w
 marked_in marked [] w c = absurd (contains_nil w c)
 marked_in marked (x ∷ xs) w c = go (has_wire x marked) refl c (marked_in marked xs w)
   where
