@@ -1,5 +1,5 @@
 -- The edges of a level's graph are edges of the circuit graph, its own ones and those of the steps done again.
-use Rattle.std.proofs.Common.{◌≡◌, ℕ, suc, ◌<◌, ◌⊎◌, Bool, true, false, cond, ◌&&◌, eqb, List, [], ◌∷◌, length, slice_get, Some, None, Contains, refl, sym, ap, ◌∙◌, subst, inl, inr}
+use Rattle.std.proofs.Common.{◌≡◌, ℕ, suc, true, ◌&&◌, eqb, List, [], ◌∷◌, Some, None, Contains, refl, sym, ap, ◌∙◌, subst, inl, inr}
 use Rattle.std.proofs.lemmas.Bool.{and_parts}
 use Rattle.std.proofs.lemmas.List.Elements.{Contains-append_cases}
 use Rattle.flat_core.specs.declared.step.Step.{Step}
@@ -7,19 +7,18 @@ use Rattle.flat_core.specs.declared.step.Step.TheVariants.{X, H, P, M}
 use Rattle.flat_core.specs.declared.step.WireId.{WireId}
 use Rattle.flat_core.specs.declared.step.StepId.{StepId}
 use Rattle.flat_core.specs.Form.{FlatForm}
-use Rattle.flat_core.specs.Label.{step_id, used, step_at, top, label_before}
+use Rattle.flat_core.specs.Label.{step_id, used, step_at, label_before}
 use Rattle.flat_core.specs.Ends.{dropped, KeepsEnds}
 use Rattle.graph_core.specs.declared.vertex.Vertex.{Vertex}
 use Rattle.graph_core.specs.declared.vertex.Vertex.TheVariants.{Forward, Reverse, Free}
 use Rattle.graph_core.specs.declared.vertex.EdgeKind.{EdgeKind}
-use Rattle.graph_core.specs.declared.vertex.EdgeKind.TheVariants.{Target, Control, Availability}
+use Rattle.graph_core.specs.declared.vertex.EdgeKind.TheVariants.{Control, Availability}
 use Rattle.graph_core.specs.Circuit.{chain, holder, Uses, doing, undoing, Edge, along, after_holder, before_next, before_first}
 use Rattle.graph_core.proofs.Places.{contains_at}
 use Rattle.graph_core.proofs.Needs.{slot_of}
 use Rattle.topo_order.proofs.Orders.{contains_nil}
-use Rattle.reqomp.specs.Simple.{used_at_top_from, simple_at, simple_from, simple_wires, marked_at}
+use Rattle.reqomp.specs.Simple.{used_at_top_from, simple_at, simple_from, marked_at}
 use Rattle.reqomp.specs.Level.{Passes, RestsOn, directly, further, Needs, itself, below, IsKept}
-use Rattle.reqomp.specs.LevelGraph.{IsKeptEdge}
 use Rattle.reqomp.specs.Contracted.{IsAgain, alike, TakenEdge, own_edge, before_again, after_again, ContractedEdges}
 use Rattle.reqomp.proofs.AtTop.{in_cond, marked_simple}
 

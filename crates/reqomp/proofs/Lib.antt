@@ -16,3 +16,4 @@ pub mod Counted
 pub mod InOrder
 pub mod Marking
 pub mod Contracted
+pub mod Passing

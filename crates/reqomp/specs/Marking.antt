@@ -1,5 +1,5 @@
 -- The simple and the marked wires, as flags for each wire.
-use Rattle.std.specs.Prelude.{◌≡◌, ℕ, ◌<◌, ◌≤◌, Bool, true, false, cond, eqb, List, [], length, take, get_or, slice_set, Option, Some, None}
+use Rattle.std.specs.Prelude.{◌≡◌, ℕ, ◌<◌, ◌≤◌, Bool, true, false, cond, eqb, List, length, take, get_or, slice_set, Option, Some, None}
 use Rattle.flat_core.specs.declared.step.WireId.{WireId}
 use Rattle.flat_core.specs.declared.step.StepId.{StepId}
 use Rattle.flat_core.specs.Form.{FlatForm}

@@ -1,6 +1,5 @@
-use Rattle.std.proofs.Common.{◌≡◌, ◌+◌, ◌*◌, ◌/◌, ◌<◌, ◌≤◌, length, length-set, true, slice_get, Option, Some, None, IsSome, Contains, Bor, arith, refl, sym, ap, ◌∙◌, subst}
+use Rattle.std.proofs.Common.{◌≡◌, length, length-set, true, slice_get, Option, Some, None, IsSome, Contains, Bor, arith, refl, sym, ap, ◌∙◌, subst}
 use Rattle.std.specs.Option.{option_copied}
-use Rattle.std.proofs.lemmas.Option.{slice_get-get_or}
 use Rattle.flat_core.specs.declared.step.WireId.{WireId}
 use Rattle.graph_core.proofs.Places.{some_at, contains_at}
 use Rattle.reqomp.specs.Simple.{simple_wires}
