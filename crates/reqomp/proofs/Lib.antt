@@ -17,3 +17,4 @@ pub mod InOrder
 pub mod Marking
 pub mod Contracted
 pub mod Passing
+pub mod Grouping
