@@ -18,3 +18,4 @@ pub mod Marking
 pub mod Contracted
 pub mod Passing
 pub mod Grouping
+pub mod Growth
