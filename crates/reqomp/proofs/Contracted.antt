@@ -44,7 +44,7 @@ marked_dropped f k w c = simple_dropped f 0 f.steps w (marked_simple f k w c)
 
 module _ (f : FlatForm) (ok : KeepsEnds f) (marked : List WireId) where
   -- what a vertex rests on is marked, and nothing is done again for a freeing
-  rests_marked : (v : Vertex) (w : WireId) → RestsOn f marked v w → Contains marked w
+  pub rests_marked : (v : Vertex) (w : WireId) → RestsOn f marked v w → Contains marked w
   rests_marked v w (directly u c) = c
   rests_marked v w (further r p c) = c
 
@@ -52,7 +52,7 @@ module _ (f : FlatForm) (ok : KeepsEnds f) (marked : List WireId) where
   free_uses v x y w i (doing l c) e = cc
   free_uses v x y w i (undoing l d c) e = cc
 
-  free_rests : (v : Vertex) (y w : WireId) → RestsOn f marked v w → v ≡ Free y → ⊥
+  pub free_rests : (v : Vertex) (y w : WireId) → RestsOn f marked v w → v ≡ Free y → ⊥
   free_rests v y w (directly {i = i} u c) e = free_uses v v y w i u e
   free_rests v y w (further {p = p} r q c) e = free_rests v y p r e
 

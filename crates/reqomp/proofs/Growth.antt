@@ -22,7 +22,7 @@ use Rattle.reqomp.specs.Contracted.{TakenEdge, own_edge, before_again, after_aga
 use Rattle.reqomp.specs.Growing.{IsIdTable, arrow_of, HasGrown, IsSoundFor, IsCopied, MayCopyBefore, MayCopyAfter, HasCopiedBefore, HasCopiedAfter}
 
 -- the edges at a vertex are those of the arena that enter or leave it
-same_id : (a b : VertexId) → a.number ≡ b.number → a ≡ b
+pub same_id : (a b : VertexId) → a.number ≡ b.number → a ≡ b
 same_id a b e = ap (λ (n : ℕ). record { number = n }) e
 
 entering_there : (v : VertexId) (arrows : List Arrow) (u : VertexId) (kind : EdgeKind) → Contains (edges_at true v arrows) (u, kind) → Contains arrows (arrow_of u v kind)

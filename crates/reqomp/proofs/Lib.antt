@@ -19,3 +19,4 @@ pub mod Contracted
 pub mod Passing
 pub mod Grouping
 pub mod Growth
+pub mod LevelArena

@@ -11,10 +11,15 @@ use Rattle.graph_core.specs.declared.graph.VertexId.{VertexId}
 use Rattle.graph_core.specs.declared.graph.Arrow.{Arrow}
 use Rattle.graph_core.specs.Arena.{Arena, IsVertexOf}
 use Rattle.graph_core.specs.Circuit.{IsVertex, Uses, Edge}
-use Rattle.unqomp.specs.GraphOf.{HasArrowOf}
+use Rattle.flat_core.specs.Sound.{IsFlat}
+use Rattle.unqomp.specs.GraphOf.{HasArrowOf, IsGraphOf}
 use Rattle.reqomp.specs.declared.groups.Group.{Group}
 use Rattle.reqomp.specs.declared.growing.Places.{Places}
+use Rattle.reqomp.specs.declared.groups.Groups.{Groups}
+use Rattle.reqomp.specs.Simple.{marked_at}
+use Rattle.reqomp.specs.LevelGraph.{IsLevelGraphOf}
 use Rattle.reqomp.specs.Contracted.{alike, TakenEdge}
+use Rattle.reqomp.specs.Grouping.{vertices_of, AreGroups}
 
 -- the ids in the level's graph of the vertices of the circuit graph
 pub record IsIdTable (circuit level : Arena) (ids : List (Option VertexId)) : Type 0 where
@@ -66,3 +71,9 @@ pub record HasGroupEdges (f : FlatForm) (group : Group) (g : Arena) : Type 0 whe
   pub own : HasCopiedBefore f true group.vertex group.vertex g
   pub before : (t : StepId) → Contains group.steps.items t → HasCopiedBefore f false (alike group.vertex t) group.vertex g
   pub after : (t : StepId) → Contains group.steps.items t → HasCopiedAfter f (alike group.vertex t) group.vertex g
+
+-- a graph with the vertices of all groups, with edges of the level's graph alone and with all edges of each group, is the level's graph
+abbrev pub GroupsGiveLevelGraph : Type 0
+GroupsGiveLevelGraph = (f : FlatForm) (k : ℕ) → IsFlat f → (circuit : Arena) → IsGraphOf f circuit → (groups : Groups) → AreGroups f (marked_at f k) circuit (length circuit.vertices) groups
+    → (g : Arena) → g.vertices ≡ vertices_of groups.items.items → IsSoundFor f (marked_at f k) g → ((i : ℕ) (group : Group) → slice_get groups.items.items i ≡ Some group → HasGroupEdges f group g)
+    → IsLevelGraphOf f (marked_at f k) g
