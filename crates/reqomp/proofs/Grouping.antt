@@ -1,8 +1,8 @@
 -- The groups of kept vertices, one after another.
-use Rattle.std.proofs.Common.{◌≡◌, ◌↔◌, ℕ, zero, suc, ◌+◌, ◌*◌, ◌<◌, ◌≤◌, ◌⊎◌, Bool, true, false, List, [], ◌∷◌, ◌++◌, map, length, slice_get, Some, Contains, refl, sym, ap, ◌∙◌, subst, inl, inr, arith}
-use Rattle.std.proofs.lemmas.Bool.{cases_Bool, cases_eq, both_ways, false_from_ne_true}
+use Rattle.std.proofs.Common.{◌≡◌, ◌↔◌, ℕ, ◌+◌, ◌*◌, ◌<◌, ◌⊎◌, false, List, [], ◌∷◌, ◌++◌, length, slice_get, Some, Contains, refl, sym, ap, ◌∙◌, subst, inl, inr, arith}
+use Rattle.std.proofs.lemmas.Bool.{cases_eq, both_ways, false_from_ne_true}
 use Rattle.std.proofs.lemmas.List.{map-append}
-use Rattle.std.proofs.lemmas.Option.{none-some, same_Some}
+use Rattle.std.proofs.lemmas.Option.{none-some}
 use Rattle.std.proofs.lemmas.List.Elements.{Contains-push_cases, Contains-append_left, Contains-append_right}
 use Rattle.flat_core.specs.declared.step.WireId.{WireId}
 use Rattle.flat_core.specs.declared.step.StepId.{StepId}
@@ -16,7 +16,7 @@ use Rattle.graph_core.specs.declared.vertex.Vertex.TheVariants.{Forward, Reverse
 use Rattle.graph_core.specs.declared.graph.VertexId.{VertexId}
 use Rattle.graph_core.specs.Arena.{Arena, IsArena, IsVertexOf}
 use Rattle.graph_core.specs.Circuit.{IsVertex}
-use Rattle.graph_core.proofs.Places.{contains_at, place_of, at_map, from_map, at_unique}
+use Rattle.graph_core.proofs.Places.{contains_at, place_of, from_map, at_unique}
 use Rattle.graph_core.proofs.Chains.{freed_kept}
 use Rattle.topo_order.proofs.Orders.{contains_nil, contains_here}
 use Rattle.reqomp.specs.declared.groups.Group.{Group}

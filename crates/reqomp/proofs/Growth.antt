@@ -1,21 +1,20 @@
 -- Edges of a level's graph, copied one by one.
-use Rattle.std.proofs.Common.{◌≡◌, ◌↔◌, ℕ, zero, suc, ◌+◌, ◌<◌, ◌≤◌, ◌⊎◌, Bool, true, false, cond, eqb, List, [], ◌∷◌, ◌++◌, length, slice_get, get_or, Option, Some, None, Contains, refl, sym, ap, ◌∙◌, subst, inl, inr, arith}
+use Rattle.std.proofs.Common.{◌≡◌, ◌↔◌, ℕ, ◌<◌, ◌⊎◌, Bool, true, false, cond, eqb, List, [], ◌∷◌, length, slice_get, get_or, Option, Some, None, Contains, refl, sym, ap, ◌∙◌, subst, inl, inr}
 use Rattle.std.specs.List.Sorted.{IsPermutation}
-use Rattle.std.proofs.lemmas.Bool.{cases_Bool, eqb-true, eq-eqb, both_ways}
+use Rattle.std.proofs.lemmas.Bool.{eqb-true, eq-eqb, both_ways}
 use Rattle.std.proofs.lemmas.List.Sorted.{IsPermutation-sym, Contains-permutation}
 use Rattle.std.proofs.lemmas.Option.{same_Some, none-some, slice_get_within}
 use Rattle.flat_core.specs.declared.step.WireId.{WireId}
-use Rattle.flat_core.specs.declared.step.StepId.{StepId}
 use Rattle.flat_core.specs.Form.{FlatForm}
 use Rattle.graph_core.specs.declared.vertex.Vertex.{Vertex}
 use Rattle.graph_core.specs.declared.vertex.EdgeKind.{EdgeKind}
-use Rattle.graph_core.specs.declared.vertex.EdgeKind.TheVariants.{Target, Control, Availability}
+use Rattle.graph_core.specs.declared.vertex.EdgeKind.TheVariants.{Target, Availability}
 use Rattle.graph_core.specs.declared.graph.VertexId.{VertexId}
 use Rattle.graph_core.specs.declared.graph.Arrow.{Arrow}
 use Rattle.graph_core.specs.Arena.{Arena, IsArena, IsVertexOf}
 use Rattle.graph_core.specs.EdgesAt.{edges_at}
 use Rattle.graph_core.specs.Circuit.{Uses, Edge}
-use Rattle.graph_core.proofs.Places.{contains_at, place_of, at_unique, some_at}
+use Rattle.graph_core.proofs.Places.{place_of, at_unique, some_at}
 use Rattle.topo_order.proofs.Orders.{contains_nil, contains_cases, contains_here, contains_later}
 use Rattle.unqomp.specs.GraphOf.{HasArrowOf, IsGraphOf}
 use Rattle.reqomp.specs.Contracted.{TakenEdge, own_edge, before_again, after_again}

@@ -10,7 +10,7 @@ use Rattle.graph_core.specs.declared.vertex.EdgeKind.TheVariants.{Control, Avail
 use Rattle.graph_core.specs.declared.graph.VertexId.{VertexId}
 use Rattle.graph_core.specs.declared.graph.Arrow.{Arrow}
 use Rattle.graph_core.specs.Arena.{Arena, IsVertexOf}
-use Rattle.graph_core.specs.Circuit.{IsVertex, Uses, Edge}
+use Rattle.graph_core.specs.Circuit.{Uses, Edge}
 use Rattle.flat_core.specs.Sound.{IsFlat}
 use Rattle.unqomp.specs.GraphOf.{HasArrowOf, IsGraphOf}
 use Rattle.reqomp.specs.declared.groups.Group.{Group}

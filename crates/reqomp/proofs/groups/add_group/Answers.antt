@@ -1,7 +1,5 @@
-use Rattle.std.proofs.Common.{◌≡◌, ◌+◌, ◌*◌, length, arith, refl, sym, ap, ◌∙◌, subst}
+use Rattle.std.proofs.Common.{◌≡◌, ◌+◌, ◌*◌, length, arith, refl, sym, subst}
 use Rattle.std.proofs.lemmas.Bool.{both_ways}
-use Rattle.flat_core.specs.declared.step.StepId.{StepId}
-use Rattle.graph_core.specs.Circuit.{IsVertex}
 use Rattle.graph_core.proofs.Places.{contains_at}
 use Rattle.reqomp.specs.Simple.{marked_at}
 use Rattle.reqomp.specs.Level.{IsRedone}

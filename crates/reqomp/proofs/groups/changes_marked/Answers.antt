@@ -1,4 +1,4 @@
-use Rattle.std.proofs.Common.{◌≡◌, ◌<◌, ◌≤◌, Some, None, length, sym, ap, ◌∙◌, inl, inr, arith, false}
+use Rattle.std.proofs.Common.{◌≡◌, Some, None, length, sym, ap, ◌∙◌, inl, inr, arith, false}
 use Rattle.std.proofs.lemmas.List.{get_or_read}
 use Rattle.flat_core.specs.Label.{step_at}
 use Rattle.unqomp.specs.Making.{target_of}

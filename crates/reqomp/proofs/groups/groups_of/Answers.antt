@@ -1,4 +1,4 @@
-use Rattle.std.proofs.Common.{◌≤◌, arith, refl}
+use Rattle.std.proofs.Common.{arith, refl}
 use Rattle.reqomp.specs.Simple.{marked_at}
 use Rattle.reqomp.specs.Grouping.{vertices_of}
 use Rattle.reqomp.proofs.Widths.{level_width}

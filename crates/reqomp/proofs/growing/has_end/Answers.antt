@@ -2,7 +2,7 @@ use Rattle.std.proofs.Common.{refl, ap, subst, Contains}
 use Rattle.std.proofs.lemmas.Bool.{iff_false}
 use Rattle.graph_core.specs.declared.graph.VertexId.{VertexId}
 use Rattle.graph_core.specs.declared.vertex.EdgeKind.{EdgeKind}
-use Rattle.reqomp.proofs.Growth.{other_left, still_inside, first_inside, nothing_inside}
+use Rattle.reqomp.proofs.Growth.{other_left, still_inside, first_inside}
 use Rattle.reqomp.proofs.growing.has_end.Goals as goal
 
 pub loop-v-preserved : goal.loop-v-preserved

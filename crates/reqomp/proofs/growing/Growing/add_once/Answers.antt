@@ -1,7 +1,6 @@
-use Rattle.std.proofs.Common.{[], ◌∷◌, ◌++◌, List, Contains, ap, subst, inl, inr, arith}
+use Rattle.std.proofs.Common.{Contains, subst}
 use Rattle.std.proofs.lemmas.Bool.{iff_false}
 use Rattle.std.proofs.lemmas.List.Elements.{Contains-push_cases}
-use Rattle.graph_core.specs.declared.graph.Arrow.{Arrow}
 use Rattle.graph_core.specs.Arena.{Arena}
 use Rattle.reqomp.specs.Growing.{arrow_of}
 use Rattle.reqomp.proofs.growing.Growing.add_once.Goals as goal

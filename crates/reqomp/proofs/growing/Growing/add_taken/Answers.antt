@@ -1,4 +1,3 @@
-use Rattle.graph_core.specs.declared.vertex.Vertex.{Vertex}
 use Rattle.reqomp.specs.Simple.{marked_at}
 use Rattle.reqomp.proofs.Growth.{id_there, lone_from, lone_to, sound_more}
 use Rattle.reqomp.proofs.growing.Growing.add_taken.Goals as goal

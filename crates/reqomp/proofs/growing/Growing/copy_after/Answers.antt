@@ -1,7 +1,5 @@
-use Rattle.std.proofs.Common.{◌≡◌, ◌<◌, ◌≤◌, length, get_or, None, Contains, refl, sym, ◌∙◌, subst, arith}
-use Rattle.graph_core.specs.declared.vertex.Vertex.{Vertex}
+use Rattle.std.proofs.Common.{get_or, None, Contains, refl, sym, ◌∙◌, subst, arith}
 use Rattle.graph_core.specs.declared.vertex.EdgeKind.{EdgeKind}
-use Rattle.graph_core.specs.declared.vertex.EdgeKind.TheVariants.{Availability}
 use Rattle.graph_core.specs.declared.graph.VertexId.{VertexId}
 use Rattle.reqomp.specs.Simple.{marked_at}
 use Rattle.reqomp.specs.Contracted.{TakenEdge}

@@ -1,5 +1,4 @@
-use Rattle.std.proofs.Common.{◌≡◌, ◌<◌, ◌≤◌, length, get_or, None, Contains, refl, sym, ◌∙◌, subst, arith}
-use Rattle.graph_core.specs.declared.vertex.Vertex.{Vertex}
+use Rattle.std.proofs.Common.{get_or, None, Contains, refl, sym, ◌∙◌, subst, arith}
 use Rattle.graph_core.specs.declared.graph.VertexId.{VertexId}
 use Rattle.reqomp.specs.Simple.{marked_at}
 use Rattle.reqomp.specs.Contracted.{TakenEdge}
