@@ -64,7 +64,7 @@ top_used f w n (s ∷ rest) h (suc j) l c =
     let b : used_at_top_from f w (suc n) rest ≡ true = and_right (not (has_wire w (used s)) || eqb (label_before f (step_id n) w) (top f w)) _ h in
     ap (λ (m : ℕ). label_before f (step_id m) w) (add-suc n j ∙ sym (suc-add n j)) ∙ top_used f w (suc n) rest b j (omega arith) c
 
-in_cond : (b : Bool) (t w : WireId) → Contains (cond b (t ∷ []) []) w → (b ≡ true) × (t ≡ w)
+pub in_cond : (b : Bool) (t w : WireId) → Contains (cond b (t ∷ []) []) w → (b ≡ true) × (t ≡ w)
 in_cond true t w c = elim (contains_cases t w [] c) [ inl e ↦ (refl, e) | inr i ↦ absurd (contains_nil w i) ]
 in_cond false t w c = absurd (contains_nil w c)
 
@@ -84,12 +84,12 @@ simple_in f n (s ∷ rest) w c = elim (Contains-append_cases (simple_at f n s) (
   | inr b ↦ simple_in f (suc n) rest w b
 ]
 
-marked_simple : (f : FlatForm) (k : ℕ) (w : WireId) → Contains (marked_at f k) w → Contains (simple_wires f) w
+pub marked_simple : (f : FlatForm) (k : ℕ) (w : WireId) → Contains (marked_at f k) w → Contains (simple_wires f) w
 marked_simple f k w c =
     let m : ℕ = (length (simple_wires f) * k + 15) / 16 in
     subst (λ (l : List WireId). Contains l w) (take-append-drop m (simple_wires f)) (Contains-append_left (take m (simple_wires f)) (drop m (simple_wires f)) w c)
 
-label_grows : (f : FlatForm) (s t : StepId) (w : WireId) → s.number ≤ t.number → label_before f s w ≤ label_before f t w
+pub label_grows : (f : FlatForm) (s t : StepId) (w : WireId) → s.number ≤ t.number → label_before f s w ≤ label_before f t w
 label_grows f s t w l =
     subst (λ (xs : List Step). label_after xs w ≤ label_before f t w) (take-take s.number t.number f.steps l)
     (sum_by-take-le (λ x. cond (changes w x) 1 0) (take t.number f.steps) s.number)

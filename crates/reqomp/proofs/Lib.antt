@@ -14,3 +14,9 @@ pub mod Widths
 pub mod LevelSlots
 pub mod Counted
 pub mod InOrder
+pub mod Marking
+pub mod Contracted
+pub mod Passing
+pub mod Grouping
+pub mod Growth
+pub mod LevelArena

@@ -31,7 +31,7 @@ needs_are_used f marked v steps r w i = (to w i, from w i)
     from w i (again {s = s} c u n) = let o = r.only s c in below o.1 (record { step = o.2; changing = o.3; uses = u }) n
 
 -- the marked wires among some are those that are in both lists
-marked_in : (marked xs : List WireId) (w : WireId) → Contains (marked_among marked xs) w → Contains xs w × Contains marked w
+pub marked_in : (marked xs : List WireId) (w : WireId) → Contains (marked_among marked xs) w → Contains xs w × Contains marked w
 marked_in marked [] w c = absurd (contains_nil w c)
 marked_in marked (x ∷ xs) w c = go (has_wire x marked) refl c (marked_in marked xs w)
   where
@@ -57,14 +57,14 @@ in_marked marked (x ∷ xs) w c m = go (has_wire x marked) refl (λ i. in_marked
     ]
 
 -- a step changes one of some wires exactly where it changes a wire among them
-one_changed : (ws : List WireId) (s : Step) → changes_one ws s ≡ true → (w : WireId) × Contains ws w × (changes w s ≡ true)
+pub one_changed : (ws : List WireId) (s : Step) → changes_one ws s ≡ true → (w : WireId) × Contains ws w × (changes w s ≡ true)
 one_changed [] s h = cc
 one_changed (w ∷ ws) s h = elim (cases_Bool (changes w s)) [
   | inl t ↦ (w, contains_here w w ws refl, t)
   | inr e ↦ let r = one_changed ws s (subst (λ (b : Bool). (b || changes_one ws s) ≡ true) e h) in (r.0, contains_later w r.0 ws r.1, r.2)
 ]
 
-changed_one : (ws : List WireId) (s : Step) (w : WireId) → Contains ws w → changes w s ≡ true → changes_one ws s ≡ true
+pub changed_one : (ws : List WireId) (s : Step) (w : WireId) → Contains ws w → changes w s ≡ true → changes_one ws s ≡ true
 changed_one [] s w c h = absurd (contains_nil w c)
 changed_one (x ∷ ws) s w c h = elim (contains_cases x w ws c) [
   | inl e ↦ or_left (changes x s) (changes_one ws s) (ap (λ (y : WireId). changes y s) e ∙ h)

@@ -37,7 +37,7 @@ control_there : (o : Option Lit) (Holds : WireId → Type 0) (w : WireId) → Co
 control_there None Holds w c h = absurd (contains_nil w c)
 control_there (Some a) Holds w c h = subst Holds (contains_one a.wire w c) h
 
-used_there : (s : Step) (Holds : WireId → Type 0) (w : WireId) → Contains (used s) w → EachNamed Holds s → Holds w
+pub used_there : (s : Step) (Holds : WireId → Type 0) (w : WireId) → Contains (used s) w → EachNamed Holds s → Holds w
 used_there (X t a b) Holds w c h = elim (Contains-append_cases (control_wires a) (control_wires b) w c) [
   | inl l ↦ control_there a Holds w l h.1.0
   | inr r ↦ control_there b Holds w r h.1.1

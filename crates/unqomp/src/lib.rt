@@ -5,7 +5,8 @@ mod chain;
 mod edges;
 pub mod graph;
 pub mod laws;
-mod uses;
+pub mod uses;
 mod vertices;
 
 pub use graph::graph_of;
+pub use uses::used_wires;

@@ -31,8 +31,8 @@ pub fn undone_target(flat: &Flat, s: StepId) -> Option<WireId>
     }
 }
 
-// The wires that a step uses: those of its controls, or the one that it measures.
-fn used_wires(step: Step) -> (Option<WireId>, Option<WireId>)
+/// The wires that a step uses: those of its controls, or the one that it measures.
+pub fn used_wires(step: Step) -> (Option<WireId>, Option<WireId>)
     ensures { wires_of_pair result.0 result.1 ≡ used step }
 {
     match step {

@@ -1,0 +1,196 @@
+//! The graph of a level in the making: its edges are copied from the circuit graph.
+
+ghost use Rattle.std.specs.Prelude.{◌≡◌, ◌<◌, ◌⊎◌, ◌↔◌, length, cond, get_or, None, Contains, IsTrue, OnOk};
+ghost use Rattle.graph_core.specs.declared.vertex.Vertex.{Vertex};
+ghost use Rattle.graph_core.specs.declared.vertex.EdgeKind.TheVariants.{Target, Availability};
+ghost use Rattle.graph_core.specs.declared.graph.Arrow.{Arrow};
+ghost use Rattle.graph_core.specs.Arena.{IsVertexOf};
+ghost use Rattle.unqomp.specs.GraphOf.{IsGraphOf};
+ghost use Rattle.reqomp.specs.Contracted.{TakenEdge};
+ghost use Rattle.reqomp.specs.Growing.{IsIdTable, IsCopied, HasGrown, IsSoundFor, MayCopyBefore, MayCopyAfter, HasCopiedBefore, HasCopiedAfter, arrow_of};
+ghost use Rattle.reqomp.specs.Simple.{marked_at};
+
+use flat_core::Flat;
+use graph_core::{EdgeKind, Edges, Graph, VertexId};
+use std::alloc::AllocError;
+
+/// The ids in the circuit graph of the steps, done and undone.
+#[derive(Drop)]
+pub struct Places {
+    pub forward: Vec<VertexId>,
+    pub reverse: Vec<VertexId>,
+}
+
+/// The graph of a level, and how many edges it has.
+#[derive(Drop)]
+pub struct Growing {
+    pub level: u8,
+    pub graph: Graph,
+    pub edges: u32,
+    ghost counted: { length graph.arrows ≡ edges },
+}
+
+// Whether an edge is of a kind, and has another end.
+fn is_edge(v: VertexId, k: EdgeKind, other: VertexId, kind: EdgeKind) -> bool
+    ensures { IsTrue result ↔ ((v ≡ other) × (k ≡ kind)) }
+{
+    v == other && k == kind
+}
+
+// Whether edges of a kind are copied, where all are or the Control edges.
+fn is_copied(all: bool, kind: EdgeKind) -> bool
+    ensures { IsTrue result ↔ IsCopied all kind }
+{
+    if all { true } else { kind == EdgeKind::Control }
+}
+
+// Whether an edge is an Availability edge.
+fn is_available(kind: EdgeKind) -> bool
+    ensures { IsTrue result ↔ (kind ≡ Availability) }
+{
+    kind == EdgeKind::Availability
+}
+
+// The id in the level's graph of a vertex of the circuit graph, if it is there and asked for.
+fn chosen(ids: &[Option<VertexId>], x: VertexId, asked: bool) -> Option<VertexId>
+    requires { x.number < length ids.now }
+    ensures { result ≡ cond asked (get_or ids.now x.number None) None }
+{
+    if asked { ids[x.number as usize] } else { None }
+}
+
+// Whether an edge of a kind leads to a vertex, or comes from it.
+fn has_end(edges: &mut Edges<'_>, other: VertexId, kind: EdgeKind) -> bool
+    ensures { IsTrue result ↔ Contains edges.old (other, kind) }
+{
+    while let Some((v, k)) = edges.next() {
+        if is_edge(v, k, other, kind) {
+            return true;
+        }
+    }
+    false
+}
+
+impl Growing {
+    // Whether an edge is there.
+    fn has_edge(&self, from: VertexId, to: VertexId, kind: EdgeKind) -> bool
+        requires from { from.number < length self.now.graph.vertices }
+        requires to { to.number < length self.now.graph.vertices }
+        ensures { IsTrue result ↔ Contains self.now.graph.arrows (arrow_of from to kind) }
+    {
+        if kind == EdgeKind::Availability {
+            has_end(&mut self.graph.after(from), to, kind)
+        } else {
+            has_end(&mut self.graph.before(to), from, kind)
+        }
+    }
+
+    // Adds an edge, unless it is there.
+    fn add_once(&mut self, from: VertexId, to: VertexId, kind: EdgeKind) -> Result<(), AllocError>
+        requires from { from.number < length self.old.graph.vertices }
+        requires to { to.number < length self.old.graph.vertices }
+        requires lone_from { kind ≡ Target → (d : Arrow) → Contains self.old.graph.arrows d → d.kind ≡ Target → d.from ≡ from → d ≡ arrow_of from to kind }
+        requires lone_to { kind ≡ Target → (d : Arrow) → Contains self.old.graph.arrows d → d.kind ≡ Target → d.to ≡ to → d ≡ arrow_of from to kind }
+        ensures level { self.new.level ≡ self.old.level }
+        ensures grown { HasGrown self.old.graph self.new.graph }
+        ensures only { (e : Arrow) → Contains self.new.graph.arrows e → Contains self.old.graph.arrows e ⊎ (arrow_of from to kind ≡ e) }
+        ensures there { OnOk result (Contains self.new.graph.arrows (arrow_of from to kind)) }
+    {
+        if self.has_edge(from, to, kind) {
+            return Ok(());
+        }
+        if self.edges >= u32::MAX - 1 {
+            return Err(AllocError);
+        }
+        self.graph.add_edge(from, to, kind)?;
+        self.edges += 1;
+        Ok(())
+    }
+
+    // Adds an edge of the level's graph, unless it is there.
+    fn add_taken(
+        &mut self,
+        flat: &Flat,
+        circuit: &Graph,
+        from: VertexId,
+        to: VertexId,
+        kind: EdgeKind,
+    ) -> Result<(), AllocError>
+        requires circuit { IsGraphOf flat.now circuit.now }
+        requires sound { IsSoundFor flat.now (marked_at flat.now self.old.level) self.old.graph }
+        requires from { from.number < length self.old.graph.vertices }
+        requires to { to.number < length self.old.graph.vertices }
+        requires taken { (u v : Vertex) → IsVertexOf self.old.graph from u → IsVertexOf self.old.graph to v → TakenEdge flat.now (marked_at flat.now self.old.level) kind u v }
+        ensures level { self.new.level ≡ self.old.level }
+        ensures grown { HasGrown self.old.graph self.new.graph }
+        ensures sound { IsSoundFor flat.now (marked_at flat.now self.old.level) self.new.graph }
+        ensures there { OnOk result (Contains self.new.graph.arrows (arrow_of from to kind)) }
+    {
+        let _steps = flat.steps();
+        let _vertices = circuit.len();
+        let _count = self.graph.len();
+        self.add_once(from, to, kind)
+    }
+
+    /// Copies the edges that enter a vertex of the circuit graph to a vertex of this one: all of them, or the Control
+    /// edges.
+    pub fn copy_before(
+        &mut self,
+        flat: &Flat,
+        circuit: &Graph,
+        ids: &[Option<VertexId>],
+        at: VertexId,
+        to: VertexId,
+        all: bool,
+    ) -> Result<(), AllocError>
+        requires circuit { IsGraphOf flat.now circuit.now }
+        requires table { IsIdTable circuit.now self.old.graph ids.now }
+        requires sound { IsSoundFor flat.now (marked_at flat.now self.old.level) self.old.graph }
+        requires at { at.number < length circuit.now.vertices }
+        requires to { to.number < length self.old.graph.vertices }
+        requires may { (x v : Vertex) → IsVertexOf circuit.now at x → IsVertexOf self.old.graph to v → MayCopyBefore flat.now (marked_at flat.now self.old.level) all x v }
+        ensures level { self.new.level ≡ self.old.level }
+        ensures grown { HasGrown self.old.graph self.new.graph }
+        ensures sound { IsSoundFor flat.now (marked_at flat.now self.old.level) self.new.graph }
+        ensures copied { OnOk result ((x v : Vertex) → IsVertexOf circuit.now at x → IsVertexOf self.old.graph to v → HasCopiedBefore flat.now all x v self.new.graph) }
+    {
+        let _vertices = circuit.len();
+        let mut edges = circuit.before(at);
+        while let Some((x, kind)) = edges.next() {
+            if let Some(from) = chosen(ids, x, is_copied(all, kind)) {
+                self.add_taken(flat, circuit, from, to, kind)?;
+            }
+        }
+        Ok(())
+    }
+
+    /// Copies the Availability edges that leave a vertex of the circuit graph to a vertex of this one.
+    pub fn copy_after(
+        &mut self,
+        flat: &Flat,
+        circuit: &Graph,
+        ids: &[Option<VertexId>],
+        at: VertexId,
+        from: VertexId,
+    ) -> Result<(), AllocError>
+        requires circuit { IsGraphOf flat.now circuit.now }
+        requires table { IsIdTable circuit.now self.old.graph ids.now }
+        requires sound { IsSoundFor flat.now (marked_at flat.now self.old.level) self.old.graph }
+        requires at { at.number < length circuit.now.vertices }
+        requires from { from.number < length self.old.graph.vertices }
+        requires may { (x u : Vertex) → IsVertexOf circuit.now at x → IsVertexOf self.old.graph from u → MayCopyAfter flat.now (marked_at flat.now self.old.level) x u }
+        ensures level { self.new.level ≡ self.old.level }
+        ensures grown { HasGrown self.old.graph self.new.graph }
+        ensures sound { IsSoundFor flat.now (marked_at flat.now self.old.level) self.new.graph }
+        ensures copied { OnOk result ((x u : Vertex) → IsVertexOf circuit.now at x → IsVertexOf self.old.graph from u → HasCopiedAfter flat.now x u self.new.graph) }
+    {
+        let _vertices = circuit.len();
+        let mut edges = circuit.after(at);
+        while let Some((y, kind)) = edges.next() {
+            if let Some(to) = chosen(ids, y, is_available(kind)) {
+                self.add_taken(flat, circuit, from, to, kind)?;
+            }
+        }
+        Ok(())
+    }
+}
