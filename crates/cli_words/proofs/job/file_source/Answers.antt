@@ -9,7 +9,8 @@ use Rattle.cli_words.proofs.job.file_source.Goals as goal
 pub returns-in-len2-up-clause-ok : goal.returns-in-len2-up-clause-ok
 returns-in-len2-up-clause-ok c =
     let none : Bor (List ℕ) = record { ref_ptr = (0, 0); now = [] } in
-    subst (λ (ws : List Text). IfOk c.named_source.result (λ s. (make : Text → Text → List ℤ → asked.Job) → file_job make ws ≡ Some (make s.file.now s.entry.now s.statics.items)))
+    subst (λ (ws : List Text). IfOk c.named_source.result (λ s. (make : Text → Text → List ℤ → asked.Job)
+    → file_job make ws ≡ Some (make s.file.now s.entry.now s.statics.items)))
     (sym (two_and_rest (λ s. s.now) c.args.args.now none c.in-len2-up.len_at_least)) c.named_source.ensures.ok
 
 pub returns-in-len2-up-clause-err : goal.returns-in-len2-up-clause-err

@@ -5,4 +5,5 @@ use Rattle.cli_words.proofs.job.read_statics.Given as goal
 
 -- the values so far, with those of the words that are left, are those of all
 abbrev pub invariant-loop-word : goal.invariant-loop-word
-invariant-loop-word l = option_map (λ ns. l.values.items ++ ns) (statics_of (map (λ s. s.now) (drop l.word-index l.words))) ≡ statics_of (map (λ s. s.now) l.words)
+invariant-loop-word l = option_map (λ ns. l.values.items ++ ns) (statics_of (map (λ s. s.now) (drop l.word-index l.words)))
+    ≡ statics_of (map (λ s. s.now) l.words)
