@@ -37,8 +37,7 @@ use Rattle.flat_typed.specs.Relation.{Outside, IsTakenOver}
 use Rattle.flat_typed.specs.Done.{StmtBegins, StmtDone}
 use Rattle.flat_typed.specs.Calls.{Three}
 use Rattle.flat_typed.specs.Scopes.{as_meaning}
-use Rattle.flat_typed.specs.Lemmas.{Callable}
-use Rattle.flat_typed.specs.Stay.{FreeStatementIsFine}
+use Rattle.flat_typed.specs.Lemmas.{Callable, StatementIsFine}
 use Rattle.flat_typed.proofs.Ordered.{clash}
 use Rattle.flat_typed.proofs.Leaving.{k_any}
 use Rattle.flat_typed.proofs.Turns.{Does, line_fine, gives_both}
@@ -149,7 +148,7 @@ module _ (sc : Scope) (taker : Ty → Receiver) (es : Expressions) (xs : List Na
       assigned_done sc taker es xs c d vs h out low W st b (effect ▸ step (assign_in_turn xs)) g
       ((handed_done sc taker es xs c d vs h out low W st b).fine, subst (AllOf IsTaken) (sym args) (all_taken _ _ _ _ _ xs vs ls (handed_done sc taker es xs c d vs h out low W st b).each)) becomes len over left
 
-pub spread_is_fine : (xs : List NameId) (es : Expressions) (at s : Spot) → HandedOverFine es → FreeStatementIsFine (spread xs (tuple es at) s)
+pub spread_is_fine : (xs : List NameId) (es : Expressions) (at s : Spot) → HandedOverFine es → StatementIsFine (spread xs (tuple es at) s)
 spread_is_fine xs es at s fine sc taker c free =
     line_fine sc c (arguments es sc needs.Consumed [] >>= assigned sc s xs) effect_of s.line
     ((o_bind (Callable sc) 0 values (λ vs. o_more (Callable sc) 0 (assigned_tells (Callable sc) {P = λ d. (length vs ≡ count es) × (count es ≡ length xs → HandedOver sc taker es (variables_for xs) c vs d)} sc s xs vs)
@@ -239,7 +238,7 @@ module _ (sc : Scope) (taker : Ty → Receiver) (e : Expression) (x : NameId) (c
       assigned_done sc taker (more e none) (x ∷ []) c d (v ∷ []) h out low W st b (one_effect ▸ step (assign_to x [])) g
       ((handed_done sc taker (more e none) (x ∷ []) c d (v ∷ []) h out low W st b).fine.0, (subst (λ l. IsTaken (first l)) (sym one_value) only.taken, fits_any (known_in t1 x))) name_becomes refl over left
 
-pub assign_is_fine : (x : NameId) (e : Expression) (s : Spot) → HandedOverFine (more e none) → FreeStatementIsFine (assign (whole x) e s)
+pub assign_is_fine : (x : NameId) (e : Expression) (s : Spot) → HandedOverFine (more e none) → StatementIsFine (assign (whole x) e s)
 assign_is_fine x e s fine sc taker c free =
     line_fine sc c (assign_name sc x e s) its_effect s.line
     ((o_bind (Callable sc) 0 (values (is_tuple e) refl) (λ vs. o_then (Callable sc) 0 (o_rules (Callable sc) 0 (at e) _) (λ u. o_more (Callable sc) 0 (o_from (Callable sc) 0 (λ d h. (h.0.0, h.1)) (assigned_tells (Callable sc) {P = λ d. (is_tuple e ≡ false) × (is_tuple e ≡ false → Handed vs d)} sc s (x ∷ []) vs))

@@ -24,7 +24,7 @@ use Rattle.flat_typed.specs.Relation.{Outside, Stands}
 use Rattle.flat_typed.specs.Done.{StmtBegins, StmtDone, MadeSince}
 use Rattle.flat_typed.specs.Lemmas.{Callable, StmtFine, BlocksAreFine}
 use Rattle.flat_typed.specs.Stay.{HadOwner, Stayed, Goes, Keeps}
-use Rattle.flat_typed.specs.Uses.{NoStatics}
+use Rattle.flat_typed.specs.Scopes.{NoStatics}
 use Rattle.flat_typed.proofs.Using.{all_names, drop_map, length_map}
 use Rattle.flat_typed.proofs.Closing.{stands_closed, all_of_take}
 use Rattle.flat_typed.proofs.Turns.{Does}

@@ -29,8 +29,8 @@ use Rattle.flat_typed.specs.Places.{Places, with_place, has_wires, part_out, les
 use Rattle.flat_typed.specs.Relation.{Outside, FitsPart, IsTakenOver, AllNew}
 use Rattle.flat_typed.specs.Done.{Agree, StmtBegins}
 use Rattle.flat_typed.specs.Calls.{Three, carried, ArgsDone}
-use Rattle.flat_typed.specs.Scopes.{as_meaning}
-use Rattle.flat_typed.specs.Uses.{IsThere, NoStatics}
+use Rattle.flat_typed.specs.Scopes.{as_meaning, NoStatics}
+use Rattle.flat_typed.specs.Uses.{IsThere}
 use Rattle.flat_typed.specs.Lemmas.{Callable, uses_by}
 use Rattle.flat_typed.proofs.Agreeing.{SameFor}
 use Rattle.flat_typed.proofs.Making.{its_place}

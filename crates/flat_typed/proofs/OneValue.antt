@@ -20,10 +20,9 @@ use Rattle.flat_typed.specs.Places.{Places}
 use Rattle.flat_typed.specs.Relation.{Outside}
 use Rattle.flat_typed.specs.Done.{StmtBegins}
 use Rattle.flat_typed.specs.Calls.{carried, ArgsDone}
-use Rattle.flat_typed.specs.Scopes.{as_meaning}
-use Rattle.flat_typed.specs.Uses.{IsThere, NoStatics}
-use Rattle.flat_typed.specs.Lemmas.{Callable, uses_by}
-use Rattle.flat_typed.specs.Stay.{FreeStatementIsFine}
+use Rattle.flat_typed.specs.Scopes.{as_meaning, NoStatics}
+use Rattle.flat_typed.specs.Uses.{IsThere}
+use Rattle.flat_typed.specs.Lemmas.{Callable, uses_by, StatementIsFine}
 use Rattle.flat_typed.proofs.Uses.{all_join}
 use Rattle.flat_typed.proofs.Turns.{gives_later, gives_both}
 use Rattle.flat_typed.proofs.Reached.{Told, expression_tells, one_of}
@@ -92,5 +91,5 @@ one_handed_over e t fine sc taker (x ∷ []) c long free =
     Does vs d = (out : Outside) (low : ℕ) (W : Places) (s : Flattening) → StmtBegins out sc low (λ p. 0) W c s → ArgsGiven out sc taker (more e none) (variables_for (x ∷ [])) W c s vs d
 
 -- an assignment to a name, by what the lemma on arguments tells
-pub assign_by_arguments : (x : NameId) (e : Expression) (s : Spot) → is_tuple e ≡ false → NamedArgumentsAreFine (more e none) → FreeStatementIsFine (assign (whole x) e s)
+pub assign_by_arguments : (x : NameId) (e : Expression) (s : Spot) → is_tuple e ≡ false → NamedArgumentsAreFine (more e none) → StatementIsFine (assign (whole x) e s)
 assign_by_arguments x e s t fine = assign_is_fine x e s (one_handed_over e t fine)

@@ -30,9 +30,8 @@ use Rattle.flat_form.specs.Flat.{taken_for, class_for, began_for, receive_value,
 use Rattle.flat_form.specs.Fine.{IsAny}
 use Rattle.flat_form.specs.Names.{named_by}
 use Rattle.flat_typed.specs.Places.{Places, times_in}
-use Rattle.flat_typed.specs.Relation.{Outside, Stands, IsAnswer, is_argument, taken_type, is_carried}
+use Rattle.flat_typed.specs.Relation.{Outside, Stands, IsAnswer, is_argument, taken_type, is_carried, need_of}
 use Rattle.flat_typed.specs.Done.{carrying}
-use Rattle.flat_typed.specs.Lemmas.{need_of}
 use Rattle.flat_typed.proofs.Ordered.{clash}
 use Rattle.flat_typed.proofs.Touching.{flips_touch, flips_stay_plain, flips_unmade, flips_taken_for}
 use Rattle.flat_typed.proofs.Placing.{stands_pushed}

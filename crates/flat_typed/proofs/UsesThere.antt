@@ -33,7 +33,8 @@ use Rattle.check_expr.proofs.Owners.{gives-more, o_bind, o_then, o_more, o_from,
 use Rattle.flat_form.specs.Names.{AllOf}
 use Rattle.flat_typed.specs.Places.{Places}
 use Rattle.flat_typed.specs.Relation.{FitsPart}
-use Rattle.flat_typed.specs.Uses.{IsThere, NoStatics}
+use Rattle.flat_typed.specs.Uses.{IsThere}
+use Rattle.flat_typed.specs.Scopes.{NoStatics}
 use Rattle.flat_typed.proofs.Ordered.{clash}
 use Rattle.flat_typed.proofs.Moving.{spent}
 use Rattle.flat_typed.proofs.Uses.{find_kinds, place_use_kinds, all_join}

@@ -29,7 +29,7 @@ use Rattle.flat_typed.specs.Footprint.{wires_of_part, used_wires, consumed_wires
 use Rattle.flat_typed.specs.Relation.{Outside, Stands}
 use Rattle.flat_typed.specs.Uses.{IsThere}
 use Rattle.flat_typed.specs.Done.{Begins, ExprDone, kinds}
-use Rattle.flat_typed.specs.Lemmas.{Callable, ExprFine}
+use Rattle.flat_typed.specs.Lemmas.{Callable, ExprDoes}
 use Rattle.flat_typed.proofs.Ordered.{clash}
 use Rattle.flat_typed.proofs.Parts.{found_there, some_same, part_other}
 use Rattle.flat_typed.proofs.Changes.{whole_is}
@@ -230,7 +230,7 @@ module _ (out : Outside) (sc : Scope) (low : ℕ) (others : ℕ → ℕ) (W : Pl
 
 -- a variable that is used, whatever the need
 pub variable_is_fine : (x : NameId) (s : Spot) (sc : Scope) (need : Need) (c : Context)
-    → ExprFine sc need c (use_place sc (whole x) s need >>= (λ v. give_back (v ∷ []))) (step (give_part need x [])) (place_use sc.statics (find_var c.vars (variable x)) none need)
+    → ExprDoes sc need c (use_place sc (whole x) s need >>= (λ v. give_back (v ∷ []))) (step (give_part need x [])) (place_use sc.statics (find_var c.vars (variable x)) none need)
 variable_is_fine x s sc need c =
     gives-more (Callable sc) 0 (λ r. (u : Value) × (r.0 ≡ u ∷ []) × VariableUsed sc need c x u r.1)
     (λ r. (out : Outside) (low : ℕ) (others : ℕ → ℕ) (W : Places) (under : List Value) (t : Flattening) → Begins out sc low others W under (place_use sc.statics (find_var c.vars (variable x)) none need) c t → ExprDone out sc need (step (give_part need x [])) W under (place_use sc.statics (find_var c.vars (variable x)) none need) c t r.0 r.1)

@@ -28,7 +28,8 @@ use Rattle.flat_form.specs.Names.{AllOf}
 use Rattle.flat_typed.specs.Places.{Places}
 use Rattle.flat_typed.specs.Relation.{FitsPart}
 use Rattle.flat_typed.specs.Done.{kinds}
-use Rattle.flat_typed.specs.Uses.{IsThere, NoStatics, UsesAreThere}
+use Rattle.flat_typed.specs.Uses.{IsThere, UsesAreThere}
+use Rattle.flat_typed.specs.Scopes.{NoStatics}
 use Rattle.flat_typed.proofs.Ordered.{clash}
 use Rattle.flat_typed.proofs.Uses.{all_join}
 use Rattle.flat_typed.proofs.Tame.{AllLeft, left_same, kinds_left}

@@ -14,14 +14,20 @@ use Rattle.check_expr.specs.Owners.{owned, Sole}
 use Rattle.silq_mean.specs.Env.{Env}
 use Rattle.silq_mean.specs.Effect.{Effect}
 use Rattle.bit_arith.specs.Calls.{Targets}
+use Rattle.flat_core.specs.declared.step.WireId.{WireId}
+use Rattle.flat_core.specs.declared.step.End.TheVariants.{Dropped}
+use Rattle.flat_core.specs.Form.{DraftForm}
+use Rattle.flat_core.specs.Label.{wire_in}
+use Rattle.flat_core.specs.Drafts.{is_measured}
 use Rattle.flat_form.specs.declared.known.Known.{Known}
-use Rattle.flat_form.specs.State.{Flattening, wires_so_far}
+use Rattle.flat_form.specs.declared.known.Known.TheVariants.{Static}
+use Rattle.flat_form.specs.State.{Flattening, wires_so_far, operands_of}
 use Rattle.flat_form.specs.Flat.{flat}
 use Rattle.flat_form.specs.Fine.{Fine}
-use Rattle.flat_form.specs.Names.{AllOf}
+use Rattle.flat_form.specs.Names.{AllOf, names}
 use Rattle.flat_form.specs.Good.{Good}
 use Rattle.flat_form.specs.Shows.{ListBoth}
-use Rattle.flat_typed.specs.Places.{Places, is_part, has_wires, owners_of}
+use Rattle.flat_typed.specs.Places.{Places, is_part, has_wires, owners_of, times_in}
 use Rattle.flat_typed.specs.Footprint.{used_wires, consumed_wires, NoneNames, Touches, StaysPlain, Unmade}
 use Rattle.flat_typed.specs.Relation.{Outside, Stands, IsAnswer, AllNew, is_own}
 
@@ -65,7 +71,8 @@ MadeSince n low W v = has_wires v ≡ true → (v.place < low) ⊎ AllNew n (W v
 abbrev pub Counted : List Value → (ℕ → ℕ) → Type 0
 Counted under others = (p : ℕ) → owned p under ≤ others p
 
--- from where the relation stands, with `others` places under way, and no value below names what it consumes
+-- from where the relation stands, with `others` places under way, and no value below names what it consumes; parts that are under way have places
+-- from before
 pub record Begins (out : Outside) (sc : Scope) (low : ℕ) (others : ℕ → ℕ) (W : Places) (under : List Value) (us : List Use) (c : Context) (s : Flattening) : Type 0 where
   pub good : Good s
   pub unmade : Unmade s.built.draft
@@ -74,6 +81,7 @@ pub record Begins (out : Outside) (sc : Scope) (low : ℕ) (others : ℕ → ℕ
   pub stands : Stands out sc.held W under c s
   pub open_air : OpenAir sc s
   pub apart : NoneNames (consumed_wires W c.vars us) s.values
+  pub placed : AllOf (λ v. is_part v ≡ true → v.place < c.next) c.vars
 
 -- the effect is fine, and its values are those that typing tells
 pub record ExprDone (out : Outside) (sc : Scope) (need : Need) (e : Effect) (W : Places) (under : List Value) (us : List Use) (c : Context) (s : Flattening) (vs : List Value) (d : Context) : Type 0 where
@@ -89,6 +97,26 @@ pub record ExprDone (out : Outside) (sc : Scope) (need : Need) (e : Effect) (W :
   pub touches : Touches (consumed_wires W c.vars us) s.built.draft (flat e s).built.draft
   pub plain : is_qfree sc.this.mark ≡ true → StaysPlain s.built.draft (flat e s).built.draft
   pub unmade : Unmade (flat e s).built.draft
+
+-- a classical value that is handed on has a new place, and names no wire with an owner
+pub record IsSharing (low : ℕ) (owners : WireId → ℕ) (v : Value) (k : Known) : Type 0 where
+  pub new : v.ty.classical ≡ true → low ≤ v.place
+  pub shares : v.ty.classical ≡ true → (w : WireId) → 1 ≤ owners w → names k w ≡ false
+
+abbrev pub IsTyped : Known → Type 0
+IsTyped (Static z) = ⊥
+IsTyped k = Unit {0}
+
+-- wires from the n-th on that a value borrows and that are not measured have no other end than to be dropped
+abbrev pub EndsDropped : ℕ → DraftForm → Known → Type 0
+EndsDropped n d k = is_own k ≡ false → (w : WireId) → 1 ≤ times_in w (operands_of k) → n ≤ w.number → is_measured d.steps w ≡ false → (wire_in d.wires w).ending ≡ Dropped
+
+-- and of its values: what shares wires names none with an owner; where no type was asked each has one; and what they borrow that is new is dropped
+pub record ExprTells (out : Outside) (sc : Scope) (need : Need) (wants : List Ty) (e : Effect) (W : Places) (under : List Value) (us : List Use) (c : Context) (s : Flattening) (vs : List Value) (d : Context) : Type 0 where
+  pub done : ExprDone out sc need e W under us c s vs d
+  pub sharing : is_consumed need ≡ true → ListBoth (IsSharing c.next (λ w. owners_of done.after d.vars under w)) vs done.answers
+  pub typed : wants ≡ [] → AllOf IsTyped done.answers
+  pub untold : AllOf (EndsDropped (wires_so_far s) (flat e s).built.draft) done.answers
 
 -- ---- statements
 

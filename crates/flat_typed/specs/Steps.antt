@@ -25,7 +25,7 @@ use Rattle.flat_form.specs.declared.known.TypedBits.{TypedBits}
 use Rattle.flat_form.specs.State.{copied}
 use Rattle.flat_form.specs.Flat.{by_one, by_two, end_all, measure_all, taken_for, update_by}
 use Rattle.flat_typed.specs.Footprint.{Touches, StaysPlain}
-use Rattle.flat_typed.specs.Lemmas.{ExprFine}
+use Rattle.flat_typed.specs.Lemmas.{ExprDoes}
 
 -- of old wires those of a set alone are touched, and none comes to be mixed
 pub record Quiet (T : Targets) (b e : Built) : Type 0 where
@@ -50,4 +50,4 @@ pub record RowsTouch : Type 0 where
 abbrev pub VariablesAreFine : Type 0
 VariablesAreFine =
     (x : NameId) (s : Spot) (sc : Scope) (need : Need) (c : Context) →
-    ExprFine sc need c (use_place sc (whole x) s need >>= (λ v. give_back (v ∷ []))) (step (give_part need x [])) (place_use sc.statics (find_var c.vars (variable x)) none need)
+    ExprDoes sc need c (use_place sc (whole x) s need >>= (λ v. give_back (v ∷ []))) (step (give_part need x [])) (place_use sc.statics (find_var c.vars (variable x)) none need)
