@@ -63,3 +63,4 @@ pub mod Lending
 pub mod LentParts
 pub mod Surrounding
 pub mod Parameters
+pub mod Entering
