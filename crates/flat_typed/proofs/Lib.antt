@@ -64,3 +64,4 @@ pub mod LentParts
 pub mod Surrounding
 pub mod Parameters
 pub mod Entering
+pub mod CallArguments
