@@ -65,3 +65,4 @@ pub mod Surrounding
 pub mod Parameters
 pub mod Entering
 pub mod CallArguments
+pub mod CallResults
