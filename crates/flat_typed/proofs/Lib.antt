@@ -66,3 +66,4 @@ pub mod Parameters
 pub mod Entering
 pub mod CallArguments
 pub mod CallResults
+pub mod CallLists
