@@ -63,3 +63,4 @@ pub mod Lending
 pub mod LentParts
 pub mod StaticValues
 pub mod Numbers
+pub mod Lone

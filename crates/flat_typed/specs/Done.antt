@@ -1,5 +1,5 @@
 -- What an effect does to the relation, for each kind of effect: what a lemma for it concludes.
-use Rattle.std.specs.Prelude.{◌≡◌, ℕ, ◌≤◌, ◌<◌, ◌⊎◌, true, false, not, ◌&&◌, if◌then◌else◌, ◌++◌, List, [], ◌∷◌, length, map, drop, reverse, None, nat_lt}
+use Rattle.std.specs.Prelude.{◌≡◌, ℕ, suc, ◌≤◌, ◌<◌, ◌⊎◌, true, false, not, ◌&&◌, if◌then◌else◌, ◌++◌, List, [], ◌∷◌, length, map, drop, reverse, None, nat_lt}
 use Rattle.silq_tree.specs.declared.node.NameId.{NameId}
 use Rattle.silq_types.specs.declared.types.Ty.{Ty}
 use Rattle.silq_types.specs.declared.values.Part.{Part}
@@ -71,8 +71,13 @@ MadeSince n low W v = has_wires v ≡ true → (v.place < low) ⊎ AllNew n (W v
 abbrev pub Counted : List Value → (ℕ → ℕ) → Type 0
 Counted under others = (p : ℕ) → owned p under ≤ others p
 
+-- how many parts were taken out
+abbrev pub parts_in : List Var → ℕ
+parts_in [] = 0
+parts_in (v ∷ vs) = if is_part v then suc (parts_in vs) else parts_in vs
+
 -- from where the relation stands, with `others` places under way, and no value below names what it consumes; parts that are under way have places
--- from before
+-- from before, and there is one at most
 pub record Begins (out : Outside) (sc : Scope) (low : ℕ) (others : ℕ → ℕ) (W : Places) (under : List Value) (us : List Use) (c : Context) (s : Flattening) : Type 0 where
   pub good : Good s
   pub unmade : Unmade s.built.draft
@@ -82,6 +87,7 @@ pub record Begins (out : Outside) (sc : Scope) (low : ℕ) (others : ℕ → ℕ
   pub open_air : OpenAir sc s
   pub apart : NoneNames (consumed_wires W c.vars us) s.values
   pub placed : AllOf (λ v. is_part v ≡ true → v.place < c.next) c.vars
+  pub lone : parts_in c.vars ≤ 1
 
 -- the effect is fine, and its values are those that typing tells
 pub record ExprDone (out : Outside) (sc : Scope) (need : Need) (e : Effect) (W : Places) (under : List Value) (us : List Use) (c : Context) (s : Flattening) (vs : List Value) (d : Context) : Type 0 where
