@@ -64,3 +64,5 @@ pub mod LentParts
 pub mod StaticValues
 pub mod Numbers
 pub mod Lone
+pub mod Surrounding
+pub mod Parameters

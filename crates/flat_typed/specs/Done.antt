@@ -6,6 +6,7 @@ use Rattle.silq_types.specs.declared.values.Part.{Part}
 use Rattle.silq_types.specs.declared.values.Value.{Value}
 use Rattle.silq_types.specs.declared.values.Var.{Var}
 use Rattle.silq_types.specs.declared.need.Need.{Need}
+use Rattle.silq_types.specs.declared.need.Need.TheVariants as needs
 use Rattle.check_scope.specs.declared.uses.Use.{Use}
 use Rattle.check_scope.specs.Context.{Context, Scope}
 use Rattle.silq_types.specs.Calls.{is_consumed}
@@ -45,6 +46,11 @@ kinds vars = map (λ (v : Var). (v.part, (v.ty, v.place))) vars
 abbrev pub carrying : Need → List Value → List Known → List Value
 carrying need (v ∷ vs) (k ∷ ks) = if is_consumed need && is_own k then (v ∷ carrying need vs ks) else carrying need vs ks
 carrying need vs ks = []
+
+-- a call may give several values in a held use, which typing refuses only behind it: each is counted as handed on
+abbrev pub need_for : Need → List Value → Need
+need_for need (v ∷ (w ∷ vs)) = needs.Consumed
+need_for need vs = need
 
 -- what each block names, from the second block on
 abbrev pub outer_names : Env Known → List (List NameId)
@@ -97,7 +103,7 @@ pub record ExprDone (out : Outside) (sc : Scope) (need : Need) (e : Effect) (W :
   pub answers : List Known
   pub values : (flat e s).values ≡ reverse answers ++ s.values
   pub each : ListBoth (IsAnswer after need (used_wires W c.vars us) (consumed_wires W c.vars us) (wires_so_far s) c.next) vs answers
-  pub stands : Stands out sc.held after (carrying need vs answers ++ under) d (flat e s)
+  pub stands : Stands out sc.held after (carrying (need_for need vs) vs answers ++ under) d (flat e s)
   pub kinds_stay : kinds d.vars ≡ kinds c.vars
   pub leaves : Leaves s (flat e s)
   pub touches : Touches (consumed_wires W c.vars us) s.built.draft (flat e s).built.draft
