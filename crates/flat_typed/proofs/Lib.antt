@@ -62,3 +62,4 @@ pub mod Outcomes
 pub mod Lending
 pub mod LentParts
 pub mod StaticValues
+pub mod Falling
