@@ -66,3 +66,4 @@ pub mod Numbers
 pub mod Lone
 pub mod Surrounding
 pub mod Parameters
+pub mod Falling
