@@ -62,3 +62,6 @@ pub mod Outcomes
 pub mod Lending
 pub mod LentParts
 pub mod Surrounding
+pub mod GateRows
+pub mod Given
+pub mod Gates
