@@ -67,3 +67,6 @@ pub mod Lone
 pub mod Surrounding
 pub mod Parameters
 pub mod Falling
+pub mod GateRows
+pub mod Given
+pub mod Gates
