@@ -62,3 +62,4 @@ pub mod Outcomes
 pub mod Lending
 pub mod LentParts
 pub mod Outer
+pub mod Entering
