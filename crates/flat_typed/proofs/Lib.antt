@@ -70,3 +70,5 @@ pub mod Falling
 pub mod GateRows
 pub mod Given
 pub mod Gates
+pub mod Outer
+pub mod Entering
