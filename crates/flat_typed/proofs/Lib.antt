@@ -61,3 +61,4 @@ pub mod Behind
 pub mod Outcomes
 pub mod Lending
 pub mod LentParts
+pub mod LastWalks

@@ -10,3 +10,4 @@ pub mod Laws
 pub mod Stay
 pub mod StatementLaws
 pub mod Steps
+pub mod Endings
