@@ -72,3 +72,4 @@ pub mod Given
 pub mod Gates
 pub mod Outer
 pub mod Entering
+pub mod LastWalks

@@ -12,3 +12,4 @@ pub mod StatementLaws
 pub mod Steps
 pub mod Tells
 pub mod Settled
+pub mod Endings
