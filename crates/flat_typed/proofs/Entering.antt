@@ -1,185 +1,217 @@
--- Where a body is entered with the arguments of a call: the relation stands for its parameters.
-use Rattle.std.proofs.Common.{◌≡◌, ◌⊎◌, inl, inr, ℕ, zero, suc, ◌+◌, ◌≤◌, ◌<◌, Bool, true, false, cond, not, ◌&&◌, ◌||◌, List, [], ◌∷◌, ◌++◌, length, map, take, drop, refl, sym, ap, ap₂, ◌∙◌, subst, arith}
-use Rattle.std.specs.Prelude.{nat_lt, reverse}
-use Rattle.std.proofs.lemmas.Bool.{cases_lt, lt-ltb}
-use Rattle.std.proofs.lemmas.List.{length-reverse, reverse-reverse}
+-- Where a branch begins: its condition is read, below another one from a wire of its own, and the relation stands with more guarded wires and parts.
+use Rattle.std.proofs.Common.{◌≡◌, ◌⊎◌, inl, inr, ℕ, ◌≤◌, ◌<◌, Bool, true, false, cond, not, ◌&&◌, ◌||◌, List, [], ◌∷◌, ◌++◌, length, refl, sym, ap, ◌∙◌, subst, arith}
+use Rattle.std.specs.Prelude.{Option, Some, None, ℤ}
+use Rattle.std.proofs.lemmas.Bool.{cases_lt, eqb-true}
 use Rattle.silq_tree.specs.declared.node.NameId.{NameId}
-use Rattle.silq_tree.specs.Syntax.{Parameter, Function}
-use Rattle.silq_types.specs.declared.signature.Param.{Param}
 use Rattle.silq_types.specs.declared.types.Ty.{Ty}
 use Rattle.silq_types.specs.declared.values.Part.{Part}
-use Rattle.silq_types.specs.declared.values.Value.{Value}
 use Rattle.silq_types.specs.declared.values.Var.{Var}
-use Rattle.silq_types.specs.Types.{Statics, is_linear, shape_bits}
-use Rattle.check_scope.specs.Context.{Context}
-use Rattle.check_fun.specs.Program.{param_vars}
-use Rattle.silq_mean.specs.Meaning.{param_of, names_of}
+use Rattle.check_scope.specs.Context.{Context, part_at, part_type, overlaps_any, is_in_condition}
 use Rattle.flat_core.specs.declared.step.WireId.{WireId}
+use Rattle.flat_core.specs.declared.step.Lit.{Lit}
+use Rattle.flat_core.specs.Form.{DraftForm}
+use Rattle.flat_core.specs.Label.{same_wire, wire_id}
 use Rattle.bit_arith.specs.declared.operand.Operand.{Operand}
 use Rattle.bit_arith.specs.declared.operand.Operand.TheVariants.{Const, Literal}
-use Rattle.bit_arith.specs.Calls.{Targets}
-use Rattle.flat_form.specs.declared.known.Known.{Known}
-use Rattle.flat_form.specs.declared.known.Known.TheVariants.{Shown, Absent}
-use Rattle.flat_form.specs.State.{Flattening, operands_of, wires_so_far, wires_in, part_start, part_shape}
-use Rattle.flat_form.specs.Flat.{call_began, enter, paired}
-use Rattle.flat_form.specs.Fine.{IsTaken}
-use Rattle.flat_form.specs.Names.{AllOf, AllEnv, CallerOf, names}
-use Rattle.flat_typed.specs.Places.{Places, is_part, is_shared, has_wires, shown, entries, in_order, times_in, holders, linear_holders, carriers, linear_carriers, owners_of, linear_owners}
-use Rattle.flat_typed.specs.Relation.{Outside, Stands, PartsDiffer, SparesGuarded, IsTakenOver, is_carried}
-use Rattle.flat_typed.specs.Calls.{Three, carried, SparesCarried}
-use Rattle.flat_typed.proofs.Ordered.{clash}
-use Rattle.flat_typed.proofs.Owning.{names_none, all_front, env_of_order}
-use Rattle.flat_typed.proofs.Binding.{all_take, all_drop}
-use Rattle.flat_typed.proofs.Scopes.{taken_param}
-use Rattle.flat_typed.proofs.Parameters.{operands_at, wires_by, AllEntered, param_var, params_whole, params_fit, params_env, params_hold, params_linear, params_share}
+use Rattle.bit_arith.specs.Built.{Built, Setting, Given, new_wire, next_wire, made, negated, read, blank, under_condition}
+use Rattle.bit_arith.specs.Rows.{flip}
+use Rattle.bit_arith.specs.Calls.{Targets, no_target, Safe, AllSafe}
+use Rattle.flat_form.specs.State.{Flattening, wires_so_far, wires_in, part_of, build}
+use Rattle.flat_form.specs.Flat.{as_condition, entered, enter_branch}
+use Rattle.flat_form.specs.Good.{Good}
+use Rattle.flat_form.specs.Names.{AllOf, named_by}
+use Rattle.flat_form.proofs.Goods.{Branches, goes_branch}
+use Rattle.flat_typed.specs.Places.{Places, is_part, has_wires, part_out, holders, owners_of, times_in}
+use Rattle.flat_typed.specs.Relation.{Outside, Guards, Stands, SparesGuarded}
+use Rattle.flat_typed.proofs.Ordered.{clash, or_left, or_right}
+use Rattle.flat_typed.proofs.Owning.{wire_is, each_named, spares_guarded}
+use Rattle.flat_typed.proofs.Moving.{owns_all}
+use Rattle.flat_typed.proofs.Binding.{none_out}
+use Rattle.flat_typed.proofs.Spans.{part_at_most}
+use Rattle.flat_typed.proofs.Ending.{times_are_among}
+use Rattle.flat_typed.proofs.Turns.{wired_live}
+use Rattle.flat_typed.proofs.Growing.{stands_grown}
+use Rattle.flat_typed.proofs.Flipping.{Flips, flips_same, flips_then, flips_wires, flips_flip, one_longer}
+use Rattle.flat_typed.proofs.Touching.{flips_plain}
 
--- ---- lists
+-- ---- the condition that is read
 
-pub take_front : {A : Type 0} (xs ys : List A) → take (length xs) (xs ++ ys) ≡ xs
-take_front [] ys = refl
-take_front (x ∷ xs) ys = ap (λ l. x ∷ l) (take_front xs ys)
+-- whether a condition in force names a wire
+abbrev pub guards_wire : Option Operand → WireId → Bool
+guards_wire None w = false
+guards_wire (Some p) w = named_by w p
 
-pub drop_front : {A : Type 0} (xs ys : List A) → drop (length xs) (xs ++ ys) ≡ ys
-drop_front [] ys = refl
-drop_front (x ∷ xs) ys = drop_front xs ys
+-- no old wire is touched; what the condition names, its operand names, or it is new
+pub record EntersSo (c : Operand) (b : Built) (g : Given (Option Operand)) : Type 0 where
+  pub flips : Flips no_target (length b.draft.wires) b g.built
+  pub named : (w : WireId) → guards_wire g.answer w ≡ true → (named_by w c ≡ true) ⊎ (length b.draft.wires ≤ w.number)
 
-pub carriers_sum : (W : Places) (w : WireId) (vs us : List Value) → carriers W w (vs ++ us) ≡ carriers W w vs + carriers W w us
-carriers_sum W w [] us = omega arith
-carriers_sum W w (v ∷ vs) us = let a = carriers_sum W w vs us in omega (arith, a)
+as_named : (p : Operand) (w : WireId) → guards_wire (as_condition p) w ≡ true → named_by w p ≡ true
+as_named (Const true) w e = e
+as_named (Const false) w e = e
+as_named (Literal l) w e = e
 
-pub linear_sum : (W : Places) (w : WireId) (vs us : List Value) → linear_carriers W w (vs ++ us) ≡ linear_carriers W w vs + linear_carriers W w us
-linear_sum W w [] us = omega arith
-linear_sum W w (v ∷ vs) us = let a = linear_sum W w vs us in omega (arith, a)
-
-pub linear_few : (W : Places) (w : WireId) (vs : List Value) → linear_carriers W w vs ≤ carriers W w vs
-linear_few W w [] = omega arith
-linear_few W w (v ∷ vs) = go (is_linear v.origin) (linear_few W w vs)
+read_named : (d : DraftForm) (p : Operand) (w : WireId) → named_by w (read d p) ≡ true → named_by w p ≡ true
+read_named d (Const b) w e = e
+read_named d (Literal l) w e = go (blank d l.wire) e
   where
-    go : (t : Bool) → linear_carriers W w vs ≤ carriers W w vs → cond t (times_in w (W v.place)) 0 + linear_carriers W w vs ≤ times_in w (W v.place) + carriers W w vs
-    go true h = omega (arith, h)
-    go false h = omega (arith, h)
+    go : (t : Bool) → named_by w (cond t (Const (not l.positive)) (Literal l)) ≡ true → same_wire l.wire w ≡ true
+    go true e = clash (sym e)
+    go false e = e
 
--- a parameter that owns its wires has no guarded one
-pub params_spare : (after W : Places) (all : List Var) (whole : AllOf (λ v. is_part v ≡ false) all) (G : Targets) (i : ℕ) (ns : List Parameter) (ps : List Param) (vs : List Value) (ks : List Known) → AllEntered after W i ps vs ks
-    → AllOf (λ v. AllOf (λ w. G w ≡ false) (wires_in (after v.place))) (carried (map taken_param ps) vs) → AllOf (SparesGuarded G [] W) (param_vars i ns ps)
-params_spare after W all whole G i [] ps vs ks e c = tt
-params_spare after W all whole G i (n ∷ ns) [] vs ks e c = tt
-params_spare after W all whole G i (n ∷ ns) (p ∷ ps) [] ks e c = absurd e
-params_spare after W all whole G i (n ∷ ns) (p ∷ ps) (v ∷ vs) [] e c = absurd e
-params_spare after W all whole G i (n ∷ ns) (p ∷ ps) (v ∷ vs) (k ∷ ks) e c = go (is_carried (taken_param p) v) refl c (λ d. params_spare after W all whole G (suc i) ns ps vs ks e.1 d)
+enters_so : (line : ℕ) (outer : Option Operand) (c : Operand) (b : Built) → EntersSo c b (entered (record { line = line; condition = outer }) c b)
+enters_so line None c b = record {
+  flips = flips_same no_target (length b.draft.wires) b;
+  named = λ w e. inl (read_named b.draft c w (as_named (read b.draft c) w e));
+}
+enters_so line (Some outer) c b = record {
+  flips = flips_then no_target (length b.draft.wires) (flips_wires no_target (length b.draft.wires) 1 b)
+      (flips_flip no_target (length b.draft.wires) at (next_wire b) (c ∷ []) (new_wire b) (let a = one_longer b in omega (arith, a)) (λ v lt t. other v lt (same_wire (next_wire b) v) refl));
+  named = λ w e. inr (new w (wire_is (next_wire b) w (read_named e2.draft (made (next_wire b)) w (as_named (read e2.draft (made (next_wire b))) w e))));
+}
   where
-    rest : List Value
-    rest = carried (map taken_param ps) vs
+    at : Setting
+    at = record { line = line; condition = Some outer }
 
-    Clear : Value → Type 0
-    Clear u = AllOf (λ w. G w ≡ false) (wires_in (after u.place))
+    e2 : Built
+    e2 = flip at (next_wire b) (c ∷ []) (new_wire b)
 
-    go : (t : Bool) → is_carried (taken_param p) v ≡ t → AllOf Clear (cond t (v ∷ rest) rest) → (AllOf Clear rest → AllOf (SparesGuarded G [] W) (param_vars (suc i) ns ps)) → SparesGuarded G [] W (param_var i n p) × AllOf (SparesGuarded G [] W) (param_vars (suc i) ns ps)
-    go true t c r = (
-      λ b is t' k z.
-          all_take (λ w. G w ≡ false) (shape_bits (part_shape p.ty.shape is)) (drop (part_start p.ty.shape is) (W i)) (all_drop (λ w. G w ≡ false) (part_start p.ty.shape is) (W i) (subst (λ l. AllOf (λ w. G w ≡ false) (wires_in l)) (sym (e.0.own t)) c.0)),
-      r c.1,
-    )
-    go false t c r = ((λ b. clash (sym b ∙ (wires_by p.held p.ty.classical ∙ t))), r c)
+    other : (v : WireId) → v.number < length b.draft.wires → (t : Bool) → same_wire (next_wire b) v ≡ t → t ≡ false
+    other v lt false e = refl
+    other v lt true e = let q = ap (λ (x : WireId). x.number) (wire_is (next_wire b) v e) in absurd (omega (arith, q, lt))
 
--- ---- the step
+    new : (w : WireId) → next_wire b ≡ w → length b.draft.wires ≤ w.number
+    new w q = let k = ap (λ (x : WireId). x.number) q in omega (arith, k)
 
--- the caller's owners that are no arguments answer for their Linear wires
-abbrev pub inside : Outside → Places → List Value → Context → Outside
-inside out after under d = record { guarded = out.guarded; answered = λ w. out.answered w || nat_lt 0 (linear_owners after d.vars under w) }
+pub branch_enters : (c : Operand) (s : Flattening) → EntersSo c s.built (entered s.setting c s.built)
+branch_enters c s = enters_so s.setting.line s.setting.condition c s.built
 
--- a body's beginning, behind the arguments `ks` of a call in the state s; `below` is what the stack has below them
-abbrev pub begun_body : List NameId → List Known → List Known → Flattening → Flattening
-begun_body xs ks below s = record s { env = paired xs ks ∷ []; values = []; callers = record { began = call_began (wires_so_far s) ks; env = s.env; values = below } ∷ s.callers }
+-- ---- the relation
 
-pub enters : (xs : List NameId) (ks below : List Known) (s : Flattening) → length xs ≡ length ks → s.values ≡ reverse ks ++ below → enter xs s ≡ begun_body xs ks below s
-enters xs ks below s l e = ap₂ (λ us ds. entered (reverse us) ds) (ap₂ (λ n vs. take n vs) counted e ∙ take_front (reverse ks) below) (ap₂ (λ n vs. drop n vs) counted e ∙ drop_front (reverse ks) below) ∙ ap (λ us. entered us below) (reverse-reverse ks)
+-- what is guarded in a branch: its operand too, and its condition
+abbrev pub guarded_in : Targets → Operand → Option Operand → Targets
+guarded_in G p c w = G w || (named_by w p || guards_wire c w)
+
+pub guarded_before : (G : Targets) (p : Operand) (c : Option Operand) (w : WireId) → G w ≡ true → guarded_in G p c w ≡ true
+guarded_before G p c w e = ap (λ t. t || (named_by w p || guards_wire c w)) e
+
+pub guarded_operand : (G : Targets) (p : Operand) (c : Option Operand) (w : WireId) → named_by w p ≡ true → guarded_in G p c w ≡ true
+guarded_operand G p c w e = ap (λ t. G w || (t || guards_wire c w)) e ∙ or_true (G w)
   where
-    counted : length xs ≡ length (reverse ks)
-    counted = l ∙ sym (length-reverse ks)
+    or_true : (a : Bool) → (a || true) ≡ true
+    or_true true = refl
+    or_true false = refl
 
-    entered : List Known → List Known → Flattening
-    entered us ds = record s { env = paired xs us ∷ []; values = []; callers = record { began = call_began (wires_so_far s) us; env = s.env; values = ds } ∷ s.callers }
+guarded_condition : (G : Targets) (p : Operand) (c : Option Operand) (w : WireId) → guards_wire c w ≡ true → guarded_in G p c w ≡ true
+guarded_condition G p c w e = ap (λ t. G w || (named_by w p || t)) e ∙ (ap (λ t. G w || t) (or_true (named_by w p)) ∙ or_true (G w))
+  where
+    or_true : (a : Bool) → (a || true) ≡ true
+    or_true true = refl
+    or_true false = refl
 
-pub enters_fine : (xs : List NameId) (ks below : List Known) (s : Flattening) → length xs ≡ length ks → s.values ≡ reverse ks ++ below → AllOf IsTaken ks → AllOf IsTaken (reverse (take (length xs) s.values))
-enters_fine xs ks below s l e h = subst (AllOf IsTaken) (sym (ap (λ us. reverse us) (ap₂ (λ n vs. take n vs) (l ∙ sym (length-reverse ks)) e ∙ take_front (reverse ks) below) ∙ reverse-reverse ks)) h
+pub guarded_cases : (G : Targets) (p : Operand) (c : Option Operand) (w : WireId) → guarded_in G p c w ≡ true → (G w ≡ true) ⊎ ((named_by w p ≡ true) ⊎ (guards_wire c w ≡ true))
+guarded_cases G p c w e = go (G w) (named_by w p) refl refl e
+  where
+    go : (a b : Bool) → G w ≡ a → named_by w p ≡ b → (a || (b || guards_wire c w)) ≡ true → (G w ≡ true) ⊎ ((named_by w p ≡ true) ⊎ (guards_wire c w ≡ true))
+    go true b f g e = inl f
+    go false true f g e = inr (inl g)
+    go false false f g e = inr (inr e)
 
-or_right : (a b : Bool) → b ≡ true → (a || b) ≡ true
-or_right true b e = refl
-or_right false b e = e
+-- no part of the variable that these parts do not overlap has a wire that the operand names
+abbrev pub ClearOf : Operand → List Part → Places → Var → Type 0
+ClearOf p ps W v =
+    has_wires v ≡ true → (is : List ℤ) (t : Ty) → part_type v.ty.classical v.ty.shape is ≡ Some t → overlaps_any ps (part_at v.part.name is) ≡ false →
+    (w : WireId) → 1 ≤ times_in w (part_of v.ty.shape is (W v.place)) → named_by w p ≡ false
 
-or_left : (a b : Bool) → a ≡ true → (a || b) ≡ true
-or_left true b e = refl
-or_left false b e = clash (sym e)
+safe_below : (n : ℕ) (T : Targets) (p : Operand) (w : WireId) → Safe n T p → named_by w p ≡ true → w.number < n
+safe_below n T (Const b) w s e = clash (sym e)
+safe_below n T (Literal l) w s e = subst (λ (x : WireId). x.number < n) (wire_is l.wire w e) s.0
 
-module _ (out : Outside) (held : List (List Part)) (after : Places) (ps : List Param) (vs : List Value) (ks : List Known) (under : List Value) (d : Context) (s : Flattening) (below : List Known) (f : Function) (statics : Statics) where
-  abbrev own : List Value
-  own = carried (map taken_param ps) vs
+condition_below : (n : ℕ) (c : Option Operand) (w : WireId) → AllSafe n no_target (under_condition c []) → guards_wire c w ≡ true → w.number < n
+condition_below n None w s e = clash (sym e)
+condition_below n (Some p) w s e = safe_below n no_target p w s.0 e
 
-  abbrev W0 : Places
-  W0 = operands_at ks
+guards_all : (G : Targets) (p : Operand) (c : Option Operand) → Guards (guarded_in G p c) c
+guards_all G p None = tt
+guards_all G p (Some q) = λ w e. guarded_condition G p (Some q) w e
 
-  abbrev first_vars : List Var
-  first_vars = param_vars 0 f.params ps
+held_more : (hs : List (List Part)) (ps : List Part) (q : Part) → is_in_condition (hs ++ ps ∷ []) q ≡ false → (is_in_condition hs q ≡ false) × (overlaps_any ps q ≡ false)
+held_more [] ps q e = (refl, or_left (overlaps_any ps q) false e)
+held_more (h ∷ hs) ps q e =
+    let r = held_more hs ps q (or_right (overlaps_any h q) (is_in_condition (hs ++ ps ∷ []) q) e) in
+    (go (overlaps_any h q) (is_in_condition hs q) (or_left (overlaps_any h q) (is_in_condition (hs ++ ps ∷ []) q) e) r.0, r.1)
+  where
+    go : (a b : Bool) → a ≡ false → b ≡ false → (a || b) ≡ false
+    go a b e f = ap (λ t. t || b) e ∙ f
 
-  abbrev body_begin : Flattening
-  body_begin = begun_body (names_of (map (param_of f statics) f.params)) ks below s
+module _ (G : Targets) (p : Operand) (cnd : Option Operand) (ps : List Part) (held : List (List Part)) (W : Places) (all : List Var) (n : ℕ) (none : (y : NameId) → part_out all y ≡ None) (new : (w : WireId) → guards_wire cnd w ≡ true → (named_by w p ≡ true) ⊎ (n ≤ w.number)) where
+  one_spared : (v : Var) → ((w : WireId) → has_wires v ≡ true → 1 ≤ times_in w (W v.place) → w.number < n) → SparesGuarded G held W v → ClearOf p ps W v → SparesGuarded (guarded_in G p cnd) (held ++ ps ∷ []) W v
+  one_spared v low sp clear has is t kind loose =
+      each_named (λ w. guarded_in G p cnd w ≡ false) (part_of v.ty.shape is (W v.place)) (λ w le. go w le (guarded_in G p cnd w) refl)
+    where
+      apart : (is_in_condition held (part_at v.part.name is) ≡ false) × (overlaps_any ps (part_at v.part.name is) ≡ false)
+      apart = held_more held ps (part_at v.part.name is) loose
 
-  module _ (long : length f.params ≡ length ps) (entered : AllEntered after W0 0 ps vs ks) (r : Stands out held after (own ++ under) d s) where
-    whole : AllOf (λ v. is_part v ≡ false) first_vars
-    whole = params_whole 0 f.params ps
+      go : (w : WireId) → 1 ≤ times_in w (part_of v.ty.shape is (W v.place)) → (t : Bool) → guarded_in G p cnd w ≡ t → t ≡ false
+      go w le false e = refl
+      go w le true e = pick (guarded_cases G p cnd w e)
+        where
+          operand : named_by w p ≡ true → true ≡ false
+          operand m = clash (sym m ∙ clear has is t kind apart.1 w le)
 
-    held_by : (w : WireId) → holders W0 first_vars w first_vars ≡ carriers after w own
-    held_by w = params_hold after W0 first_vars whole w 0 f.params ps vs ks long entered
+          pick : (G w ≡ true) ⊎ ((named_by w p ≡ true) ⊎ (guards_wire cnd w ≡ true)) → true ≡ false
+          pick (inl g) =
+              clash (sym (times_are_among w (part_of v.ty.shape is (W v.place)) le)
+              ∙ spares_guarded G (wires_in (part_of v.ty.shape is (W v.place))) w (sp has is t kind apart.0) g)
+          pick (inr (inl m)) = operand m
+          pick (inr (inr k)) = either (new w k)
+            where
+              either : (named_by w p ≡ true) ⊎ (n ≤ w.number) → true ≡ false
+              either (inl m) = operand m
+              either (inr above) =
+                  let a = part_at_most w v.ty.shape is (W v.place) in
+                  let b = low w has (omega (arith, a, le)) in
+                  absurd (omega (arith, b, above))
 
-    pub caller_owns : (w : WireId) → owners_of after d.vars (own ++ under) w ≡ holders after d.vars w d.vars + (carriers after w own + carriers after w under)
-    caller_owns w = ap (λ n. holders after d.vars w d.vars + n) (carriers_sum after w own under)
+  all_spared : (vs : List Var) → ((w : WireId) → 1 ≤ holders W all w vs → w.number < n) → AllOf (SparesGuarded G held W) vs → AllOf (ClearOf p ps W) vs → AllOf (SparesGuarded (guarded_in G p cnd) (held ++ ps ∷ []) W) vs
+  all_spared [] low sp clear = tt
+  all_spared (v ∷ vs) low sp clear = (
+    one_spared v (λ w has le. low w (let a = owns_all W all w v (none v.part.name) has (wired_live v has) in omega (arith, a, le))) sp.0 clear.0,
+    all_spared vs (λ w le. low w (omega (arith, le))) sp.1 clear.1,
+  )
 
-    -- what a parameter owns a carried argument does, and no one else
-    pub body_owns : (w : WireId) → 1 ≤ owners_of W0 first_vars [] w → (1 ≤ carriers after w own) × (holders after d.vars w d.vars + carriers after w under ≡ 0)
-    body_owns w le =
-        let a = held_by w in
-        let b = r.one w in
-        let e = caller_owns w in
-        (omega (arith, a, le), omega (arith, a, b, e, le))
+module _ (out : Outside) (held : List (List Part)) (W : Places) (c : Context) (s : Flattening) (p : Operand) (ps : List Part) where
+  abbrev pub in_branch : Outside
+  in_branch = record { guarded = guarded_in out.guarded p (enter_branch p s).setting.condition; answered = out.answered }
 
-    owner : (w : WireId) → 1 ≤ owners_of W0 first_vars [] w → 1 ≤ owners_of after d.vars (own ++ under) w
-    owner w le = let a = (body_owns w le).0 in let e = caller_owns w in omega (arith, a, e)
+  pub stands_entered : Good s → Safe (wires_so_far s) no_target p → Stands out held W [] c s → AllOf (λ v. is_part v ≡ false) c.vars → AllOf (ClearOf p ps W) c.vars → Stands in_branch (held ++ ps ∷ []) W [] c (enter_branch p s)
+  stands_entered g safe r whole clear = record {
+    env = r.env;
+    differ = r.differ;
+    parts = r.parts;
+    one = r.one;
+    free = h.free;
+    untold = h.untold;
+    shared = r.shared;
+    callers = r.callers;
+    guards = guards_all out.guarded p (enter_branch p s).setting.condition;
+    below = λ w e. below w (guarded_cases out.guarded p (enter_branch p s).setting.condition w e);
+    spares = all_spared out.guarded p (enter_branch p s).setting.condition ps held W c.vars (wires_so_far s) (λ y. none_out c.vars y whole) (λ w e. k.named w e) c.vars
+        (λ w le. (r.free w (omega (arith, le))).0) r.spares clear;
+    carried = tt;
+    owed = λ w o. h.owed w (record { there = o.there; untold = o.untold; why = o.why });
+  }
+    where
+      k : EntersSo p s.built (entered s.setting p s.built)
+      k = branch_enters p s
 
-    answers : (w : WireId) → (1 ≤ linear_owners after d.vars (own ++ under) w) ⊎ (out.answered w ≡ true) → (1 ≤ linear_owners W0 first_vars [] w) ⊎ ((inside out after under d).answered w ≡ true)
-    answers w (inr a) = inr (or_left (out.answered w) (nat_lt 0 (linear_owners after d.vars under w)) a)
-    answers w (inl le) = go (cases_lt 0 (linear_owners after d.vars under w))
-      where
-        go : (0 < linear_owners after d.vars under w) ⊎ (linear_owners after d.vars under w ≤ 0) → (1 ≤ linear_owners W0 first_vars [] w) ⊎ ((inside out after under d).answered w ≡ true)
-        go (inl lt) = inr (or_right (out.answered w) (nat_lt 0 (linear_owners after d.vars under w)) (lt-ltb 0 (linear_owners after d.vars under w) lt))
-        go (inr none) =
-            let a = linear_sum after w own under in
-            let b = linear_few after w own in
-            let e = held_by w in
-            let g = params_linear after W0 first_vars whole w 0 f.params ps in
-            inl (omega (arith, le, none, a, b, e, g))
+      h : Stands out held W [] c (build (entered s.setting p s.built).built s)
+      h = stands_grown out held W [] c s (entered s.setting p s.built).built (flips_plain no_target (wires_so_far s) s.built (entered s.setting p s.built).built g.fresh k.flips) r
 
-    -- the relation stands for the parameters
-    pub stands_entered : PartsDiffer first_vars → Three (SparesCarried after own) (map taken_param ps) vs ks → ((w : WireId) → 1 ≤ carriers after w own → AllOf (λ k. names k w ≡ false) below)
-        → Stands (inside out after under d) [] W0 [] (record { vars = first_vars; next = length ps }) body_begin
-    stands_entered differ spares lower = record {
-      env = params_env after W0 first_vars whole f statics 0 f.params ps vs ks long entered;
-      differ = differ;
-      parts = params_fit W0 first_vars 0 f.params ps;
-      one = λ w. let a = held_by w in let b = r.one w in let e = caller_owns w in omega (arith, a, b, e);
-      free = λ w le. r.free w (owner w le);
-      untold = λ w le. r.untold w (owner w le);
-      shared = λ w le. params_share after W0 first_vars whole w 0 f.params ps vs ks own (body_owns w le).0 entered spares;
-      callers = λ w le. ((caller_env w le, lower w (body_owns w le).0), r.callers w (owner w le));
-      guards = r.guards;
-      below = r.below;
-      spares = params_spare after W0 first_vars whole out.guarded 0 f.params ps vs ks entered (all_front (λ v. AllOf (λ w. out.guarded w ≡ false) (wires_in (after v.place))) own under r.carried);
-      carried = tt;
-      owed = λ w o. answers w (r.owed w o);
-    }
-      where
-        caller_env : (w : WireId) → 1 ≤ owners_of W0 first_vars [] w → AllEnv (λ k. names k w ≡ false) s.env
-        caller_env w le =
-            env_of_order (λ k. names k w ≡ false) s.env
-            (subst (AllOf (λ (p : NameId × Known). names p.1 w ≡ false)) (sym r.env)
-            (names_none after d.vars d.vars w (let a = (body_owns w le).1 in omega (arith, a)) (r.shared w (owner w le))))
+      b : Branches s (enter_branch p s)
+      b = goes_branch p s g safe
+
+      below : (w : WireId) → (out.guarded w ≡ true) ⊎ ((named_by w p ≡ true) ⊎ (guards_wire (enter_branch p s).setting.condition w ≡ true)) → w.number < wires_so_far (enter_branch p s)
+      below w (inl e) = h.below w e
+      below w (inr (inl e)) = let a = safe_below (wires_so_far s) no_target p w safe e in let f = k.flips.few in omega (arith, a, f)
+      below w (inr (inr e)) = condition_below (wires_so_far (enter_branch p s)) (enter_branch p s).setting.condition w b.good.condition e
