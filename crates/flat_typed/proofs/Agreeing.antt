@@ -34,7 +34,7 @@ pub linear_agree : (U W : Places) (all vs : List Var) (w : WireId) → AllOf (Sa
 linear_agree U W all [] w h = refl
 linear_agree U W all (v ∷ vs) w h = ap₂ (λ a b. a + b) (ap (λ n. cond (is_linear v.origin) n 0) (holds_agree U W all w v h.0)) (linear_agree U W all vs w h.1)
 
-carriers_agree : (U W : Places) (w : WireId) (vs : List Value) → AllOf (λ v. U v.place ≡ W v.place) vs → carriers U w vs ≡ carriers W w vs
+pub carriers_agree : (U W : Places) (w : WireId) (vs : List Value) → AllOf (λ v. U v.place ≡ W v.place) vs → carriers U w vs ≡ carriers W w vs
 carriers_agree U W w [] h = refl
 carriers_agree U W w (v ∷ vs) h = ap₂ (λ a b. a + b) (ap (times_in w) h.0) (carriers_agree U W w vs h.1)
 

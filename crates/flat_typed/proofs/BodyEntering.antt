@@ -113,16 +113,16 @@ or_left true b e = refl
 or_left false b e = clash (sym e)
 
 module _ (out : Outside) (held : List (List Part)) (after : Places) (ps : List Param) (vs : List Value) (ks : List Known) (under : List Value) (d : Context) (s : Flattening) (below : List Known) (f : Function) (statics : Statics) where
-  abbrev own : List Value
+  abbrev pub own : List Value
   own = carried (map taken_param ps) vs
 
-  abbrev W0 : Places
+  abbrev pub W0 : Places
   W0 = operands_at ks
 
-  abbrev first_vars : List Var
+  abbrev pub first_vars : List Var
   first_vars = param_vars 0 f.params ps
 
-  abbrev body_begin : Flattening
+  abbrev pub body_begin : Flattening
   body_begin = begun_body (names_of (map (param_of f statics) f.params)) ks below s
 
   module _ (long : length f.params ≡ length ps) (entered : AllEntered after W0 0 ps vs ks) (r : Stands out held after (own ++ under) d s) where

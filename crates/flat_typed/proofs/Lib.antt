@@ -77,3 +77,4 @@ pub mod Gates
 pub mod Outer
 pub mod LastWalks
 pub mod BodyEntering
+pub mod Returning
