@@ -78,3 +78,4 @@ pub mod Outer
 pub mod LastWalks
 pub mod BodyEntering
 pub mod Returning
+pub mod CallFacts
