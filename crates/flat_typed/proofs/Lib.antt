@@ -79,3 +79,4 @@ pub mod LastWalks
 pub mod BodyEntering
 pub mod Returning
 pub mod CallFacts
+pub mod CallWalk
