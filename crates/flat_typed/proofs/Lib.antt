@@ -64,3 +64,7 @@ pub mod LentParts
 pub mod StaticValues
 pub mod Numbers
 pub mod Lone
+pub mod PlaceWalk
+pub mod PlaceTells
+pub mod PlaceLent
+pub mod UsedPlaces
