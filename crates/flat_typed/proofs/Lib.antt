@@ -68,3 +68,4 @@ pub mod PlaceWalk
 pub mod PlaceTells
 pub mod PlaceLent
 pub mod UsedPlaces
+pub mod TakingOut
