@@ -84,7 +84,7 @@ differ_spent (v ∷ vs) p e d = go (same_part v.part p.part) refl e (λ q. diffe
         subst (λ t. PartsDiffer (cond t (spent p ∷ vs) (v ∷ replace vs (spent p)))) (sym s)
         (all_replaced (λ (u : Var). same_part u.part v.part ≡ false) vs (spent p) d.0 (found_all (λ (u : Var). same_part u.part v.part ≡ false) vs p.part p e d.0), i e)
 
-name_swap : (y x : NameId) → same_name y x ≡ false → same_name x y ≡ false
+pub name_swap : (y x : NameId) → same_name y x ≡ false → same_name x y ≡ false
 name_swap y x n = go (same_name x y) refl
   where
     go : (t : Bool) → same_name x y ≡ t → t ≡ false

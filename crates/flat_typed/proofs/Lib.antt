@@ -69,3 +69,4 @@ pub mod PlaceTells
 pub mod PlaceLent
 pub mod UsedPlaces
 pub mod TakingOut
+pub mod GivingBack

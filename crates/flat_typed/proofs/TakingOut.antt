@@ -55,7 +55,7 @@ module _ (p : Var) (part : is_part p ≡ true) where
   found_whole [] x = ap (λ t. cond t (Some p) None) (part_other p x part)
   found_whole (v ∷ vs) x = ap (λ o. cond (same_part v.part (variable x)) (Some v) o) (found_whole vs x)
 
-  entries_taken : (W : Places) (all vs : List Var) → entries W all (vs ++ p ∷ []) ≡ entries W all vs
+  pub entries_taken : (W : Places) (all vs : List Var) → entries W all (vs ++ p ∷ []) ≡ entries W all vs
   entries_taken W all [] = ap (λ t. cond t [] ((p.part.name, shown W all p) ∷ [])) part
   entries_taken W all (v ∷ vs) = ap (λ l. cond (is_part v) l ((v.part.name, shown W all v) ∷ l)) (entries_taken W all vs)
 
