@@ -73,3 +73,9 @@ pub mod Gates
 pub mod Outer
 pub mod Entering
 pub mod LastWalks
+pub mod PlaceWalk
+pub mod PlaceTells
+pub mod PlaceLent
+pub mod UsedPlaces
+pub mod TakingOut
+pub mod GivingBack

@@ -110,7 +110,7 @@ module _ (S : InstanceKey → Signature → Type 0) (low : ℕ) (W : Places) (vs
 
   -- ---- places
 
-  place_uses : (w : Place) (s : Spot) (need : Need) (zs : List ℤ) → index_values sc.statics (place_indices w) ≡ Some zs → uses (place w s) sc vs0 need ≡ place_use sc.statics (find_var vs0 (variable (place_name w))) (place_indices w) need
+  pub place_uses : (w : Place) (s : Spot) (need : Need) (zs : List ℤ) → index_values sc.statics (place_indices w) ≡ Some zs → uses (place w s) sc vs0 need ≡ place_use sc.statics (find_var vs0 (variable (place_name w))) (place_indices w) need
   place_uses (whole x) s need zs e = refl
   place_uses (part x i) s need zs e =
       ap (λ l. place_use sc.statics (find_var vs0 (variable x)) (more i none) need ++ l) (no_uses i needs.Held (static_index (is_static sc.statics i) (value sc.statics i) (Some []) zs e))
