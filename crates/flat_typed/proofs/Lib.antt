@@ -63,3 +63,6 @@ pub mod Lending
 pub mod LentParts
 pub mod StaticValues
 pub mod Falling
+pub mod Spending
+pub mod Gone
+pub mod Answering
