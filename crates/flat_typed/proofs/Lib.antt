@@ -66,3 +66,4 @@ pub mod Falling
 pub mod Spending
 pub mod Gone
 pub mod Answering
+pub mod Lasting
