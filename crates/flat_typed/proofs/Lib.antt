@@ -67,3 +67,4 @@ pub mod Spending
 pub mod Gone
 pub mod Answering
 pub mod Lasting
+pub mod Following
