@@ -79,3 +79,8 @@ pub mod PlaceLent
 pub mod UsedPlaces
 pub mod TakingOut
 pub mod GivingBack
+pub mod Spending
+pub mod Gone
+pub mod Answering
+pub mod Lasting
+pub mod Following
