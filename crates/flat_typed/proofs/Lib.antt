@@ -65,3 +65,4 @@ pub mod Surrounding
 pub mod GateRows
 pub mod Given
 pub mod Gates
+pub mod Copying
