@@ -66,3 +66,4 @@ pub mod GateRows
 pub mod Given
 pub mod Gates
 pub mod Copying
+pub mod Repeating
