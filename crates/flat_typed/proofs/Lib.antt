@@ -67,3 +67,4 @@ pub mod Given
 pub mod Gates
 pub mod Copying
 pub mod Repeating
+pub mod Measuring

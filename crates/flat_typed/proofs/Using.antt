@@ -100,7 +100,7 @@ among_of w [] = refl
 among_of w (Const b ∷ ps) = among_of w ps
 among_of w (Literal l ∷ ps) = ap₂ (λ a b. a || b) (same_swap l.wire w) (among_of w ps)
 
-times_among : (w : WireId) (ps : List Operand) → 1 ≤ times_in w ps → among (wires_in ps) w ≡ true
+pub times_among : (w : WireId) (ps : List Operand) → 1 ≤ times_in w ps → among (wires_in ps) w ≡ true
 times_among w [] le = absurd (omega (arith, le))
 times_among w (Const b ∷ ps) le = times_among w ps le
 times_among w (Literal l ∷ ps) le = ap (λ t. t || among (wires_in ps) w) (same_swap w l.wire) ∙ go (named_by w (Literal l)) le (times_among w ps)
