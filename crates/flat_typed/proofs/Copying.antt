@@ -72,9 +72,9 @@ module _ (out : Outside) (held : List (List Part)) (W : Places) (need : Need) (u
     touches = flips_touch (Beyond consumed n) s.built g.built (works.flips (Beyond consumed n) (wires_so_far s) (omega arith));
     plain = λ q. flips_stay_plain (λ w. false) 0 s.built g.built plain_flips;
     unmade = flips_unmade (λ w. false) 0 s.built g.built plain_flips;
-    sharing = λ q. record { new = λ e. clash (sym e ∙ sym new.class); shares = λ e. clash (sym e ∙ sym new.class) };
+    sharing = record { new = λ q e. clash (sym e ∙ sym new.class); lifted = λ q e. clash (sym e ∙ sym new.class); shares = λ e. clash (sym e ∙ sym new.class) };
     typed = tt;
-    untold = λ i w l from un. dropped w l;
+    untold = λ w l from un. dropped w l;
   }
     where
       g : Given (List Operand)

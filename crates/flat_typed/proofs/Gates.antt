@@ -215,9 +215,13 @@ module _ (out : Outside) (sc : Scope) (low : ℕ) (others : ℕ → ℕ) (W : Pl
           (g.touches s1.setting w0 given.built (Beyond consumed n) (beyond w0 w0_there)) (λ w l f. f);
       plain = λ q w m. flips_stay_plain (λ w. false) 0 s1.built given.built (flips (λ w. false) 0 (omega arith)) w ((pure q).stays s1.setting w0 given.built w m);
       unmade = λ h. g.unmade s1.setting w0 given.built (flips_unmade (λ w. false) 0 s1.built given.built (flips (λ w. false) 0 (omega arith)) h);
-      sharing = λ q. record { new = λ i. clash (sym i ∙ ap (λ (y : Ty). y.classical) turned.ty); shares = λ i. clash (sym i ∙ ap (λ (y : Ty). y.classical) turned.ty) };
+      sharing = record {
+        shares = λ i. clash (sym i ∙ ap (λ (y : Ty). y.classical) turned.ty);
+        new = λ q i. clash (sym i ∙ ap (λ (y : Ty). y.classical) turned.ty);
+        lifted = λ q i. clash (sym i ∙ ap (λ (y : Ty). y.classical) turned.ty);
+      };
       typed = tt;
-      untold = λ i. clash i;
+      untold = λ w le l m. let a = subst (λ ps. 1 ≤ times_in w ps) (k.own.0 ∙ ap U (sym turned.place)) le in turned_stands.untold w (omega (arith, a));
     }
 
     may : MayTurn s1

@@ -36,13 +36,13 @@ pub record GivesTold (out : Outside) (held : List (List Part)) (W : Places) (nee
   pub touches : Touches (Beyond consumed n) s.built.draft e.built.draft
   pub plain : qfree ≡ true → StaysPlain s.built.draft e.built.draft
   pub unmade : Unmade s.built.draft → Unmade e.built.draft
-  pub sharing : is_consumed need ≡ true → IsSharing low (λ w. owners_of W c.vars under w) v answer
+  pub sharing : IsSharing need low (λ w. owners_of W c.vars under w) v answer
   pub typed : IsTyped answer
   pub untold : EndsDropped n e.built.draft answer
 
 -- and what is given without more
 pub with_tells : (out : Outside) (held : List (List Part)) (W : Places) (need : Need) (used consumed : Targets) (n low : ℕ) (qfree : Bool) (under : List Value) (c : Context) (s : Flattening) (rest : List Known) (v : Value) (e : Flattening) (g : GivesValue out held W need used consumed n low under c s rest v e)
-    → (is_consumed need ≡ true → IsSharing low (λ w. owners_of W c.vars under w) v g.answer) → IsTyped g.answer → EndsDropped n e.built.draft g.answer
+    → IsSharing need low (λ w. owners_of W c.vars under w) v g.answer → IsTyped g.answer → EndsDropped n e.built.draft g.answer
     → GivesTold out held W need used consumed n low qfree under c s rest v e
 with_tells out held W need used consumed n low qfree under c s rest v e g sharing typed untold = record {
   answer = g.answer;
@@ -77,7 +77,7 @@ then_tells out sc need other wants e W under us c s xs d o st U v f agree fine s
     plain = λ q w m. o.plain q w (g.plain q w m);
     unmade = g.unmade o.unmade;
   };
-  sharing = λ q. (g.sharing q, tt);
+  sharing = (g.sharing, tt);
   typed = λ q. (g.typed, tt);
   untold = (g.untold, tt);
 }

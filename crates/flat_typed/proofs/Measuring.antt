@@ -177,9 +177,9 @@ module _ (out : Outside) (sc : Scope) (low : ℕ) (others : ℕ → ℕ) (W : Pl
         (sym ((measures_only (λ w. true) s1.setting ws given.built (λ w a. refl)).mixed w)
         ∙ ends_stay_plain Measured ws (measure_all s1.setting ws given.built) w m);
     unmade = λ h. measuring_unmade Measured s1.setting ws given.built below (flips_unmade (λ w. false) 0 s1.built given.built (flips (λ w. false) 0 (omega arith)) h);
-    sharing = λ q. record { new = λ i. later; shares = λ i w le. unowned w le };
+    sharing = record { new = λ q i. later; lifted = λ q i. refl; shares = λ i w le. unowned w le };
     typed = tt;
-    untold = λ i w l from un. clash (sym (ap (λ ss. is_measured ss w) (end_all_steps Measured ws (measure_all s1.setting ws given.built)) ∙ each_measured s1.setting ws given.built w (times_among w given.answer l)) ∙ un);
+    untold = λ w l from un. clash (sym (ap (λ ss. is_measured ss w) (end_all_steps Measured ws (measure_all s1.setting ws given.built)) ∙ each_measured s1.setting ws given.built w (times_among w given.answer l)) ∙ un);
   }
     where
       below : (w : WireId) → among (wires_in (taken (flat e s).setting (its_bits out sc low others W under us c s b need wants e x x d t left alone apart).bits (flat e s).built).answer) w ≡ true → w.number < length (taken (flat e s).setting (its_bits out sc low others W under us c s b need wants e x x d t left alone apart).bits (flat e s).built).built.draft.wires

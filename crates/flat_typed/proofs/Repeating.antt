@@ -45,6 +45,7 @@ begins_static out sc low others W under us c s m b = record {
   open_air = b.open_air;
   apart = λ w t. (refl, b.apart w t);
   placed = b.placed;
+  lone = b.lone;
 }
 
 same_array : (t : Shape) (m : ℤ) → is_scalar t ≡ true → array_of t (nat_abs m) ≡ many_of t m
@@ -117,7 +118,7 @@ module _ (out : Outside) (sc : Scope) (need : Need) (wants : List Ty) (e : Effec
       plain = λ q w y. o.plain q w (given.plain q w y);
       unmade = given.unmade o.unmade;
     };
-    sharing = λ q. (given.sharing q, tt);
+    sharing = (given.sharing, tt);
     typed = λ q. (given.typed, tt);
     untold = (given.untold, tt);
   }

@@ -286,7 +286,7 @@ module _ (out : Outside) (sc : Scope) (low : ℕ) (others : ℕ → ℕ) (W : Pl
     fresh = good_behind.fresh;
     unmade = o.unmade;
     there = λ w le. times k known w le;
-    untold = untold;
+    untold = λ q. untold;
     alone = λ le. alone;
     apart = λ le. apart;
     fit = λ le ps. parts_fit v.place ps le;
