@@ -76,3 +76,4 @@ pub mod Measuring
 pub mod Outer
 pub mod Entering
 pub mod LastWalks
+pub mod OneArgument
