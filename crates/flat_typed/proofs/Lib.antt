@@ -77,3 +77,4 @@ pub mod Outer
 pub mod Entering
 pub mod LastWalks
 pub mod OneArgument
+pub mod GateCalls
