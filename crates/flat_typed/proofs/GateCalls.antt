@@ -59,16 +59,13 @@ flipped_linear Linear e = refl
 flipped_linear Classical e = clash (sym e)
 flipped_linear Held e = clash (sym e)
 
-not_false : (a : Bool) → not a ≡ false → a ≡ true
+pub not_false : (a : Bool) → not a ≡ false → a ≡ true
 not_false true e = refl
 not_false false e = clash e
 
-and_second : (a b : Bool) → (not a && b) ≡ false → a ≡ false → b ≡ false
+pub and_second : (a b : Bool) → (not a && b) ≡ false → a ≡ false → b ≡ false
 and_second true b e h = clash h
 and_second false b e h = e
-
-and_run : (a : Bool) → (true && a) ≡ false → a ≡ false
-and_run a e = e
 
 -- ---- one effect, differently grouped
 

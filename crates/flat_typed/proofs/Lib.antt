@@ -78,3 +78,4 @@ pub mod Entering
 pub mod LastWalks
 pub mod OneArgument
 pub mod GateCalls
+pub mod GateWalks
