@@ -79,3 +79,5 @@ pub mod LastWalks
 pub mod OneArgument
 pub mod GateCalls
 pub mod GateWalks
+pub mod VectorCalls
+pub mod BuiltInCalls
