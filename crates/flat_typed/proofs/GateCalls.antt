@@ -90,6 +90,7 @@ regrouped sc need wants e f g us c vs d h out low others W under s b =
       sharing = t.sharing;
       typed = t.typed;
       untold = t.untold;
+      several = t.several;
     }
 
 -- ---- what each gate makes of the argument's value

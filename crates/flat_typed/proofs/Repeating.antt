@@ -121,4 +121,5 @@ module _ (out : Outside) (sc : Scope) (need : Need) (wants : List Ty) (e : Effec
     sharing = (given.sharing, tt);
     typed = λ q. (given.typed, tt);
     untold = (given.untold, tt);
+    several = tt;
   }
