@@ -70,6 +70,9 @@ pub mod Falling
 pub mod GateRows
 pub mod Given
 pub mod Gates
+pub mod Copying
+pub mod Repeating
+pub mod Measuring
 pub mod Outer
 pub mod Entering
 pub mod LastWalks
@@ -84,3 +87,8 @@ pub mod Gone
 pub mod Answering
 pub mod Lasting
 pub mod Following
+pub mod OneArgument
+pub mod GateCalls
+pub mod GateWalks
+pub mod VectorCalls
+pub mod BuiltInCalls
