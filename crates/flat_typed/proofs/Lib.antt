@@ -66,6 +66,10 @@ pub mod Numbers
 pub mod Lone
 pub mod Surrounding
 pub mod Parameters
+pub mod Entering
+pub mod CallArguments
+pub mod CallResults
+pub mod CallLists
 pub mod Falling
 pub mod GateRows
 pub mod Given
@@ -74,7 +78,6 @@ pub mod Copying
 pub mod Repeating
 pub mod Measuring
 pub mod Outer
-pub mod Entering
 pub mod LastWalks
 pub mod PlaceWalk
 pub mod PlaceTells
@@ -92,3 +95,6 @@ pub mod GateCalls
 pub mod GateWalks
 pub mod VectorCalls
 pub mod BuiltInCalls
+pub mod BodyEntering
+pub mod Returning
+pub mod CallFacts
