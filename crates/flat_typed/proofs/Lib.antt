@@ -63,3 +63,4 @@ pub mod Lending
 pub mod LentParts
 pub mod Outer
 pub mod Entering
+pub mod SameEnds
