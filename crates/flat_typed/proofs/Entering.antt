@@ -118,9 +118,9 @@ guarded_cases G p c w e = go (G w) (named_by w p) refl refl e
     go false false f g e = inr (inr e)
 
 -- no part of the variable that these parts do not overlap has a wire that the operand names
-abbrev pub ClearOf : Operand → List Part → Places → Var → Type 0
-ClearOf p ps W v =
-    has_wires v ≡ true → (is : List ℤ) (t : Ty) → part_type v.ty.classical v.ty.shape is ≡ Some t → overlaps_any ps (part_at v.part.name is) ≡ false →
+abbrev pub ClearOf : List (List Part) → Operand → List Part → Places → Var → Type 0
+ClearOf held p ps W v =
+    has_wires v ≡ true → (is : List ℤ) (t : Ty) → part_type v.ty.classical v.ty.shape is ≡ Some t → is_in_condition held (part_at v.part.name is) ≡ false → overlaps_any ps (part_at v.part.name is) ≡ false →
     (w : WireId) → 1 ≤ times_in w (part_of v.ty.shape is (W v.place)) → named_by w p ≡ false
 
 safe_below : (n : ℕ) (T : Targets) (p : Operand) (w : WireId) → Safe n T p → named_by w p ≡ true → w.number < n
@@ -145,7 +145,7 @@ held_more (h ∷ hs) ps q e =
     go a b e f = ap (λ t. t || b) e ∙ f
 
 module _ (G : Targets) (p : Operand) (cnd : Option Operand) (ps : List Part) (held : List (List Part)) (W : Places) (all : List Var) (n : ℕ) (none : (y : NameId) → part_out all y ≡ None) (new : (w : WireId) → guards_wire cnd w ≡ true → (named_by w p ≡ true) ⊎ (n ≤ w.number)) where
-  one_spared : (v : Var) → ((w : WireId) → has_wires v ≡ true → 1 ≤ times_in w (W v.place) → w.number < n) → SparesGuarded G held W v → ClearOf p ps W v → SparesGuarded (guarded_in G p cnd) (held ++ ps ∷ []) W v
+  one_spared : (v : Var) → ((w : WireId) → has_wires v ≡ true → 1 ≤ times_in w (W v.place) → w.number < n) → SparesGuarded G held W v → ClearOf held p ps W v → SparesGuarded (guarded_in G p cnd) (held ++ ps ∷ []) W v
   one_spared v low sp clear has is t kind loose =
       each_named (λ w. guarded_in G p cnd w ≡ false) (part_of v.ty.shape is (W v.place)) (λ w le. go w le (guarded_in G p cnd w) refl)
     where
@@ -157,7 +157,7 @@ module _ (G : Targets) (p : Operand) (cnd : Option Operand) (ps : List Part) (he
       go w le true e = pick (guarded_cases G p cnd w e)
         where
           operand : named_by w p ≡ true → true ≡ false
-          operand m = clash (sym m ∙ clear has is t kind apart.1 w le)
+          operand m = clash (sym m ∙ clear has is t kind apart.0 apart.1 w le)
 
           pick : (G w ≡ true) ⊎ ((named_by w p ≡ true) ⊎ (guards_wire cnd w ≡ true)) → true ≡ false
           pick (inl g) =
@@ -173,7 +173,7 @@ module _ (G : Targets) (p : Operand) (cnd : Option Operand) (ps : List Part) (he
                   let b = low w has (omega (arith, a, le)) in
                   absurd (omega (arith, b, above))
 
-  all_spared : (vs : List Var) → ((w : WireId) → 1 ≤ holders W all w vs → w.number < n) → AllOf (SparesGuarded G held W) vs → AllOf (ClearOf p ps W) vs → AllOf (SparesGuarded (guarded_in G p cnd) (held ++ ps ∷ []) W) vs
+  all_spared : (vs : List Var) → ((w : WireId) → 1 ≤ holders W all w vs → w.number < n) → AllOf (SparesGuarded G held W) vs → AllOf (ClearOf held p ps W) vs → AllOf (SparesGuarded (guarded_in G p cnd) (held ++ ps ∷ []) W) vs
   all_spared [] low sp clear = tt
   all_spared (v ∷ vs) low sp clear = (
     one_spared v (λ w has le. low w (let a = owns_all W all w v (none v.part.name) has (wired_live v has) in omega (arith, a, le))) sp.0 clear.0,
@@ -184,7 +184,7 @@ module _ (out : Outside) (held : List (List Part)) (W : Places) (c : Context) (s
   abbrev pub in_branch : Outside
   in_branch = record { guarded = guarded_in out.guarded p (enter_branch p s).setting.condition; answered = out.answered }
 
-  pub stands_entered : Good s → Safe (wires_so_far s) no_target p → Stands out held W [] c s → AllOf (λ v. is_part v ≡ false) c.vars → AllOf (ClearOf p ps W) c.vars → Stands in_branch (held ++ ps ∷ []) W [] c (enter_branch p s)
+  pub stands_entered : Good s → Safe (wires_so_far s) no_target p → Stands out held W [] c s → AllOf (λ v. is_part v ≡ false) c.vars → AllOf (ClearOf held p ps W) c.vars → Stands in_branch (held ++ ps ∷ []) W [] c (enter_branch p s)
   stands_entered g safe r whole clear = record {
     env = r.env;
     differ = r.differ;

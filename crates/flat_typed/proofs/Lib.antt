@@ -64,3 +64,4 @@ pub mod LentParts
 pub mod Outer
 pub mod Entering
 pub mod SameEnds
+pub mod Held
