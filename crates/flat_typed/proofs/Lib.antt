@@ -65,3 +65,4 @@ pub mod Outer
 pub mod Entering
 pub mod SameEnds
 pub mod Held
+pub mod Joining
