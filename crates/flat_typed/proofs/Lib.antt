@@ -66,3 +66,6 @@ pub mod Entering
 pub mod SameEnds
 pub mod Held
 pub mod Joining
+pub mod Choosing
+pub mod Deciding
+pub mod Decided
