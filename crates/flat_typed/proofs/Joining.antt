@@ -37,7 +37,7 @@ or_cases : (a b : Bool) → (a || b) ≡ true → (a ≡ true) ⊎ (b ≡ true)
 or_cases true b e = inl refl
 or_cases false b e = inr e
 
-no_parts : (U : Places) (all vs : List Var) → AllOf (λ v. is_part v ≡ false) vs → AllOf (FitsPart U all) vs
+pub no_parts : (U : Places) (all vs : List Var) → AllOf (λ v. is_part v ≡ false) vs → AllOf (FitsPart U all) vs
 no_parts U all vs h = all_more (λ v. is_part v ≡ false) (FitsPart U all) vs (λ v e t. clash (sym t ∙ e)) h
 
 -- ---- where the second branch begins

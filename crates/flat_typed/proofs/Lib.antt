@@ -69,3 +69,5 @@ pub mod Joining
 pub mod Choosing
 pub mod Deciding
 pub mod Decided
+pub mod Choices
+pub mod ChoiceLaws
