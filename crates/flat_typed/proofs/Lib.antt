@@ -61,6 +61,15 @@ pub mod Behind
 pub mod Outcomes
 pub mod Lending
 pub mod LentParts
+pub mod StaticValues
+pub mod Numbers
+pub mod Lone
+pub mod Surrounding
+pub mod Parameters
+pub mod Falling
+pub mod GateRows
+pub mod Given
+pub mod Gates
 pub mod Outer
 pub mod Entering
 pub mod SameEnds
@@ -71,3 +80,4 @@ pub mod Deciding
 pub mod Decided
 pub mod Choices
 pub mod ChoiceLaws
+pub mod LastWalks
