@@ -78,6 +78,15 @@ pub mod Copying
 pub mod Repeating
 pub mod Measuring
 pub mod Outer
+pub mod Entering
+pub mod SameEnds
+pub mod Held
+pub mod Joining
+pub mod Choosing
+pub mod Deciding
+pub mod Decided
+pub mod Choices
+pub mod ChoiceLaws
 pub mod LastWalks
 pub mod PlaceWalk
 pub mod PlaceTells
