@@ -62,3 +62,5 @@ pub mod Outcomes
 pub mod Lending
 pub mod LentParts
 pub mod LastWalks
+pub mod PlainValues
+pub mod LastTold
