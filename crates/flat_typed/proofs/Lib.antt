@@ -64,3 +64,4 @@ pub mod LentParts
 pub mod LastWalks
 pub mod PlainValues
 pub mod LastTold
+pub mod Results
