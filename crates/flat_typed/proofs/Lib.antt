@@ -65,3 +65,5 @@ pub mod LastWalks
 pub mod PlainValues
 pub mod LastTold
 pub mod Results
+pub mod ReturnedValues
+pub mod BodyEnds

@@ -54,7 +54,7 @@ times_named w (p ∷ ps) le = go (named_by w p) refl le (times_named w ps)
     go true e le i = refl
     go false e le i = i le
 
-unguarded_wire : (G : Targets) (ps : List Operand) (w : WireId) → AllOf (λ v. G v ≡ false) (wires_in ps) → 1 ≤ times_in w ps → G w ≡ false
+pub unguarded_wire : (G : Targets) (ps : List Operand) (w : WireId) → AllOf (λ v. G v ≡ false) (wires_in ps) → 1 ≤ times_in w ps → G w ≡ false
 unguarded_wire G ps w h le = go (G w) refl
   where
     go : (b : Bool) → G w ≡ b → b ≡ false
@@ -140,13 +140,13 @@ module _ (ns : List Parameter) (ps : List Param) (taker : Ty → Receiver) (take
   abbrev pub Takes : Ty → Value → Known → Type 0
   Takes t v k = IsTakenOver U used consumed m c1.next (taker t) v k
 
-  carried_so : (t : Ty) (v : Value) → is_carried (taker t) v ≡ true
+  pub carried_so : (t : Ty) (v : Value) → is_carried (taker t) v ≡ true
   carried_so t v = for_taker taker takes (λ r. is_carried r v ≡ true) t refl refl
 
   typed_so : (t : Ty) (v : Value) → taken_type (taker t) v ≡ t
   typed_so t v = for_taker taker takes (λ r. taken_type r v ≡ t) t refl refl
 
-  shows_it : (t : Ty) (v : Value) (k : Known) → Takes t v k → k ≡ Shown (record { classical = t.classical; shape = t.shape; operands = operands_of k; own = true; began = began_of k })
+  pub shows_it : (t : Ty) (v : Value) (k : Known) → Takes t v k → k ≡ Shown (record { classical = t.classical; shape = t.shape; operands = operands_of k; own = true; began = began_of k })
   shows_it t v k h =
       h.shows
       ∙ ap₂ (λ (c : Bool) (x : Shape). Shown (record { classical = c; shape = x; operands = operands_of k; own = true; began = began_of k }))
@@ -171,7 +171,7 @@ module _ (ns : List Parameter) (ps : List Param) (taker : Ty → Receiver) (take
         go (inl lt) = absurd (owner_given v.place 0 ns ps (q.had wires lt) none)
         go (inr new) = new w le
 
-    is_new : (t : Ty) (v : Value) (k : Known) → HadPlace c1 v → Takes t v k → given_on 0 ps v.place ≡ None → names k w ≡ true → n ≤ w.number
+    pub is_new : (t : Ty) (v : Value) (k : Known) → HadPlace c1 v → Takes t v k → given_on 0 ps v.place ≡ None → names k w ≡ true → n ≤ w.number
     is_new t v k had h none e = go (h.own (carried_so t v)).1
       where
         times : 1 ≤ times_in w (operands_of k)
