@@ -38,13 +38,14 @@ use Rattle.flat_typed.specs.Calls.{Three, carried, ArgsDone, ArgsTells, first_co
 use Rattle.flat_typed.specs.Scopes.{as_meaning, scope_for}
 use Rattle.flat_typed.specs.Stay.{HadOwner, Stayed}
 use Rattle.flat_typed.specs.Lemmas.{uses_by}
+use Rattle.flat_typed.specs.Bodies.{TakesResults}
 use Rattle.flat_typed.proofs.Ordered.{clash}
 use Rattle.flat_typed.proofs.Growing.{touches_then}
 use Rattle.flat_typed.proofs.Closing.{no_linear}
 use Rattle.flat_typed.proofs.Footprints.{consumed_may_change}
 use Rattle.flat_typed.proofs.Turns.{older, sole_now}
 use Rattle.flat_typed.proofs.Reached.{consumed_touches}
-use Rattle.flat_typed.proofs.LastTold.{HadPlace, PlainFor, TakesResults, LastTold}
+use Rattle.flat_typed.proofs.LastTold.{HadPlace, PlainFor, LastTold}
 use Rattle.flat_typed.proofs.Results.{Before, is_new}
 use Rattle.flat_typed.proofs.ReturnedValues.{all_carried, named_are, linear_are, results_are, unguarded_values}
 

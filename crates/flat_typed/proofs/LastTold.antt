@@ -29,6 +29,7 @@ use Rattle.flat_typed.specs.Done.{Begins, StmtBegins}
 use Rattle.flat_typed.specs.Calls.{ArgsTells}
 use Rattle.flat_typed.specs.Scopes.{as_meaning, NoStatics}
 use Rattle.flat_typed.specs.Uses.{IsThere}
+use Rattle.flat_typed.specs.Bodies.{TakesResults}
 use Rattle.flat_typed.specs.Lemmas.{Callable, Agrees, Asking, Untangled, uses_by, ArgumentsAreFine}
 use Rattle.flat_typed.proofs.Ordered.{clash}
 use Rattle.flat_typed.proofs.Uses.{all_join}
@@ -150,10 +151,6 @@ pub record LastTold (sc : Scope) (taker : Ty → Receiver) (es : Expressions) (c
   pub plain : ListBoth PlainFor sc.results vs
   pub does : (out : Outside) (low : ℕ) (W : Places) (s : Flattening) → StmtBegins out sc low (λ p. 0) W c s
       → ArgsTells out sc (map taker sc.results) (meanings.exprs es (as_meaning taker sc) needs.Consumed [] (map taker sc.results)) W [] (uses_by es sc c (map taker sc.results)) c s vs d
-
--- what takes the results of a body over
-abbrev pub TakesResults : (Ty → Receiver) → Type 0
-TakesResults taker = (t : Ty) → (taker t ≡ CallResult t) ⊎ (taker t ≡ EntryOutput t)
 
 module _ (taker : Ty → Receiver) (takes : TakesResults taker) where
   pub for_taker : (Q : Receiver → Type 0) (t : Ty) → Q (CallResult t) → Q (EntryOutput t) → Q (taker t)

@@ -67,3 +67,4 @@ pub mod LastTold
 pub mod Results
 pub mod ReturnedValues
 pub mod BodyEnds
+pub mod Bodies

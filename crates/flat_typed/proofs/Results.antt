@@ -31,11 +31,12 @@ use Rattle.flat_typed.specs.Relation.{Outside, Stands, AllNew, IsTakenOver, take
 use Rattle.flat_typed.specs.Done.{MadeSince, changeable}
 use Rattle.flat_typed.specs.Calls.{Three, carried, FromParam, IsResult, named_times, quantum_times}
 use Rattle.flat_typed.specs.Stay.{SomeOf, IsOwner, HadOwner}
+use Rattle.flat_typed.specs.Bodies.{TakesResults}
 use Rattle.flat_typed.proofs.Ordered.{clash}
 use Rattle.flat_typed.proofs.Owning.{no_times, spares_guarded}
 use Rattle.flat_typed.proofs.Ending.{times_are_among}
 use Rattle.flat_typed.proofs.Binding.{none_out}
-use Rattle.flat_typed.proofs.LastTold.{HadPlace, PlainFor, TakesResults, for_taker}
+use Rattle.flat_typed.proofs.LastTold.{HadPlace, PlainFor, for_taker}
 
 -- ---- operands and wires
 

@@ -19,8 +19,9 @@ use Rattle.flat_form.specs.Shows.{ListBoth}
 use Rattle.flat_typed.specs.Places.{Places, times_in, carriers, linear_carriers}
 use Rattle.flat_typed.specs.Relation.{IsTakenOver}
 use Rattle.flat_typed.specs.Calls.{Three, carried, FromParam, IsResult, named_times, quantum_times}
+use Rattle.flat_typed.specs.Bodies.{TakesResults}
 use Rattle.flat_typed.proofs.Ordered.{clash}
-use Rattle.flat_typed.proofs.LastTold.{HadPlace, PlainFor, TakesResults}
+use Rattle.flat_typed.proofs.LastTold.{HadPlace, PlainFor}
 use Rattle.flat_typed.proofs.Results.{carried_so, shows_it, GivenOn, given_is, unguarded_wire}
 
 module _ (ns : List Parameter) (ps : List Param) (taker : Ty → Receiver) (takes : TakesResults taker) (W V U : Places) (used consumed : Targets) (n m : ℕ) (c1 : Context) where

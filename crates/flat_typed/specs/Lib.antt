@@ -11,3 +11,4 @@ pub mod Stay
 pub mod StatementLaws
 pub mod Steps
 pub mod Endings
+pub mod Bodies
