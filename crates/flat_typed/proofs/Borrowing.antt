@@ -79,7 +79,7 @@ stands_seen out held W under c s x k l e r = record {
 }
 
 -- operands whose wires are there
-times_there : (n : ℕ) (w : WireId) (ps : List Operand) → AllSafe n no_target ps → 1 ≤ times_in w ps → w.number < n
+pub times_there : (n : ℕ) (w : WireId) (ps : List Operand) → AllSafe n no_target ps → 1 ≤ times_in w ps → w.number < n
 times_there n w [] h le = absurd (omega (arith, le))
 times_there n w (Const b ∷ ps) h le = times_there n w ps h.1 le
 times_there n w (Literal l ∷ ps) h le = go (same_wire l.wire w) refl le (times_there n w ps h.1)

@@ -61,6 +61,17 @@ pub mod Behind
 pub mod Outcomes
 pub mod Lending
 pub mod LentParts
+pub mod StaticValues
+pub mod Numbers
+pub mod Lone
+pub mod Surrounding
+pub mod Parameters
+pub mod Falling
+pub mod GateRows
+pub mod Given
+pub mod Gates
+pub mod Outer
+pub mod Entering
 pub mod LastWalks
 pub mod PlainValues
 pub mod LastTold

@@ -33,6 +33,7 @@ use Rattle.flat_typed.proofs.Ordered.{clash}
 use Rattle.flat_typed.proofs.Growing.{touches_more}
 use Rattle.flat_typed.proofs.Footprints.{consumed_may_change}
 use Rattle.flat_typed.proofs.Tame.{AllLeft, left_same}
+use Rattle.flat_typed.proofs.Lone.{none_in}
 use Rattle.flat_typed.proofs.Leaving.{k_any}
 use Rattle.flat_typed.proofs.WalkThere.{u_expr}
 use Rattle.flat_typed.proofs.Turns.{gives_both, wired_live}
@@ -81,6 +82,7 @@ begins_expression out sc low W c s us b = record {
   open_air = b.open_air;
   apart = λ w t. subst (AllOf (λ k. names k w ≡ false)) (sym b.none) tt;
   placed = none_placed c.next c.vars b.whole;
+  lone = let e = none_in c.vars b.whole in omega (arith, e);
 }
 
 pub expression_reached : (e : Expression) → ExpressionIsFine e → (sc : Scope) (taker : Ty → Receiver) (need : Need) (wants : List Ty) (c : Context) → is_tuple e ≡ false → NoStatics sc c.vars
