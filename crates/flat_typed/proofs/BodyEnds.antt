@@ -25,7 +25,7 @@ use Rattle.flat_core.specs.Form.{DraftForm}
 use Rattle.flat_core.specs.Label.{wire_in}
 use Rattle.bit_arith.specs.Calls.{Targets, IsTarget}
 use Rattle.flat_form.specs.declared.known.Known.{Known}
-use Rattle.flat_form.specs.State.{Flattening, wires_so_far, operands_of}
+use Rattle.flat_form.specs.State.{Caller, Flattening, wires_so_far, operands_of, began_or}
 use Rattle.flat_form.specs.Flat.{flat}
 use Rattle.flat_form.specs.Fine.{Fine}
 use Rattle.flat_form.specs.Names.{AllOf, names}
@@ -47,7 +47,7 @@ use Rattle.flat_typed.proofs.Turns.{older, sole_now}
 use Rattle.flat_typed.proofs.Reached.{consumed_touches}
 use Rattle.flat_typed.proofs.LastTold.{HadPlace, PlainFor, LastTold}
 use Rattle.flat_typed.proofs.Results.{Before, is_new}
-use Rattle.flat_typed.proofs.ReturnedValues.{all_carried, named_are, linear_are, results_are, unguarded_values}
+use Rattle.flat_typed.proofs.ReturnedValues.{all_carried, named_are, named_moved, linear_are, results_are, unguarded_values}
 
 -- what may change is owned, and not guarded
 changeable_owned : (out : Outside) (W : Places) (vars : List Var) (w : WireId) → changeable out W vars [] w ≡ true → 1 ≤ owners_of W vars [] w
@@ -156,13 +156,26 @@ module _ (words : List (NameId × BuiltIn)) (before : List Function) (taker : Ty
         (subst (λ (x : DraftForm). Touches (changeable out V c1.vars []) x s3.built.draft) draft2 (consumed_touches out sc low V c1 s2 us s3 b2 (told.there V b2.stands.parts) tells.done.touches))
         (λ w lt. still_changeable out (owners_of V c1.vars [] w) (owners_of W start.vars [] w) w (older out sc (length h.params) W start c1 s0 e1 F b0.whole G w lt))
 
+    ours : (w : WireId) → 1 ≤ named_times ks w → (changeable out W start.vars [] w ≡ true) ⊎ (n ≤ w.number)
+    ours w le = go (named_moved f.params h.params taker takes W V U (used_wires V c1.vars us) (consumed_wires V c1.vars us) n m c1 w h.results vs ks taken le) (cases_lt w.number n)
+      where
+        before_that : changeable out V c1.vars [] w ≡ true → w.number < n → (b : Bool) → changeable out W start.vars [] w ≡ b → b ≡ true
+        before_that e lt true q = refl
+        before_that e lt false q =
+            clash (sym e ∙ still_changeable out (owners_of V c1.vars [] w) (owners_of W start.vars [] w) w (older out sc (length h.params) W start c1 s0 e1 F b0.whole G w lt) q)
+
+        go : (consumed_wires V c1.vars us w ≡ true) ⊎ (m ≤ w.number) → (w.number < n) ⊎ (n ≤ w.number) → (changeable out W start.vars [] w ≡ true) ⊎ (n ≤ w.number)
+        go x (inr k) = inr k
+        go (inr k) (inl lt) = absurd (omega (arith, k, lt, later))
+        go (inl e) (inl lt) = inl (before_that (consumed_may_change out sc.held V [] c1 s2 us b2.stands (told.there V b2.stands.parts) w e) lt (changeable out W start.vars [] w) refl)
+
     -- whatever effect leads to the same state but for the line
     pub body_done : (e : Effect) (u : Flattening) → Fine e s0 → flat e s0 ≡ u → u.values ≡ s3.values → u.built.draft ≡ s3.built.draft → u.setting ≡ s0.setting → u.callers ≡ s3.callers → BodyDone out f h e W s0 (returned_as h.params h.results vs)
     body_done e u fine becomes values draft setting callers = record {
       fine = fine;
       answers = ks;
       values = ap (λ (x : Flattening). x.values) becomes ∙ (values ∙ (tells.done.values ∙ (ap (λ l. reverse ks ++ l) b2.none ∙ append-nil (reverse ks))));
-      each = results_are f.params h.params taker takes W V U (used_wires V c1.vars us) (consumed_wires V c1.vars us) n m c1 h.results vs ks taken (told.places (sole_now low c1 b2.sole))
+      each = results_are f.params h.params taker takes W V U (used_wires V c1.vars us) (consumed_wires V c1.vars us) n m c1 (λ w. owners_of U d.vars (carried takers vs ++ []) w) h.results vs ks taken tells.given told.plain G.sole.grown (told.places (sole_now low c1 b2.sole))
           (λ t v k had is none w e. is_new f.params h.params taker takes W V U (used_wires V c1.vars us) (consumed_wires V c1.vars us) n m c1 w F.whole (facts w) (owned w) later tells.done.agree t v k had is none e)
           (λ p lt. tells.done.agree p (let g = G.sole.grown in omega (arith, g, lt)) ∙ F.agree p lt);
       one = λ w. let a = stands3.one w in let b = named w in omega (arith, a, b);
@@ -175,6 +188,8 @@ module _ (words : List (NameId × BuiltIn)) (before : List Function) (taker : Ty
       touches = subst (λ (x : DraftForm). Touches (changeable out W start.vars []) s0.built.draft x) (sym its) touches3;
       plain = λ q. subst (λ (x : DraftForm). StaysPlain s0.built.draft x) (sym its) (λ w k. F.plain q w (subst (λ (x : DraftForm). StaysPlain x s3.built.draft) draft2 (tells.done.plain q) w k));
       unmade = subst Unmade (sym its) tells.done.unmade;
+      ours = ours;
+      began = λ k le b. tells.began k (omega (arith, le, later)) (subst (λ (cs : List Caller). k ≤ began_or k cs) (sym (callers2 ∙ F.leaves.callers)) b);
     }
       where
         its : (flat e s0).built.draft ≡ s3.built.draft

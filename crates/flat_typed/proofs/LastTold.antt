@@ -114,14 +114,14 @@ had_places c (v ∷ vs) h = (λ lt. go lt (cases_lt 0 (owners v.place c.vars)), 
 -- ---- what is told of returned values
 
 abbrev pub PlainFor : Ty → Value → Type 0
-PlainFor t v = t.classical ≡ true → is_linear v.origin ≡ false
+PlainFor t v = t.classical ≡ true → (v.ty.classical ≡ true) × (is_linear v.origin ≡ false)
 
 module _ (S : InstanceKey → Signature → Type 0) where
   keep : {A : Type 0} {Q : A → Type 0} (K : Type 0) (m : Check A) → Ensures S (λ c. ⊤) m (λ a d. Q a) → Ensures S (λ c. K) m (λ a d. K × Q a)
   keep {Q = Q} K m h = record { runs = λ c k. gives-more S 0 (λ r. Q r.0) (λ r. K × Q r.0) (m c) (h.runs c tt) (λ r q. (k, q)) }
 
   class_of : (t : Ty) (v : Value) → (t.classical && not v.ty.classical) ≡ false → IsPlain v → PlainFor t v
-  class_of t v e p q = p (go v.ty.classical (ap (λ b. b && not v.ty.classical) (sym q) ∙ e))
+  class_of t v e p q = let c = go v.ty.classical (ap (λ b. b && not v.ty.classical) (sym q) ∙ e) in (c, p c)
     where
       go : (b : Bool) → not b ≡ false → b ≡ true
       go true z = refl
