@@ -107,3 +107,9 @@ pub mod BuiltInCalls
 pub mod BodyEntering
 pub mod Returning
 pub mod CallFacts
+pub mod PlainValues
+pub mod LastTold
+pub mod Results
+pub mod ReturnedValues
+pub mod BodyEnds
+pub mod Bodies
