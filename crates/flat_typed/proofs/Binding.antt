@@ -62,7 +62,7 @@ bound_sum f g h vs x u = go (find_var vs (variable x)) refl
 
 -- ---- lists of variables
 
-all_appended : (Q : Var → Type 0) (vs : List Var) (u : Var) → AllOf Q vs → Q u → AllOf Q (vs ++ u ∷ [])
+pub all_appended : (Q : Var → Type 0) (vs : List Var) (u : Var) → AllOf Q vs → Q u → AllOf Q (vs ++ u ∷ [])
 all_appended Q [] u h q = (q, tt)
 all_appended Q (w ∷ ws) u h q = (h.0, all_appended Q ws u h.1 q)
 
