@@ -78,7 +78,6 @@ pub mod Copying
 pub mod Repeating
 pub mod Measuring
 pub mod Outer
-pub mod Entering
 pub mod SameEnds
 pub mod Held
 pub mod Joining
@@ -114,3 +113,4 @@ pub mod Results
 pub mod ReturnedValues
 pub mod BodyEnds
 pub mod Bodies
+pub mod CallAnswers

@@ -158,7 +158,7 @@ module _ (out : Outside) (held : List (List Part)) (after : Places) (h : Header)
     pub vars_same : AllOf (SameFor U after) d.vars
     vars_same = vars_stay after xs b.answers (λ p. others p + owned p xs) d.vars sole (λ p. omega arith)
 
-    under_same : AllOf (λ (v : Value). U v.place ≡ after v.place) under
+    pub under_same : AllOf (λ (v : Value). U v.place ≡ after v.place) under
     under_same = values_stay after xs b.answers under (λ p. let a = counted p in let e = sole p in omega (arith, a, e))
 
     pub shows_each : ListBoth (λ (x : Value) (k : Known). U x.place ≡ operands_of k) xs b.answers
