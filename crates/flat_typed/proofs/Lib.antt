@@ -114,3 +114,4 @@ pub mod ReturnedValues
 pub mod BodyEnds
 pub mod Bodies
 pub mod CallAnswers
+pub mod CallDone
