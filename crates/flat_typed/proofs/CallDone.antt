@@ -8,6 +8,8 @@ use Rattle.silq_tree.specs.Syntax.{Function}
 use Rattle.silq_types.specs.declared.built_in.BuiltIn.{BuiltIn}
 use Rattle.silq_tree.specs.declared.node.NameId.{NameId}
 use Rattle.silq_types.specs.declared.need.Need.{Need}
+use Rattle.silq_types.specs.declared.need.Need.TheVariants as needs
+use Rattle.silq_types.specs.declared.values.Part.{Part}
 use Rattle.silq_types.specs.declared.signature.Param.{Param}
 use Rattle.silq_types.specs.declared.signature.Returned.{Returned}
 use Rattle.silq_types.specs.declared.types.Ty.{Ty}
@@ -16,11 +18,11 @@ use Rattle.silq_types.specs.declared.values.Var.{Var}
 use Rattle.silq_types.specs.Types.{Statics}
 use Rattle.silq_types.specs.Calls.{is_consumed}
 use Rattle.silq_types.specs.Programs.{paired}
-use Rattle.silq_mean.specs.Written.{Header}
+use Rattle.silq_mean.specs.Written.{Header, is_empty}
 use Rattle.check_scope.specs.declared.uses.Use.{Use}
-use Rattle.check_scope.specs.Context.{Scope, Context}
+use Rattle.check_scope.specs.Context.{Scope, Context, indices}
 use Rattle.check_expr.specs.Expression.{asked_by, may_call, is_unmarked, is_run_time, is_qfree, all_lifted, lone_linear}
-use Rattle.check_expr.specs.Owners.{owned, handed_arguments, Sole, Proper}
+use Rattle.check_expr.specs.Owners.{owners, owned, handed_arguments, Sole, Proper}
 use Rattle.check_fun.specs.Program.{param_vars}
 use Rattle.silq_mean.specs.declared.receiver.Receiver.{Receiver}
 use Rattle.silq_mean.specs.declared.receiver.Receiver.TheVariants.{CallResult}
@@ -29,22 +31,23 @@ use Rattle.silq_mean.specs.Meaning.{body_of, names_of, params_of}
 use Rattle.flat_core.specs.declared.step.WireId.{WireId}
 use Rattle.flat_core.specs.Label.{wire_in}
 use Rattle.bit_arith.specs.Built.{Setting}
+use Rattle.bit_arith.specs.Calls.{Targets}
 use Rattle.flat_form.specs.declared.known.TypedBits.{TypedBits}
 use Rattle.flat_form.specs.declared.known.Known.{Known}
 use Rattle.flat_form.specs.declared.known.Known.TheVariants.{Shown}
-use Rattle.flat_form.specs.State.{Caller, Flattening, began_or, wires_so_far}
+use Rattle.flat_form.specs.State.{Caller, Flattening, operands_of, wires_so_far}
 use Rattle.flat_form.specs.Flat.{call_began, enter, back_to, flat}
 use Rattle.flat_form.specs.Fine.{Fine, FineStep}
 use Rattle.flat_form.specs.Names.{AllOf, names}
 use Rattle.flat_form.specs.Good.{Good, IsKnown}
 use Rattle.flat_form.proofs.Both.{all_reverse}
 use Rattle.flat_form.proofs.Goods.{good_flat, good_step}
-use Rattle.flat_typed.specs.Places.{Places, is_part, carriers, owners_of}
+use Rattle.flat_typed.specs.Places.{Places, is_part, carriers, linear_carriers, owners_of}
 use Rattle.flat_typed.specs.Relation.{Outside, Stands, PartsDiffer, BeganFrom, IsTakenOver, is_argument, began_of}
-use Rattle.flat_typed.specs.Footprint.{used_wires, consumed_wires}
+use Rattle.flat_typed.specs.Footprint.{used_wires, consumed_wires, StaysPlain}
 use Rattle.flat_typed.specs.Scopes.{as_meaning, scope_for}
-use Rattle.flat_typed.specs.Done.{Begins, ExprTells, StmtBegins, OpenAir, kinds}
-use Rattle.flat_typed.specs.Calls.{Three, carried, ArgsTells, BodyDone, BodyFine, first_context}
+use Rattle.flat_typed.specs.Done.{Begins, ExprTells, StmtBegins, changeable, kinds}
+use Rattle.flat_typed.specs.Calls.{Three, carried, named_times, ArgsTells, BodyDone, BodyFine, first_context}
 use Rattle.flat_typed.proofs.Ordered.{clash}
 use Rattle.flat_typed.proofs.Owning.{all_front}
 use Rattle.flat_typed.proofs.Scopes.{taken_param}
@@ -52,9 +55,12 @@ use Rattle.flat_typed.proofs.Surrounding.{all_unnamed}
 use Rattle.flat_typed.proofs.Parameters.{operands_at, at_places, AllEntered, all_entered, params_whole, params_sole}
 use Rattle.flat_typed.proofs.BodyEntering.{inside, begun_body, body_begin, enters, enters_fine, stands_entered}
 use Rattle.flat_typed.proofs.CallArguments.{IsSuited, IsArgument, all_arguments, weighs}
-use Rattle.flat_typed.proofs.CallResults.{IsReturned}
+use Rattle.flat_typed.proofs.CallResults.{IsHanded}
+use Rattle.flat_typed.proofs.CallLists.{all_handed, lifted_carry}
+use Rattle.flat_typed.proofs.Agreeing.{holders_agree, carriers_agree}
+use Rattle.flat_typed.proofs.Handing.{with_all}
 use Rattle.flat_typed.proofs.CallFacts.{Made}
-use Rattle.flat_typed.proofs.Returning.{returned}
+use Rattle.flat_typed.proofs.Returning.{returned, ours, alone, changed_is, vars_same, under_same, shows_each, stands_returned}
 use Rattle.flat_typed.proofs.CallAnswers.{carried_moved, all_are_taken, three_long}
 use Rattle.flat_form.specs.Shows.{ListBoth}
 
@@ -84,6 +90,22 @@ calls_plain marks.Lifted n a u = a
 and_left : (a b : Bool) → (a && b) ≡ false → a ≡ true → b ≡ false
 and_left true b e h = e
 and_left false b e h = clash (sym h)
+
+-- ---- places of parts, which expressions leave
+
+abbrev PartBefore : ℕ → Part × (Ty × ℕ) → Type 0
+PartBefore n k = not (is_empty (indices k.0)) ≡ true → k.1.1 < n
+
+placed_kinds : (n : ℕ) (vs ws : List Var) → kinds ws ≡ kinds vs → AllOf (λ v. is_part v ≡ true → v.place < n) vs → AllOf (λ v. is_part v ≡ true → v.place < n) ws
+placed_kinds n vs ws e h = back ws (subst (AllOf (PartBefore n)) (sym e) (there vs h))
+  where
+    there : (us : List Var) → AllOf (λ v. is_part v ≡ true → v.place < n) us → AllOf (PartBefore n) (kinds us)
+    there [] q = tt
+    there (u ∷ us) q = (q.0, there us q.1)
+
+    back : (us : List Var) → AllOf (PartBefore n) (kinds us) → AllOf (λ v. is_part v ≡ true → v.place < n) us
+    back [] q = tt
+    back (u ∷ us) q = (q.0, back us q.1)
 
 -- ---- the call
 
@@ -188,3 +210,84 @@ module _ (out : Outside) (sc : Scope) (low : ℕ) (others : ℕ → ℕ) (W : Pl
 
   pub results_began : AllOf (BeganFrom (wires_so_far s)) body.answers
   results_began = body.began (wires_so_far s) a.done.touches.grown (first_began (map taken_param h.params) vs ks (argument_takers h.params) a.done.each)
+
+  -- ---- what the caller has then
+
+  module _ (need : Need) (wants : List Ty) (xs : List Value) (e : Context) (made : Made (is_qfree fun.mark && all_lifted h.params vs) h.params vs d rs xs e) (proper : Proper h.params rs)
+      (arg_sole : (low : ℕ) (others : ℕ → ℕ) → Sole low others c → Sole low (λ p. others p + handed_arguments needs.Held (map asked_by h.params) p vs) d) (named : not (is_consumed need) && lone_linear xs ≡ false)
+      (inputs : (w : WireId) → wires_so_far s1 ≤ w.number → (wire_in (flat B begun).built.draft.wires w).input ≡ false) where
+    abbrev lifts : Bool
+    lifts = is_qfree fun.mark && all_lifted h.params vs
+
+    abbrev args : List Value
+    args = carried (map taken_param h.params) vs
+
+    abbrev used : Targets
+    used = used_wires W c.vars us
+
+    abbrev gone : Targets
+    gone = consumed_wires W c.vars us
+
+    abbrev n : ℕ
+    n = wires_so_far s
+
+    up : c.next ≤ d.next
+    up = (arg_sole c.next others (record { grown = omega arith; one = b0.sole.one; ahead = b0.sole.ahead })).grown
+
+    sole_here : (p : ℕ) → owners p d.vars + (others p + owned p xs) ≤ 1
+    sole_here p = subst (λ l. owners p l + (others p + owned p xs) ≤ 1) made.vars ((made.sole low others (arg_sole low others b0.sole)).one p)
+
+    ours_here : (w : WireId) → 1 ≤ named_times body.answers w → (1 ≤ carriers after w args) ⊎ (wires_so_far s1 ≤ w.number)
+    ours_here = ours out sc.held after h vs ks under d s1 s.values fun statics B rs long entered a.done.stands good1 body
+
+    all_args : Three (IsArgument after used gone n c.next (λ w. owners_of after d.vars (args ++ under) w) args (wires_so_far s1)) h.params vs ks
+    all_args = all_arguments after used gone n c.next (λ w. owners_of after d.vars (args ++ under) w) args (wires_so_far s1) h.params vs ks a.done.each a.given a.done.apart args_known suited
+
+    handed : ListBoth (IsHanded after used n c.next) xs body.answers
+    handed = all_handed after used gone n c.next d.next (wires_so_far s1) (λ w. owners_of after d.vars (args ++ under) w) args h.params vs ks all_args up a.done.touches.grown lifts rs xs body.answers body.each made.each (weighs h.params rs proper) ours_here
+
+    placed : AllOf (λ v. is_part v ≡ true → v.place < c.next) d.vars
+    placed = placed_kinds c.next c.vars d.vars a.done.kinds_stay b0.placed
+
+    plain_here : lifts ≡ true → StaysPlain s1.built.draft (flat B begun).built.draft × ((w : WireId) → linear_carriers after w args ≡ 0)
+    plain_here q = go (is_qfree fun.mark) (all_lifted h.params vs) refl refl q
+      where
+        go : (x y : Bool) → is_qfree fun.mark ≡ x → all_lifted h.params vs ≡ y → (x && y) ≡ true → StaysPlain s1.built.draft (flat B begun).built.draft × ((w : WireId) → linear_carriers after w args ≡ 0)
+        go true true f l z = (body.plain f, λ w. lifted_carry after w h.params vs l)
+        go true false f l z = clash (sym z)
+        go false y f l z = clash (sym z)
+
+    abbrev U : Places
+    U = with_all after xs body.answers
+
+    stands_then : Stands out sc.held U (xs ++ under) (record { vars = d.vars; next = e.next }) (returned s1 s.values (flat B begun))
+    stands_then = stands_returned out sc.held after h vs ks under d s1 s.values fun statics B rs long entered a.done.stands good1 body xs lifts d.next used n c.next handed made.each others sole_here b0.counted placed plain_here inputs e.next
+
+    shown_here : ListBoth (λ (x : Value) (k : Known). U x.place ≡ operands_of k) xs body.answers
+    shown_here = shows_each out sc.held after h vs ks under d s1 s.values fun statics B rs long entered a.done.stands good1 body xs lifts d.next used n c.next handed made.each others sole_here b0.counted placed plain_here inputs
+
+    -- no one else owns a wire of the values
+    alone_here : (w : WireId) → 1 ≤ named_times body.answers w → owners_of U e.vars under w ≡ 0
+    alone_here w le = subst (λ l. owners_of U l under w ≡ 0) (sym made.vars) (
+        let p = holders_agree U after d.vars d.vars w (vars_same out sc.held after h vs ks under d s1 s.values fun statics B rs long entered a.done.stands good1 body xs lifts d.next used n c.next handed made.each others sole_here b0.counted placed plain_here inputs) in
+        let q = carriers_agree U after w under (under_same out sc.held after h vs ks under d s1 s.values fun statics B rs long entered a.done.stands good1 body xs lifts d.next used n c.next handed made.each others sole_here b0.counted placed plain_here inputs) in
+        let z = alone out sc.held after h vs ks under d s1 s.values fun statics B rs long entered a.done.stands good1 body w le in
+        omega (arith, p, q, z))
+
+    moved_here : (w : WireId) → 1 ≤ named_times body.answers w → (gone w ≡ true) ⊎ (n ≤ w.number)
+    moved_here w le = go (ours_here w le)
+      where
+        go : (1 ≤ carriers after w args) ⊎ (wires_so_far s1 ≤ w.number) → (gone w ≡ true) ⊎ (n ≤ w.number)
+        go (inl q) = carried_moved after used gone n c.next w (map taken_param h.params) vs ks a.done.each q
+        go (inr l) = inr (let g = a.done.touches.grown in omega (arith, g, l))
+
+    untouched : (w : WireId) → w.number < n → gone w ≡ false → changeable (inside out after under d) (operands_at ks) (param_vars 0 fun.params h.params) [] w ≡ false
+    untouched w lt z = go (changeable (inside out after under d) (operands_at ks) (param_vars 0 fun.params h.params) [] w) refl
+      where
+        moved : (gone w ≡ true) ⊎ (n ≤ w.number) → true ≡ false
+        moved (inl q) = sym q ∙ z
+        moved (inr l) = absurd (omega (arith, l, lt))
+
+        go : (x : Bool) → changeable (inside out after under d) (operands_at ks) (param_vars 0 fun.params h.params) [] w ≡ x → x ≡ false
+        go false q = refl
+        go true q = moved (carried_moved after used gone n c.next w (map taken_param h.params) vs ks a.done.each (changed_is out sc.held after h vs ks under d s1 s.values fun statics B rs long entered a.done.stands good1 body w q).0)
