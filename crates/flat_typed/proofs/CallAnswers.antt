@@ -83,13 +83,20 @@ module _ (W U : Places) (need : Need) (used consumed : Targets) (n low : ℕ) (l
           let z = alone w (omega (arith, a)) in
           absurd (omega (arith, z, le))
 
+module _ (W : Places) (used : Targets) (n low : ℕ) where
   pub all_typed : (xs : List Value) (ks : List Known) → ListBoth (IsHanded W used n low) xs ks → AllOf IsTyped ks
   all_typed [] [] h = tt
   all_typed [] (k ∷ ks) h = absurd h
   all_typed (x ∷ xs) [] h = absurd h
   all_typed (x ∷ xs) (k ∷ ks) h = (subst IsTyped (sym h.0.shows) tt, all_typed xs ks h.1)
 
-  pub all_own : (xs : List Value) (ks : List Known) → ListBoth (IsHanded W used n low) xs ks → AllOf (λ k. is_own k ≡ true) ks
+  pub each_own : (xs : List Value) (ks : List Known) → ListBoth (IsHanded W used n low) xs ks → AllOf (λ k. is_own k ≡ true) ks
+  each_own [] [] h = tt
+  each_own [] (k ∷ ks) h = absurd h
+  each_own (x ∷ xs) [] h = absurd h
+  each_own (x ∷ xs) (k ∷ ks) h = (ap is_own h.0.shows, each_own xs ks h.1)
+
+  pub all_own : (xs : List Value) (ks : List Known) → ListBoth (IsHanded W used n low) xs ks → ListBoth (λ (x : Value) (k : Known). is_own k ≡ true) xs ks
   all_own [] [] h = tt
   all_own [] (k ∷ ks) h = absurd h
   all_own (x ∷ xs) [] h = absurd h

@@ -29,6 +29,7 @@ use Rattle.silq_mean.specs.declared.receiver.Receiver.TheVariants.{CallResult}
 use Rattle.silq_mean.specs.Effect.{Effect, ◌>>◌, step, enter_body, leave_body}
 use Rattle.silq_mean.specs.Meaning.{body_of, names_of, params_of}
 use Rattle.flat_core.specs.declared.step.WireId.{WireId}
+use Rattle.flat_core.specs.declared.step.End.TheVariants.{Dropped}
 use Rattle.flat_core.specs.Label.{wire_in}
 use Rattle.bit_arith.specs.Built.{Setting}
 use Rattle.bit_arith.specs.Calls.{Targets}
@@ -44,9 +45,9 @@ use Rattle.flat_form.proofs.Both.{all_reverse}
 use Rattle.flat_form.proofs.Goods.{good_flat, good_step}
 use Rattle.flat_typed.specs.Places.{Places, is_part, carriers, linear_carriers, owners_of}
 use Rattle.flat_typed.specs.Relation.{Outside, Stands, PartsDiffer, BeganFrom, IsTakenOver, is_argument, began_of}
-use Rattle.flat_typed.specs.Footprint.{used_wires, consumed_wires, StaysPlain}
+use Rattle.flat_typed.specs.Footprint.{used_wires, consumed_wires, Touches, StaysPlain, Unmade}
 use Rattle.flat_typed.specs.Scopes.{as_meaning, scope_for}
-use Rattle.flat_typed.specs.Done.{Begins, ExprTells, StmtBegins, changeable, kinds}
+use Rattle.flat_typed.specs.Done.{Begins, ExprTells, StmtBegins, Leaves, EndsDropped, carrying, need_for, changeable, kinds}
 use Rattle.flat_typed.specs.Calls.{Three, carried, named_times, ArgsTells, BodyDone, BodyFine, first_context}
 use Rattle.flat_typed.proofs.Ordered.{clash}
 use Rattle.flat_typed.proofs.Owning.{all_front}
@@ -56,12 +57,13 @@ use Rattle.flat_typed.proofs.Parameters.{operands_at, at_places, AllEntered, all
 use Rattle.flat_typed.proofs.BodyEntering.{inside, begun_body, body_begin, enters, enters_fine, stands_entered}
 use Rattle.flat_typed.proofs.CallArguments.{IsSuited, IsArgument, all_arguments, weighs}
 use Rattle.flat_typed.proofs.CallResults.{IsHanded}
-use Rattle.flat_typed.proofs.CallLists.{all_handed, lifted_carry}
+use Rattle.flat_typed.proofs.CallLists.{all_handed, old_stays, lifted_carry}
+use Rattle.flat_typed.proofs.Growing.{touches_then}
 use Rattle.flat_typed.proofs.Agreeing.{holders_agree, carriers_agree}
 use Rattle.flat_typed.proofs.Handing.{with_all}
 use Rattle.flat_typed.proofs.CallFacts.{Made}
 use Rattle.flat_typed.proofs.Returning.{returned, ours, alone, changed_is, vars_same, under_same, shows_each, stands_returned}
-use Rattle.flat_typed.proofs.CallAnswers.{carried_moved, all_are_taken, three_long}
+use Rattle.flat_typed.proofs.CallAnswers.{all_answers, all_sharing, all_typed, all_own, each_own, several_own, stands_carried, carried_moved, all_are_taken, three_long}
 use Rattle.flat_form.specs.Shows.{ListBoth}
 
 -- ---- marks
@@ -291,3 +293,43 @@ module _ (out : Outside) (sc : Scope) (low : ℕ) (others : ℕ → ℕ) (W : Pl
         go : (x : Bool) → changeable (inside out after under d) (operands_at ks) (param_vars 0 fun.params h.params) [] w ≡ x → x ≡ false
         go false q = refl
         go true q = moved (carried_moved after used gone n c.next w (map taken_param h.params) vs ks a.done.each (changed_is out sc.held after h vs ks under d s1 s.values fun statics B rs long entered a.done.stands good1 body w q).0)
+
+    -- the relation, on the state behind the whole call
+    stands_here : Stands out sc.held U (carrying (need_for need xs) xs body.answers ++ under) e (flat F s)
+    stands_here =
+        subst (Stands out sc.held U (carrying (need_for need xs) xs body.answers ++ under) e) (sym behind)
+        (subst (λ l. Stands out sc.held U (carrying (need_for need xs) xs body.answers ++ under) (record { vars = l; next = e.next }) (returned s1 s.values (flat B begun))) (sym made.vars)
+        (stands_carried out sc.held U under (record { vars = d.vars; next = e.next }) (returned s1 s.values (flat B begun)) need xs body.answers
+        (all_own after used n c.next xs body.answers handed) named stands_then))
+
+    pub call_tells : ExprTells out sc need wants F W under us c s xs e
+    call_tells = record {
+      done = record {
+        fine = call_fine;
+        after = U;
+        agree = λ p lt. old_stays after used n c.next xs body.answers handed p lt ∙ a.done.agree p lt;
+        answers = body.answers;
+        values = ap (λ (x : Flattening). x.values) behind ∙ ap (λ l. l ++ s.values) body.values;
+        each = all_answers after U need used gone n c.next lifts vs d.next rs xs body.answers handed made.each shown_here results_began moved_here body.one;
+        stands = stands_here;
+        kinds_stay = ap (λ l. kinds l) made.vars ∙ a.done.kinds_stay;
+        leaves =
+            subst (Leaves s) (sym behind)
+            (record { setting = body.setting ∙ a.done.leaves.setting; callers = a.done.leaves.callers; blocks = a.done.leaves.blocks; names = a.done.leaves.names });
+        touches =
+            subst (λ (x : Flattening). Touches gone s.built.draft x.built.draft) (sym behind)
+            (touches_then gone (changeable (inside out after under d) (operands_at ks) (param_vars 0 fun.params h.params) []) s.built.draft s1.built.draft (flat B begun).built.draft a.done.touches body.touches untouched);
+        plain = λ q.
+            subst (λ (x : Flattening). StaysPlain s.built.draft x.built.draft) (sym behind)
+            (λ w i. a.done.plain q w (body.plain (calls_plain sc.this.mark fun.mark allowed q) w i));
+        unmade = subst (λ (x : Flattening). Unmade x.built.draft) (sym behind) body.unmade;
+      };
+      sharing = all_sharing after U need used gone n c.next lifts vs d.next (λ w. owners_of U e.vars under w) rs xs body.answers handed made.each alone_here;
+      typed = λ q. all_typed after used n c.next xs body.answers handed;
+      untold = subst (λ (x : Flattening). AllOf (EndsDropped n x.built.draft) body.answers) (sym behind) (all_dropped body.answers body.untold);
+      several = several_own body.answers (each_own after used n c.next xs body.answers handed);
+    }
+      where
+        all_dropped : (ls : List Known) → ((w : WireId) → 1 ≤ named_times ls w → (wire_in (flat B begun).built.draft.wires w).ending ≡ Dropped) → AllOf (EndsDropped n (flat B begun).built.draft) ls
+        all_dropped [] q = tt
+        all_dropped (k ∷ ls) q = ((λ w le l m. q w (omega (arith, le))), all_dropped ls (λ w le. q w (omega (arith, le))))
