@@ -115,3 +115,4 @@ pub mod BodyEnds
 pub mod Bodies
 pub mod CallAnswers
 pub mod CallDone
+pub mod Inputs
