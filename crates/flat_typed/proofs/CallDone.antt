@@ -58,6 +58,8 @@ use Rattle.flat_typed.proofs.BodyEntering.{inside, begun_body, body_begin, enter
 use Rattle.flat_typed.proofs.CallArguments.{IsSuited, IsArgument, all_arguments, weighs}
 use Rattle.flat_typed.proofs.CallResults.{IsHanded}
 use Rattle.flat_typed.proofs.CallLists.{all_handed, old_stays, lifted_carry}
+use Rattle.flat_typed.proofs.CallMarks.{calls_open, calls_plain, and_left, placed_kinds}
+use Rattle.flat_typed.proofs.Inputs.{later_none}
 use Rattle.flat_typed.proofs.Growing.{touches_then}
 use Rattle.flat_typed.proofs.Agreeing.{holders_agree, carriers_agree}
 use Rattle.flat_typed.proofs.Handing.{with_all}
@@ -65,49 +67,6 @@ use Rattle.flat_typed.proofs.CallFacts.{Made}
 use Rattle.flat_typed.proofs.Returning.{returned, ours, alone, changed_is, vars_same, under_same, shows_each, stands_returned}
 use Rattle.flat_typed.proofs.CallAnswers.{all_answers, all_sharing, all_typed, all_own, each_own, several_own, stands_carried, carried_moved, all_are_taken, three_long}
 use Rattle.flat_form.specs.Shows.{ListBoth}
-
--- ---- marks
-
-calls_open : (m n : Mark) → may_call m n ≡ true → is_unmarked n ≡ true → is_unmarked m ≡ true
-calls_open marks.Plain n a u = refl
-calls_open marks.Mfree marks.Plain a u = clash (sym a)
-calls_open marks.Mfree marks.Mfree a u = clash (sym u)
-calls_open marks.Mfree marks.Qfree a u = clash (sym u)
-calls_open marks.Mfree marks.Lifted a u = clash (sym u)
-calls_open marks.Qfree marks.Plain a u = clash (sym a)
-calls_open marks.Qfree marks.Mfree a u = clash (sym u)
-calls_open marks.Qfree marks.Qfree a u = clash (sym u)
-calls_open marks.Qfree marks.Lifted a u = clash (sym u)
-calls_open marks.Lifted marks.Plain a u = clash (sym a)
-calls_open marks.Lifted marks.Mfree a u = clash (sym u)
-calls_open marks.Lifted marks.Qfree a u = clash (sym u)
-calls_open marks.Lifted marks.Lifted a u = clash (sym u)
-
-pub calls_plain : (m n : Mark) → may_call m n ≡ true → is_qfree m ≡ true → is_qfree n ≡ true
-calls_plain marks.Plain n a u = clash (sym u)
-calls_plain marks.Mfree n a u = clash (sym u)
-calls_plain marks.Qfree n a u = a
-calls_plain marks.Lifted n a u = a
-
-and_left : (a b : Bool) → (a && b) ≡ false → a ≡ true → b ≡ false
-and_left true b e h = e
-and_left false b e h = clash (sym h)
-
--- ---- places of parts, which expressions leave
-
-abbrev PartBefore : ℕ → Part × (Ty × ℕ) → Type 0
-PartBefore n k = not (is_empty (indices k.0)) ≡ true → k.1.1 < n
-
-placed_kinds : (n : ℕ) (vs ws : List Var) → kinds ws ≡ kinds vs → AllOf (λ v. is_part v ≡ true → v.place < n) vs → AllOf (λ v. is_part v ≡ true → v.place < n) ws
-placed_kinds n vs ws e h = back ws (subst (AllOf (PartBefore n)) (sym e) (there vs h))
-  where
-    there : (us : List Var) → AllOf (λ v. is_part v ≡ true → v.place < n) us → AllOf (PartBefore n) (kinds us)
-    there [] q = tt
-    there (u ∷ us) q = (q.0, there us q.1)
-
-    back : (us : List Var) → AllOf (PartBefore n) (kinds us) → AllOf (λ v. is_part v ≡ true → v.place < n) us
-    back [] q = tt
-    back (u ∷ us) q = (q.0, back us q.1)
 
 -- ---- the call
 
@@ -216,8 +175,10 @@ module _ (out : Outside) (sc : Scope) (low : ℕ) (others : ℕ → ℕ) (W : Pl
   -- ---- what the caller has then
 
   module _ (need : Need) (wants : List Ty) (xs : List Value) (e : Context) (made : Made (is_qfree fun.mark && all_lifted h.params vs) h.params vs d rs xs e) (proper : Proper h.params rs)
-      (arg_sole : (low : ℕ) (others : ℕ → ℕ) → Sole low others c → Sole low (λ p. others p + handed_arguments needs.Held (map asked_by h.params) p vs) d) (named : not (is_consumed need) && lone_linear xs ≡ false)
-      (inputs : (w : WireId) → wires_so_far s1 ≤ w.number → (wire_in (flat B begun).built.draft.wires w).input ≡ false) where
+      (arg_sole : (low : ℕ) (others : ℕ → ℕ) → Sole low others c → Sole low (λ p. others p + handed_arguments needs.Held (map asked_by h.params) p vs) d) (named : not (is_consumed need) && lone_linear xs ≡ false) where
+    inputs : (w : WireId) → wires_so_far s1 ≤ w.number → (wire_in (flat B begun).built.draft.wires w).input ≡ false
+    inputs w le = later_none B begun w le
+
     abbrev lifts : Bool
     lifts = is_qfree fun.mark && all_lifted h.params vs
 

@@ -116,3 +116,5 @@ pub mod Bodies
 pub mod CallAnswers
 pub mod CallDone
 pub mod Inputs
+pub mod CallMarks
+pub mod OwnCalls
