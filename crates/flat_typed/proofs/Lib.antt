@@ -70,3 +70,4 @@ pub mod PlaceLent
 pub mod UsedPlaces
 pub mod TakingOut
 pub mod GivingBack
+pub mod PartWalk
