@@ -116,13 +116,13 @@ none_out (v ∷ vs) y h = ap (λ t. cond (t && (v.consumed && same_name v.part.n
 
 -- ---- parts of lists of wires
 
-all_take : (Q : WireId → Type 0) (n : ℕ) (ps : List Operand) → AllOf Q (wires_in ps) → AllOf Q (wires_in (take n ps))
+pub all_take : (Q : WireId → Type 0) (n : ℕ) (ps : List Operand) → AllOf Q (wires_in ps) → AllOf Q (wires_in (take n ps))
 all_take Q zero ps h = tt
 all_take Q (suc n) [] h = tt
 all_take Q (suc n) (Const b ∷ ps) h = all_take Q n ps h
 all_take Q (suc n) (Literal l ∷ ps) h = (h.0, all_take Q n ps h.1)
 
-all_drop : (Q : WireId → Type 0) (n : ℕ) (ps : List Operand) → AllOf Q (wires_in ps) → AllOf Q (wires_in (drop n ps))
+pub all_drop : (Q : WireId → Type 0) (n : ℕ) (ps : List Operand) → AllOf Q (wires_in ps) → AllOf Q (wires_in (drop n ps))
 all_drop Q zero ps h = h
 all_drop Q (suc n) [] h = tt
 all_drop Q (suc n) (Const b ∷ ps) h = all_drop Q n ps h

@@ -122,7 +122,7 @@ module _ (S : InstanceKey → Signature → Type 0) (low : ℕ) (W : Places) (vs
       (no_uses j needs.Held (static_index (is_static sc.statics j) (value sc.statics j) (Some []) a.rest a.is))
       ∙ (append-nil (place_use sc.statics (find_var vs0 (variable x)) (more i (more j none)) need ++ []) ∙ append-nil (place_use sc.statics (find_var vs0 (variable x)) (more i (more j none)) need))
 
-  after_use : (need : Need) (c d : Context) (x : NameId) (q : Part) → Used sc need c x q d → AllLeft vs0 c.vars × AllOf (FitsPart W c.vars) c.vars → AllLeft vs0 d.vars × AllOf (FitsPart W d.vars) d.vars
+  pub after_use : (need : Need) (c d : Context) (x : NameId) (q : Part) → Used sc need c x q d → AllLeft vs0 c.vars × AllOf (FitsPart W c.vars) c.vars → AllLeft vs0 d.vars × AllOf (FitsPart W d.vars) d.vars
   after_use need c d x q (inr u) h = subst (λ l. AllLeft vs0 l × AllOf (FitsPart W l) l) (sym u.left) h
   after_use need c d x q (inl u) h = go u.left
     where

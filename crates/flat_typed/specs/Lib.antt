@@ -10,3 +10,7 @@ pub mod Laws
 pub mod Stay
 pub mod StatementLaws
 pub mod Steps
+pub mod Tells
+pub mod Settled
+pub mod Endings
+pub mod Bodies
