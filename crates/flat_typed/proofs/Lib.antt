@@ -93,6 +93,7 @@ pub mod PlaceLent
 pub mod UsedPlaces
 pub mod TakingOut
 pub mod GivingBack
+pub mod PartWalk
 pub mod Spending
 pub mod Gone
 pub mod Answering

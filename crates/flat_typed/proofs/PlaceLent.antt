@@ -178,4 +178,4 @@ module _ (out : Outside) (sc : Scope) (low : ℕ) (others : ℕ → ℕ) (W : Pl
   pub lent_tells : (wants : List Ty) → ExprTells out sc needs.Consumed wants (step (give_part needs.Consumed u.part.name (indices u.part))) W under (u ∷ []) c s (handed_on p ∷ []) left
   lent_tells wants =
       subst (λ (q : Part). ExprTells out sc needs.Consumed wants (step (give_part needs.Consumed q.name (indices q))) W under (u ∷ []) c s (handed_on p ∷ []) left) its
-      (own_tells out sc needs.Consumed wants E W under (u ∷ []) c s (handed_on p) left lent_done its_bits (ap (λ k. k ∷ s.values) given_is) tt refl (part_class o.ty.classical o.ty.shape is p.ty of.kind ∙ quantum))
+      (own_tells out sc needs.Consumed wants E W under (u ∷ []) c s (handed_on p) left lent_done its_bits (ap (λ k. k ∷ s.values) given_is) refl tt refl (part_class o.ty.classical o.ty.shape is p.ty of.kind ∙ quantum))
