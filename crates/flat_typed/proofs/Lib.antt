@@ -119,3 +119,4 @@ pub mod CallDone
 pub mod Inputs
 pub mod CallMarks
 pub mod OwnCalls
+pub mod CallsStated
