@@ -1,6 +1,5 @@
 -- The answers of a call in turn: as values under way, and which of them carry their wires.
-use Rattle.std.proofs.Common.{◌≡◌, ◌⊎◌, inl, inr, ℕ, zero, suc, ◌+◌, ◌≤◌, ◌<◌, Bool, true, false, cond, not, ◌&&◌, ◌||◌, List, [], ◌∷◌, ◌++◌, length, map, refl, sym, ap, ap₂, ◌∙◌, subst, arith}
-use Rattle.std.specs.List.{list_any}
+use Rattle.std.proofs.Common.{◌≡◌, ◌⊎◌, inl, inr, ℕ, suc, ◌+◌, ◌≤◌, ◌<◌, Bool, true, false, cond, not, ◌&&◌, List, [], ◌∷◌, ◌++◌, length, refl, sym, ap, ◌∙◌, subst, arith}
 use Rattle.std.proofs.lemmas.Bool.{cases_lt}
 use Rattle.silq_types.specs.declared.need.Need.{Need}
 use Rattle.silq_types.specs.declared.need.Need.TheVariants as needs
@@ -17,13 +16,12 @@ use Rattle.flat_core.specs.declared.step.WireId.{WireId}
 use Rattle.bit_arith.specs.Calls.{Targets}
 use Rattle.flat_form.specs.declared.known.TypedBits.{TypedBits}
 use Rattle.flat_form.specs.declared.known.Known.{Known}
-use Rattle.flat_form.specs.declared.known.Known.TheVariants.{Shown}
 use Rattle.flat_form.specs.State.{Flattening, operands_of}
 use Rattle.flat_form.specs.Fine.{IsTaken}
-use Rattle.flat_form.specs.Names.{AllOf, named_by, names}
+use Rattle.flat_form.specs.Names.{AllOf, names}
 use Rattle.flat_form.specs.Shows.{ListBoth}
 use Rattle.flat_typed.specs.Places.{Places, times_in, carriers}
-use Rattle.flat_typed.specs.Relation.{Outside, Stands, IsAnswer, IsTakenOver, BeganFrom, OfType, IfOwn, IsBorrowed, AllNew, is_carried, is_own, is_argument, began_of}
+use Rattle.flat_typed.specs.Relation.{Outside, Stands, IsAnswer, IsTakenOver, BeganFrom, OfType, IfOwn, IsBorrowed, AllNew, is_carried, is_own, began_of}
 use Rattle.flat_typed.specs.Done.{carrying, need_for, IsSharing, IsTyped, OwnIfSeveral}
 use Rattle.flat_typed.specs.Calls.{Three, carried, named_times}
 use Rattle.flat_typed.proofs.Ordered.{clash}

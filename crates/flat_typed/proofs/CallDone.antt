@@ -1,26 +1,22 @@
 -- A call of one of the program's own functions: its arguments, the body from where it is entered, and what the caller has behind it.
-use Rattle.std.proofs.Common.{◌≡◌, ◌⊎◌, inl, inr, ℕ, ◌+◌, ◌≤◌, ◌<◌, Bool, true, false, cond, not, ◌&&◌, List, [], ◌∷◌, ◌++◌, length, map, drop, ℤ, refl, sym, ap, ap₂, ◌∙◌, subst, arith}
-use Rattle.std.specs.Prelude.{reverse, None, ⊤}
+use Rattle.std.proofs.Common.{◌≡◌, ◌⊎◌, inl, inr, ℕ, ◌+◌, ◌≤◌, ◌<◌, Bool, true, false, not, ◌&&◌, List, [], ◌∷◌, ◌++◌, length, map, ℤ, refl, sym, ap, ◌∙◌, subst, arith}
+use Rattle.std.specs.Prelude.{reverse}
 use Rattle.std.proofs.lemmas.List.{length-map, reverse-reverse}
-use Rattle.silq_tree.specs.declared.node.Mark.{Mark}
-use Rattle.silq_tree.specs.declared.node.Mark.TheVariants as marks
 use Rattle.silq_tree.specs.Syntax.{Function}
 use Rattle.silq_types.specs.declared.built_in.BuiltIn.{BuiltIn}
 use Rattle.silq_tree.specs.declared.node.NameId.{NameId}
 use Rattle.silq_types.specs.declared.need.Need.{Need}
 use Rattle.silq_types.specs.declared.need.Need.TheVariants as needs
-use Rattle.silq_types.specs.declared.values.Part.{Part}
 use Rattle.silq_types.specs.declared.signature.Param.{Param}
 use Rattle.silq_types.specs.declared.signature.Returned.{Returned}
 use Rattle.silq_types.specs.declared.types.Ty.{Ty}
 use Rattle.silq_types.specs.declared.values.Value.{Value}
-use Rattle.silq_types.specs.declared.values.Var.{Var}
 use Rattle.silq_types.specs.Types.{Statics}
 use Rattle.silq_types.specs.Calls.{is_consumed}
 use Rattle.silq_types.specs.Programs.{paired}
-use Rattle.silq_mean.specs.Written.{Header, is_empty}
+use Rattle.silq_mean.specs.Written.{Header}
 use Rattle.check_scope.specs.declared.uses.Use.{Use}
-use Rattle.check_scope.specs.Context.{Scope, Context, indices}
+use Rattle.check_scope.specs.Context.{Scope, Context}
 use Rattle.check_expr.specs.Expression.{asked_by, may_call, is_unmarked, is_run_time, is_qfree, all_lifted, lone_linear}
 use Rattle.check_expr.specs.Owners.{owners, owned, handed_arguments, Sole, Proper}
 use Rattle.check_fun.specs.Program.{param_vars}
@@ -44,7 +40,7 @@ use Rattle.flat_form.specs.Good.{Good, IsKnown}
 use Rattle.flat_form.proofs.Both.{all_reverse}
 use Rattle.flat_form.proofs.Goods.{good_flat, good_step}
 use Rattle.flat_typed.specs.Places.{Places, is_part, carriers, linear_carriers, owners_of}
-use Rattle.flat_typed.specs.Relation.{Outside, Stands, PartsDiffer, BeganFrom, IsTakenOver, is_argument, began_of}
+use Rattle.flat_typed.specs.Relation.{Outside, Stands, PartsDiffer, BeganFrom, IsTakenOver, is_argument}
 use Rattle.flat_typed.specs.Footprint.{used_wires, consumed_wires, Touches, StaysPlain, Unmade}
 use Rattle.flat_typed.specs.Scopes.{as_meaning, scope_for}
 use Rattle.flat_typed.specs.Done.{Begins, ExprTells, StmtBegins, Leaves, EndsDropped, carrying, need_for, changeable, kinds}
@@ -54,7 +50,7 @@ use Rattle.flat_typed.proofs.Owning.{all_front}
 use Rattle.flat_typed.proofs.Scopes.{taken_param}
 use Rattle.flat_typed.proofs.Surrounding.{all_unnamed}
 use Rattle.flat_typed.proofs.Parameters.{operands_at, at_places, AllEntered, all_entered, params_whole, params_sole}
-use Rattle.flat_typed.proofs.BodyEntering.{inside, begun_body, body_begin, enters, enters_fine, stands_entered}
+use Rattle.flat_typed.proofs.BodyEntering.{inside, body_begin, enters, enters_fine, stands_entered}
 use Rattle.flat_typed.proofs.CallArguments.{IsSuited, IsArgument, all_arguments, weighs}
 use Rattle.flat_typed.proofs.CallResults.{IsHanded}
 use Rattle.flat_typed.proofs.CallLists.{all_handed, old_stays, lifted_carry}

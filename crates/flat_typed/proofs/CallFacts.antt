@@ -1,37 +1,30 @@
 -- What the walk of a call tells: its static arguments, its header, the types of its arguments and its values.
-use Rattle.std.proofs.Common.{◌≡◌, ◌⊎◌, inl, inr, ℕ, zero, suc, ◌+◌, ◌≤◌, ◌<◌, Bool, true, false, cond, not, ◌&&◌, ◌||◌, List, [], ◌∷◌, ◌++◌, length, map, drop, ℤ, refl, sym, ap, ap₂, ◌∙◌, subst, arith}
-use Rattle.std.specs.Prelude.{Option, Some, None, Result, Ok, Err, slice_get, ⊤}
-use Rattle.silq_tree.specs.declared.node.NameId.{NameId}
-use Rattle.silq_tree.specs.Syntax.{Expression, Expressions, Parameter, Function, none, more}
+use Rattle.std.proofs.Common.{◌≡◌, ℕ, suc, ◌+◌, ◌≤◌, Bool, true, false, cond, not, ◌&&◌, ◌||◌, List, [], ◌∷◌, ◌++◌, length, map, ℤ, refl, sym, ap, ap₂, ◌∙◌, subst, arith}
+use Rattle.std.specs.Prelude.{Option, Some, None, Ok, slice_get, ⊤}
+use Rattle.silq_tree.specs.Syntax.{Expressions, Parameter, Function, none, more}
 use Rattle.static_num.specs.Static.{is_static, value, eval_of}
 use Rattle.silq_types.specs.declared.need.Need.{Need}
 use Rattle.silq_types.specs.declared.need.Need.TheVariants as needs
-use Rattle.silq_types.specs.declared.types.Ty.{Ty}
 use Rattle.silq_types.specs.declared.signature.InstanceKey.{InstanceKey}
 use Rattle.silq_types.specs.declared.signature.Param.{Param}
 use Rattle.silq_types.specs.declared.signature.Returned.{Returned}
 use Rattle.silq_types.specs.declared.signature.Signature.{Signature}
-use Rattle.silq_types.specs.declared.values.Origin.{Origin}
 use Rattle.silq_types.specs.declared.values.Value.{Value}
 use Rattle.silq_types.specs.declared.values.Var.{Var}
-use Rattle.silq_types.specs.Rules.{Fault, and_then}
+use Rattle.silq_types.specs.Rules.{and_then}
 use Rattle.silq_types.specs.Types.{Statics, at, count, is_lifted}
-use Rattle.silq_types.specs.Calls.{param_need, first_need, later_needs}
+use Rattle.silq_types.specs.Calls.{param_need}
 use Rattle.silq_mean.specs.Written.{header_type, written_at, param_types}
 use Rattle.check_scope.specs.Context.{Scope, Context, Check, ◌>>=◌}
 use Rattle.check_scope.specs.Uses.{uses, all_uses}
-use Rattle.check_expr.specs.Expression.{Asked, first_asked, later_asked, asked_by, static_arguments, suits, single, arguments, placed, argument_at, result_origin, result_values, exact_place, lone_need, lone_wants, is_tuple}
+use Rattle.check_expr.specs.Expression.{asked_by, static_arguments, arguments, placed, argument_at, result_origin, result_values, exact_place}
 use Rattle.check_expr.specs.Owners.{at_place, handed, handed_arguments, owned, Gives, Ensures, Sole, consumed_weight, returned_weight, Proper}
-use Rattle.check_expr.proofs.Owners.{gives-more, o_bind, o_then, o_more, o_from, o_back, o_rules, o_natural, o_results, sole-less, weight_of, weights}
-use Rattle.silq_mean.specs.declared.receiver.Receiver.{Receiver}
-use Rattle.silq_mean.specs.declared.receiver.Receiver.TheVariants.{Argument}
+use Rattle.check_expr.proofs.Owners.{gives-more, o_bind, o_then, o_back, o_rules, o_natural, o_results, sole-less, weight_of, weights}
 use Rattle.silq_mean.specs.Meaning as meanings
-use Rattle.flat_form.specs.Names.{AllOf}
 use Rattle.flat_form.specs.Shows.{ListBoth}
-use Rattle.flat_typed.specs.Places.{Places}
 use Rattle.flat_typed.specs.Relation.{need_of}
 use Rattle.flat_typed.specs.Scopes.{NoStatics}
-use Rattle.flat_typed.specs.Lemmas.{Agrees, Asking}
+use Rattle.flat_typed.specs.Lemmas.{Asking}
 use Rattle.flat_typed.proofs.Ordered.{clash}
 use Rattle.flat_typed.proofs.Leaving.{k_any}
 use Rattle.flat_typed.proofs.Scopes.{ok_same, then_ok, needed_is, taken_param}

@@ -1,6 +1,6 @@
 -- The walk of a call of one of the program's own functions, and all that it tells.
-use Rattle.std.proofs.Common.{◌≡◌, ◌⊎◌, inl, inr, ℕ, ◌+◌, ◌≤◌, Bool, true, false, not, ◌&&◌, List, [], ◌∷◌, ◌++◌, length, map, ℤ, refl, sym, ap, ap₂, ◌∙◌, subst, arith}
-use Rattle.std.specs.Prelude.{Option, Some, None, Ok, ◌==◌, ⊤}
+use Rattle.std.proofs.Common.{◌≡◌, inr, ℕ, ◌+◌, Bool, true, false, not, ◌&&◌, List, [], length, map, ℤ, refl, sym, ap, ◌∙◌, subst}
+use Rattle.std.specs.Prelude.{Some, Ok, ◌==◌, ⊤}
 use Rattle.std.proofs.lemmas.Bool.{eqb-true}
 use Rattle.std.proofs.lemmas.List.{length-map}
 use Rattle.silq_tree.specs.declared.node.NameId.{NameId}
@@ -9,23 +9,20 @@ use Rattle.silq_tree.specs.Syntax.{Expressions}
 use Rattle.silq_types.specs.declared.need.Need.{Need}
 use Rattle.silq_types.specs.declared.need.Need.TheVariants as needs
 use Rattle.silq_types.specs.declared.types.Ty.{Ty}
-use Rattle.silq_types.specs.declared.signature.Param.{Param}
 use Rattle.silq_types.specs.declared.signature.InstanceKey.{InstanceKey}
 use Rattle.silq_types.specs.declared.signature.Signature.{Signature}
 use Rattle.silq_types.specs.declared.values.Value.{Value}
 use Rattle.silq_types.specs.declared.values.Var.{Var}
-use Rattle.silq_types.specs.Rules.{against_mark, measured_in_branch, not_static, wrong_type, consumed_twice, consumed_and_held}
 use Rattle.silq_types.specs.Types.{count}
 use Rattle.silq_types.specs.Calls.{Found, find_fun, is_consumed, param_need}
 use Rattle.silq_types.specs.Programs.{paired}
 use Rattle.silq_mean.specs.Written.{Header, header_of}
-use Rattle.check_scope.specs.declared.uses.Use.{Use}
 use Rattle.check_scope.specs.Walk.{Walk}
 use Rattle.check_scope.specs.Context.{Scope, Context, ◌>>=◌, ◌>>◌, give_back, signature}
 use Rattle.check_scope.specs.Uses.{all_uses, argument_uses, some_pair, both_consume, consume_and_hold}
 use Rattle.check_expr.specs.Expression.{asked_by, may_call, is_unmarked, is_run_time, is_qfree, all_lifted, lone_linear, exact_place, arguments, result_values, unnamed_rule, call_own}
-use Rattle.check_expr.specs.Owners.{Gives, Ensures, Sole, owned, handed_arguments, Proper, ProperFor}
-use Rattle.check_expr.proofs.Owners.{gives-more, o_bind, o_then, o_more, o_from, o_back, o_rules, o_result, o_variables, o_signature, o_arguments}
+use Rattle.check_expr.specs.Owners.{Gives, Ensures, Sole, handed_arguments}
+use Rattle.check_expr.proofs.Owners.{gives-more, o_bind, o_then, o_back, o_rules, o_result, o_variables, o_signature, o_arguments}
 use Rattle.silq_mean.specs.declared.receiver.Receiver.{Receiver}
 use Rattle.silq_mean.specs.Effect.{Effect}
 use Rattle.silq_mean.specs.Meaning as meanings
@@ -35,9 +32,8 @@ use Rattle.flat_typed.specs.Places.{Places}
 use Rattle.flat_typed.specs.Relation.{Outside, need_of}
 use Rattle.flat_typed.specs.Scopes.{as_meaning, NoStatics}
 use Rattle.flat_typed.specs.Done.{Begins}
-use Rattle.flat_typed.specs.Calls.{ArgsTells, CallFine}
-use Rattle.flat_typed.specs.Lemmas.{Callable, ArgumentsAreFine, Asking, Untangled, uses_by}
-use Rattle.flat_typed.proofs.Ordered.{clash}
+use Rattle.flat_typed.specs.Calls.{ArgsTells}
+use Rattle.flat_typed.specs.Lemmas.{Callable, ArgumentsAreFine, Untangled, uses_by}
 use Rattle.flat_typed.proofs.Claims.{truly}
 use Rattle.flat_typed.proofs.Scopes.{taken_param, header_parts}
 use Rattle.flat_typed.proofs.Turns.{gives_both}

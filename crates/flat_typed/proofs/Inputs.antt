@@ -1,5 +1,5 @@
 -- No effect makes an input wire.
-use Rattle.std.proofs.Common.{◌≡◌, ◌⊎◌, inl, inr, ℕ, ◌+◌, ◌≤◌, ◌<◌, Bool, true, false, cond, not, List, [], ◌∷◌, length, ℤ, Option, Some, None, refl, sym, ap, ◌∙◌, subst, arith}
+use Rattle.std.proofs.Common.{◌≡◌, ◌⊎◌, inl, inr, ℕ, ◌≤◌, ◌<◌, Bool, true, false, List, [], ◌∷◌, length, ℤ, Option, Some, None, refl, sym, ap, ◌∙◌, arith}
 use Rattle.std.proofs.lemmas.Bool.{cases_lt}
 use Rattle.std.proofs.lemmas.List.{get_or_past}
 use Rattle.silq_mean.specs.Effect.{Effect, nothing, ◌>>◌, statement, step, mix, measure as measured, claim, choice, Step, give_static, give_typed, give_part, one_operand, two_operands, copy_last, repeat_last, flip_last, turn_by, turn_all, receive, assign_to, assign_in_turn, update_to, end_name, end_compared, enter_block, leave_block, enter_body, leave_body}
@@ -7,7 +7,6 @@ use Rattle.silq_tree.specs.declared.node.UnaryOp.{UnaryOp}
 use Rattle.silq_tree.specs.declared.node.BinaryOp.{BinaryOp}
 use Rattle.silq_tree.specs.declared.node.UpdateOp.{UpdateOp}
 use Rattle.silq_mean.specs.declared.receiver.Receiver.{Receiver}
-use Rattle.silq_types.specs.declared.values.Value.{Value}
 use Rattle.flat_core.specs.declared.step.WireId.{WireId}
 use Rattle.flat_core.specs.declared.step.End.{End}
 use Rattle.flat_core.specs.declared.step.End.TheVariants.{Measured, Zeroed}
@@ -20,16 +19,15 @@ use Rattle.bit_arith.specs.Rows.{flip, had, had_under, flip_each}
 use Rattle.bit_arith.specs.Calls.{Targets, among}
 use Rattle.flat_form.specs.declared.known.Known.{Known}
 use Rattle.flat_form.specs.declared.known.Known.TheVariants.{Static, Shown, Lent, Absent}
-use Rattle.flat_form.specs.State.{Caller, Flattening, last, drop_last, wires_in, wires_so_far, operands_of, part_of, part_shape, typed_as, typed_like, taken, only_wire}
-use Rattle.flat_form.specs.Flat.{on_one, on_two, on_two_typed, as_operand, began_at, give_copy, give_repeated, on_wire, on_last_wire, turn_both, end_all, measure_all, measure_value, receive_value, shape_for, update_variable, zero_variable, known_in, back_to, entered, enter_branch, chosen_by, first_branch, second_branch, count_statement, on_line, flat_step, flat}
+use Rattle.flat_form.specs.State.{Caller, Flattening, last, drop_last, wires_in, wires_so_far, operands_of, typed_like, taken, only_wire}
+use Rattle.flat_form.specs.Flat.{on_one, on_two_typed, as_operand, began_at, give_copy, give_repeated, on_wire, turn_both, end_all, measure_all, measure_value, receive_value, shape_for, update_variable, zero_variable, known_in, back_to, entered, enter_branch, chosen_by, first_branch, second_branch, count_statement, on_line, flat_step, flat}
 use Rattle.flat_form.specs.Names.{AllOf}
 use Rattle.flat_form.proofs.Later.{end_all_length}
 use Rattle.flat_typed.specs.Footprint.{Touches}
 use Rattle.flat_typed.proofs.Ordered.{clash}
-use Rattle.flat_typed.proofs.Owning.{same_refl}
 use Rattle.flat_typed.proofs.Flipping.{Flips, MayFlip, flips_then, flips_flip, flips_each, flips_turn, flips_wires}
 use Rattle.flat_typed.proofs.Touching.{flips_copied, flips_taken, flips_taken_for, flips_by_one, flips_by_two, flips_turn_both, flips_update}
-use Rattle.flat_typed.proofs.Telling.{ends_touch, measures_only, had_touches}
+use Rattle.flat_typed.proofs.Telling.{ends_touch, measures_only}
 
 -- a wire that is an input later was one before
 abbrev pub NoInput : DraftForm → DraftForm → Type 0

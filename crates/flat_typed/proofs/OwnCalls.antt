@@ -1,13 +1,12 @@
 -- A call of one of the program's own functions is fine where its arguments are.
-use Rattle.std.proofs.Common.{◌≡◌, ◌⊎◌, inl, inr, ℕ, List, [], ◌∷◌, ◌++◌, length, map, ℤ, refl, sym, ap, ap₂, ◌∙◌, subst}
+use Rattle.std.proofs.Common.{◌≡◌, ℕ, List, ◌++◌, map, ℤ, refl, sym, ap, ap₂, ◌∙◌, subst}
 use Rattle.std.specs.Prelude.{Option, Some, None}
 use Rattle.silq_tree.specs.declared.node.NameId.{NameId}
 use Rattle.silq_tree.specs.declared.node.Spot.{Spot}
-use Rattle.silq_tree.specs.Syntax.{Expressions, Function, called}
+use Rattle.silq_tree.specs.Syntax.{Expressions, called}
 use Rattle.silq_types.specs.declared.built_in.BuiltIn.{BuiltIn}
 use Rattle.silq_types.specs.declared.need.Need.{Need}
 use Rattle.silq_types.specs.declared.need.Need.TheVariants as needs
-use Rattle.silq_types.specs.declared.signature.InstanceKey.{InstanceKey}
 use Rattle.silq_types.specs.declared.types.Ty.{Ty}
 use Rattle.silq_types.specs.declared.values.Value.{Value}
 use Rattle.silq_types.specs.Calls.{Found, built_in, find_fun, needs_of_found, param_need}
@@ -19,17 +18,17 @@ use Rattle.check_expr.specs.Expression.{expr, arguments, later_arguments, call_f
 use Rattle.check_expr.specs.Owners.{Gives}
 use Rattle.check_expr.proofs.Owners.{gives-more}
 use Rattle.silq_mean.specs.declared.receiver.Receiver.{Receiver}
-use Rattle.silq_mean.specs.declared.receiver.Receiver.TheVariants.{Argument, CallResult}
+use Rattle.silq_mean.specs.declared.receiver.Receiver.TheVariants.{CallResult}
 use Rattle.silq_mean.specs.Effect.{Effect, ◌>>◌, step, enter_body, leave_body}
 use Rattle.silq_mean.specs.Meaning as meanings
 use Rattle.flat_form.specs.State.{Flattening}
 use Rattle.flat_typed.specs.Places.{Places}
-use Rattle.flat_typed.specs.Relation.{Outside, need_of}
+use Rattle.flat_typed.specs.Relation.{Outside}
 use Rattle.flat_typed.specs.Scopes.{as_meaning, scope_for, NoStatics}
 use Rattle.flat_typed.specs.Done.{Begins, ExprTells}
 use Rattle.flat_typed.specs.Laws.{Stood}
 use Rattle.flat_typed.specs.Lemmas.{Callable, ArgumentsAreFine, ExprFine, uses_by}
-use Rattle.flat_typed.proofs.Scopes.{taken_param, params_are, header_parts, body_scope, found_stands}
+use Rattle.flat_typed.proofs.Scopes.{params_are, header_parts, body_scope, found_stands}
 use Rattle.flat_typed.proofs.CallFacts.{typed_long, typed_needs}
 use Rattle.flat_typed.proofs.CallWalk.{CallWalk, call_walk, takers_for, argument_effect}
 use Rattle.flat_typed.proofs.CallDone.{call_tells}
