@@ -68,3 +68,6 @@ pub mod Gone
 pub mod Answering
 pub mod Lasting
 pub mod Following
+pub mod Operating
+pub mod StaticTells
+pub mod Unary
