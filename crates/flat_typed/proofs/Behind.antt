@@ -28,7 +28,7 @@ leaves_then s t u p q = record { setting = q.setting ∙ p.setting; callers = q.
 
 module _ (out : Outside) (sc : Scope) (need other : Need) (e : Effect) (W : Places) (under : List Value) (us : List Use) (c : Context) (s : Flattening) (x : Value) (d : Context) (o : ExprDone out sc other e W under us c s (x ∷ []) d) where
   -- a step that gives a value for that of the expression
-  unfoldable pub expr_then : (st : Effect) (U : Places) (v : Value) (f : Context) → Agree c.next o.after U → Fine st (flat e s) → kinds f.vars ≡ kinds d.vars
+  pub expr_then : (st : Effect) (U : Places) (v : Value) (f : Context) → Agree c.next o.after U → Fine st (flat e s) → kinds f.vars ≡ kinds d.vars
       → GivesValue out sc.held U need (used_wires W c.vars us) (consumed_wires W c.vars us) (wires_so_far s) c.next under f (flat e s) s.values v (flat st (flat e s)) → ExprDone out sc need (e >> st) W under us c s (v ∷ []) f
   expr_then st U v f agree fine same g = record {
     fine = (o.fine, fine);

@@ -43,7 +43,9 @@ use Rattle.flat_typed.specs.Lemmas.{Callable}
 use Rattle.flat_typed.specs.Tells.{OnePart, NewDropped, ExprShows, ExpressionTells}
 use Rattle.flat_typed.proofs.Ordered.{clash}
 use Rattle.flat_typed.proofs.Moving.{found_all, all_more}
-use Rattle.flat_typed.proofs.Owning.{no_times}
+use Rattle.flat_typed.proofs.Owning.{no_times, among_times}
+use Rattle.flat_typed.proofs.Spans.{part_at_most}
+use Rattle.flat_typed.proofs.Apart.{used_part, wires_are}
 use Rattle.flat_typed.proofs.Placing.{KnowsNone, place_other}
 use Rattle.flat_typed.proofs.Taking.{Around}
 use Rattle.flat_typed.proofs.Tame.{Left, AllLeft, FindLeft, find_left, all_there_left}
@@ -160,7 +162,7 @@ fits_placed U n p ps all (v ∷ vs) le b h f = (one, fits_placed U n p ps all vs
               ∙ (a.2.wires ∙ ap (part_of a.0.ty.shape (indices v.part)) (sym (place_other U p ps a.0.place (ne_eqb a.0.place p (λ e. omega (arith, e, le, y))))));
         })
 
-of_none : (n : ℕ) (w : WireId) (k : Known) → IsKnown n k → n ≤ w.number → times_in w (operands_of k) ≡ 0
+pub of_none : (n : ℕ) (w : WireId) (k : Known) → IsKnown n k → n ≤ w.number → times_in w (operands_of k) ≡ 0
 of_none n w (Static z) h le = refl
 of_none n w (Shown v) h le = known_none n w (Shown v) h le
 of_none n w (Lent start size v) h le = refl
@@ -188,6 +190,20 @@ module _ (out : Outside) (sc : Scope) (low : ℕ) (others : ℕ → ℕ) (W : Pl
 
   vars_new : (w : WireId) → wires_so_far s ≤ w.number → AllOf (λ v. v.consumed ≡ false → times_in w (W v.place) ≡ 0) c.vars
   vars_new w le = vars_none (wires_so_far s) w W c.vars le (subst (AllOf _) b.stands.env (order_of_env (IsKnown (wires_so_far s)) s.env b.good.known.env)) b.stands.parts
+
+  -- what is used was made before
+  pub used_old : (ws : List Use) (w : WireId) → AllOf (IsThere sc.held c.vars) ws → used_wires W c.vars ws w ≡ true → w.number < wires_so_far s
+  used_old [] w h e = clash (sym e)
+  used_old (u ∷ ws) w h e = go (wires_of_part W c.vars u.part w) refl e (used_old ws w h.1) (cases_lt w.number (wires_so_far s))
+    where
+      go : (t : Bool) → wires_of_part W c.vars u.part w ≡ t → (t || used_wires W c.vars ws w) ≡ true → (used_wires W c.vars ws w ≡ true → w.number < wires_so_far s) → (w.number < wires_so_far s) ⊎ (wires_so_far s ≤ w.number) → w.number < wires_so_far s
+      go false f g i q = i g
+      go true f g i (inl lt) = lt
+      go true f g i (inr le) =
+          let a = among_times w (used_part out sc.held W under c s b.stands u h.0) (sym (wires_are out sc.held W under c s b.stands u h.0 w) ∙ f) in
+          let m = part_at_most w h.0.owner.ty.shape (indices u.part) (W h.0.owner.place) in
+          let z = found_all (λ v. v.consumed ≡ false → times_in w (W v.place) ≡ 0) c.vars (variable u.part.name) h.0.owner h.0.found (vars_new w le) h.0.live in
+          absurd (omega (arith, a, m, z))
 
   module _ (need : Need) (e : Effect) (vs : List Value) (d : Context) (o : ExprDone out sc need e W under us c s vs d) (left : AllLeft c.vars d.vars) where
     abbrev U : Places

@@ -71,3 +71,4 @@ pub mod Following
 pub mod Operating
 pub mod StaticTells
 pub mod Unary
+pub mod Pairing

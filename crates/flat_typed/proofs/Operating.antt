@@ -32,8 +32,8 @@ use Rattle.flat_typed.specs.Done.{Agree, ExprDone, IsTyped, kinds}
 use Rattle.flat_typed.specs.Tells.{Shares, NewDropped, ExprShows}
 use Rattle.flat_typed.proofs.Flipping.{Flips}
 use Rattle.flat_typed.proofs.Placing.{named_times}
-use Rattle.flat_typed.proofs.Giving.{GivesValue, Works, IsNew, gives_borrowed}
-use Rattle.flat_typed.proofs.Behind.{expr_then}
+use Rattle.flat_typed.proofs.Giving.{GivesValue, Works, IsNew, touches_beyond, gives_borrowed}
+use Rattle.flat_typed.proofs.Behind.{leaves_then}
 use Rattle.flat_typed.proofs.Falling.{safe_none}
 
 -- a value that is given, and what is told of it
@@ -95,13 +95,25 @@ module _ (out : Outside) (held : List (List Part)) (W : Places) (need : Need) (u
           made (inl lt) = lt
           made (inr more) = let z = safe_none (length g.built.draft.wires) w g.answer last.known.values.0.there more in absurd (omega (arith, z, t))
 
-module _ (out : Outside) (sc : Scope) (need other : Need) (wants : List Ty) (e : Effect) (W : Places) (under : List Value) (us : List Use) (c : Context) (s : Flattening) (x : Value) (d : Context) (o : ExprDone out sc other e W under us c s (x ∷ []) d) where
-  -- a step behind an expression, with what is told
+module _ (out : Outside) (sc : Scope) (need other : Need) (wants : List Ty) (e : Effect) (W : Places) (under : List Value) (us : List Use) (c : Context) (s : Flattening) (xs : List Value) (d : Context) (o : ExprDone out sc other e W under us c s xs d) where
+  -- a step that gives a value for those of what stands before it, with what is told
   pub shows_then : (st : Effect) (U : Places) (v : Value) (f : Context) → Agree c.next o.after U → Fine st (flat e s) → kinds f.vars ≡ kinds d.vars
       → GivesTold out sc.held U need (used_wires W c.vars us) (consumed_wires W c.vars us) (wires_so_far s) c.next under f (flat e s) s.values v (flat st (flat e s)) → ExprShows out sc need wants (e >> st) W under us c s (v ∷ []) f
-  unfolding expr_then
   shows_then st U v f agree fine same g = record {
-    done = expr_then out sc need other e W under us c s x d o st U v f agree fine same g.gives;
+    done = record {
+      fine = (o.fine, fine);
+      after = U;
+      agree = λ p l. agree p l ∙ o.agree p l;
+      answers = g.gives.answer ∷ [];
+      values = g.gives.values;
+      each = (g.gives.given, tt);
+      stands = g.gives.stands;
+      kinds_stay = same ∙ o.kinds_stay;
+      leaves = leaves_then s (flat e s) (flat st (flat e s)) o.leaves g.gives.leaves;
+      touches = touches_beyond (consumed_wires W c.vars us) s.built.draft (flat e s).built.draft (flat st (flat e s)).built.draft o.touches g.gives.touches;
+      plain = λ q w m. o.plain q w (g.gives.plain w m);
+      unmade = g.gives.unmade o.unmade;
+    };
     sharing = (g.sharing, tt);
     typed = λ q. (g.typed, tt);
     untold = (g.untold, tt);

@@ -175,7 +175,7 @@ module _ (op : UnaryOp) (e : Expression) (sc : Scope) (taker : Ty → Receiver) 
 
     ends : Goal
     ends =
-        shows_then out sc need needs.Held wants E W under us c s v d o (step (one_operand op)) o.after given after (λ p l. refl) fine refl
+        shows_then out sc need needs.Held wants E W under us c s (v ∷ []) d o (step (one_operand op)) o.after given after (λ p l. refl) fine refl
         (subst (λ l. GivesTold out sc.held o.after need (used_wires W c.vars us) (consumed_wires W c.vars us) (wires_so_far s) c.next under after s1 l given (flat_step (one_operand op) s1)) (ap (λ l. drop 1 l) values) told)
 
   pub unary_shows : Goal
