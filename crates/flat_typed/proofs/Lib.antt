@@ -72,3 +72,4 @@ pub mod Operating
 pub mod StaticTells
 pub mod Unary
 pub mod Pairing
+pub mod Joining

@@ -159,7 +159,7 @@ module _ (out : Outside) (held : List (List Part)) (W : Places) (used consumed :
 
 -- ---- static values take a type
 
-consts_none : (w : WireId) (bs : List Bool) → times_in w (map (λ b. Const b) bs) ≡ 0
+pub consts_none : (w : WireId) (bs : List Bool) → times_in w (map (λ b. Const b) bs) ≡ 0
 consts_none w [] = refl
 consts_none w (b ∷ bs) = consts_none w bs
 
@@ -167,7 +167,7 @@ consts_unnamed : (w : WireId) (bs : List Bool) → list_any (named_by w) (map (�
 consts_unnamed w [] = refl
 consts_unnamed w (b ∷ bs) = consts_unnamed w bs
 
-abbrev bits_of : ℕ → Scalar → ℤ → TypedBits
+abbrev pub bits_of : ℕ → Scalar → ℤ → TypedBits
 bits_of m k z = record { classical = false; shape = single_shape k; operands = map (λ b. Const b) (low_bits (scalar_bits k) (modulo z (modulus k))); own = false; began = m }
 
 -- a value that fits a type is one of a scalar
