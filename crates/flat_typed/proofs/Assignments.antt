@@ -172,7 +172,7 @@ spread_is_fine xs es at s fine sc taker c free =
 -- ---- one value
 
 -- what goes on behind a walk tells what it gives
-gives_front : {A B : Type 0} (S : InstanceKey → Signature → Type 0) (P : B → Type 0) (w : Walk A) (f : A → Walk B) → Gives S P (bind w f) → Gives S (λ a. Gives S P (f a)) w
+pub gives_front : {A B : Type 0} (S : InstanceKey → Signature → Type 0) (P : B → Type 0) (w : Walk A) (f : A → Walk B) → Gives S P (bind w f) → Gives S (λ a. Gives S P (f a)) w
 gives_front S P (answer a) f g = g
 gives_front S P (broken e) f g = tt
 gives_front S P (counted w) f g = gives_front S P w f g

@@ -26,7 +26,7 @@ use Rattle.flat_typed.proofs.Ordered.{clash}
 use Rattle.flat_typed.proofs.Parts.{found_there, some_same}
 use Rattle.flat_typed.proofs.Moving.{found_all}
 use Rattle.flat_typed.proofs.Uses.{name_of_part}
-use Rattle.flat_typed.proofs.There.{UsedWhole, Used, PlaceUsed, o_place, part_class}
+use Rattle.flat_typed.proofs.There.{UsedWhole, UsedPart, Used, PlaceUsed, o_place, part_class}
 
 -- ---- index values of a place: there are at most two
 
@@ -115,6 +115,16 @@ of_used sc need c W x zs d fits exact (inr h) = record {
   unheld = λ m. clash (sym m ∙ h.unmoved);
   loose = λ m. clash (sym m ∙ h.unmoved);
 }
+
+-- the type of the part
+pub type_whole : (sc : Scope) (need : Need) (c : Context) (W : Places) (x : NameId) (zs : List ℤ) (d : Context) (fits : AllOf (FitsPart W c.vars) c.vars) (exact : Exact x zs) (h : UsedWhole sc need c (part_at x zs) d) → (of_used sc need c W x zs d fits exact (inl h)).kind.0 ≡ h.var.ty
+unfolding of_used of_whole
+type_whole sc need c W x [] d fits exact h = refl
+type_whole sc need c W x (i ∷ is) d fits exact h = refl
+
+pub type_part : (sc : Scope) (need : Need) (c : Context) (W : Places) (x : NameId) (zs : List ℤ) (d : Context) (fits : AllOf (FitsPart W c.vars) c.vars) (exact : Exact x zs) (h : UsedPart need c x (part_at x zs) d) → (of_used sc need c W x zs d fits exact (inr h)).kind.0 ≡ h.ty
+unfolding of_used
+type_part sc need c W x zs d fits exact h = refl
 
 -- ---- the use
 

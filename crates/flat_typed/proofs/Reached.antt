@@ -33,6 +33,7 @@ use Rattle.flat_typed.proofs.Ordered.{clash}
 use Rattle.flat_typed.proofs.Growing.{touches_more}
 use Rattle.flat_typed.proofs.Footprints.{consumed_may_change}
 use Rattle.flat_typed.proofs.Tame.{AllLeft, left_same}
+use Rattle.flat_typed.proofs.Lone.{none_in}
 use Rattle.flat_typed.proofs.Leaving.{k_any}
 use Rattle.flat_typed.proofs.WalkThere.{u_expr}
 use Rattle.flat_typed.proofs.Turns.{gives_both, wired_live}
@@ -43,7 +44,7 @@ use Rattle.flat_typed.proofs.Turns.{gives_both, wired_live}
 abbrev pub Told : Scope → Need → Expression → Context → Context → Type 0
 Told sc need e c d = (W : Places) → AllOf (FitsPart W c.vars) c.vars → AllOf (IsThere sc.held c.vars) (uses e sc c.vars need) × (AllLeft c.vars d.vars × AllOf (FitsPart W d.vars) d.vars)
 
-gives_each : {A B : Type 0} (S : InstanceKey → Signature → Type 0) (P : B → A → Type 0) (w : Walk A) → ((b : B) → Gives S (P b) w) → Gives S (λ a. (b : B) → P b a) w
+pub gives_each : {A B : Type 0} (S : InstanceKey → Signature → Type 0) (P : B → A → Type 0) (w : Walk A) → ((b : B) → Gives S (P b) w) → Gives S (λ a. (b : B) → P b a) w
 gives_each S P (answer a) h = h
 gives_each S P (broken e) h = tt
 gives_each S P (counted w) h = gives_each S P w h
@@ -71,7 +72,7 @@ none_placed : (n : ℕ) (vs : List Var) → AllOf (λ v. is_part v ≡ false) vs
 none_placed n [] h = tt
 none_placed n (v ∷ vs) h = (λ e. clash (sym e ∙ h.0), none_placed n vs h.1)
 
-begins_expression : (out : Outside) (sc : Scope) (low : ℕ) (W : Places) (c : Context) (s : Flattening) (us : List Use) → StmtBegins out sc low (λ p. 0) W c s → Begins out sc low (λ p. 0) W [] us c s
+pub begins_expression : (out : Outside) (sc : Scope) (low : ℕ) (W : Places) (c : Context) (s : Flattening) (us : List Use) → StmtBegins out sc low (λ p. 0) W c s → Begins out sc low (λ p. 0) W [] us c s
 begins_expression out sc low W c s us b = record {
   good = b.good;
   unmade = b.unmade;
@@ -81,6 +82,7 @@ begins_expression out sc low W c s us b = record {
   open_air = b.open_air;
   apart = λ w t. subst (AllOf (λ k. names k w ≡ false)) (sym b.none) tt;
   placed = none_placed c.next c.vars b.whole;
+  lone = let e = none_in c.vars b.whole in omega (arith, e);
 }
 
 pub expression_reached : (e : Expression) → ExpressionIsFine e → (sc : Scope) (taker : Ty → Receiver) (need : Need) (wants : List Ty) (c : Context) → is_tuple e ≡ false → NoStatics sc c.vars

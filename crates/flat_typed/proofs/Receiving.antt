@@ -163,7 +163,7 @@ pub consts_none : (w : WireId) (bs : List Bool) → times_in w (map (λ b. Const
 consts_none w [] = refl
 consts_none w (b ∷ bs) = consts_none w bs
 
-consts_unnamed : (w : WireId) (bs : List Bool) → list_any (named_by w) (map (λ b. Const b) bs) ≡ false
+pub consts_unnamed : (w : WireId) (bs : List Bool) → list_any (named_by w) (map (λ b. Const b) bs) ≡ false
 consts_unnamed w [] = refl
 consts_unnamed w (b ∷ bs) = consts_unnamed w bs
 

@@ -2,7 +2,7 @@
 use Rattle.std.specs.Prelude.{◌≡◌, ℕ, false, List, [], ◌∷◌, length, map, drop, ℤ, Ok, ◌⊎◌}
 use Rattle.silq_tree.specs.declared.node.NameId.{NameId}
 use Rattle.silq_tree.specs.declared.node.Spot.{Spot}
-use Rattle.silq_tree.specs.Syntax.{Expression, Expressions, Statement, Statements, Function}
+use Rattle.silq_tree.specs.Syntax.{Expression, Expressions, Statement, Statements, Function, none, more}
 use Rattle.silq_types.specs.declared.types.Ty.{Ty}
 use Rattle.silq_types.specs.declared.values.Value.{Value}
 use Rattle.silq_types.specs.declared.signature.InstanceKey.{InstanceKey}
@@ -77,6 +77,10 @@ abbrev pub ExpressionIsFine : Expression → Type 0
 ExpressionIsFine e =
     (sc : Scope) (taker : Ty → Receiver) (need : Need) (wants : List Ty) (c : Context) → is_tuple e ≡ false → NoStatics sc c.vars →
     ExprFine sc need wants c (expr e sc need wants) (meanings.expr e (as_meaning taker sc) need) (uses e sc c.vars need)
+
+abbrev pub EachIsFine : Expressions → Type 0
+EachIsFine none = Unit {0}
+EachIsFine (more e es) = ExpressionIsFine e × EachIsFine es
 
 -- what is asked of a value, and what takes it over
 abbrev pub Agrees : Asked → Receiver → Type 0

@@ -11,3 +11,6 @@ pub mod Stay
 pub mod StatementLaws
 pub mod Steps
 pub mod Tells
+pub mod Settled
+pub mod Endings
+pub mod Bodies
