@@ -113,3 +113,7 @@ pub mod Results
 pub mod ReturnedValues
 pub mod BodyEnds
 pub mod Bodies
+pub mod LastPart
+pub mod PartSteps
+pub mod PartAssign
+pub mod PartAssignments
