@@ -93,6 +93,7 @@ pub mod PlaceLent
 pub mod UsedPlaces
 pub mod TakingOut
 pub mod GivingBack
+pub mod PartWalk
 pub mod Spending
 pub mod Gone
 pub mod Answering
@@ -117,3 +118,7 @@ pub mod ReturnedValues
 pub mod BodyEnds
 pub mod Bodies
 pub mod TwoOperands
+pub mod LastPart
+pub mod PartSteps
+pub mod PartAssign
+pub mod PartAssignments
