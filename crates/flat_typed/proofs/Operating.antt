@@ -9,6 +9,7 @@ use Rattle.silq_types.specs.declared.values.Value.{Value}
 use Rattle.silq_types.specs.declared.need.Need.{Need}
 use Rattle.check_scope.specs.declared.uses.Use.{Use}
 use Rattle.check_scope.specs.Context.{Scope, Context}
+use Rattle.check_expr.specs.Expression.{is_qfree}
 use Rattle.silq_mean.specs.Effect.{Effect, ◌>>◌}
 use Rattle.flat_core.specs.declared.step.WireId.{WireId}
 use Rattle.flat_core.specs.declared.step.End.TheVariants.{Dropped}
@@ -26,10 +27,9 @@ use Rattle.flat_form.specs.Fine.{Fine}
 use Rattle.flat_form.specs.Names.{named_by, names}
 use Rattle.flat_form.specs.Good.{Good}
 use Rattle.flat_typed.specs.Places.{Places, times_in, owners_of}
-use Rattle.flat_typed.specs.Footprint.{used_wires, consumed_wires}
+use Rattle.flat_typed.specs.Footprint.{used_wires, consumed_wires, Touches, StaysPlain, Unmade}
 use Rattle.flat_typed.specs.Relation.{Outside, Stands}
-use Rattle.flat_typed.specs.Done.{Agree, ExprDone, IsTyped, kinds}
-use Rattle.flat_typed.specs.Tells.{Shares, NewDropped, ExprShows}
+use Rattle.flat_typed.specs.Done.{Agree, Leaves, ExprDone, IsSharing, IsTyped, EndsDropped, ExprTells, kinds}
 use Rattle.flat_typed.proofs.Flipping.{Flips}
 use Rattle.flat_typed.proofs.Placing.{named_times}
 use Rattle.flat_typed.proofs.Giving.{GivesValue, Works, IsNew, touches_beyond, gives_borrowed}
@@ -39,9 +39,9 @@ use Rattle.flat_typed.proofs.Falling.{safe_none}
 -- a value that is given, and what is told of it
 pub record GivesTold (out : Outside) (held : List (List Part)) (W : Places) (need : Need) (used consumed : Targets) (n low : ℕ) (under : List Value) (c : Context) (s : Flattening) (rest : List Known) (v : Value) (e : Flattening) : Type 0 where
   pub gives : GivesValue out held W need used consumed n low under c s rest v e
-  pub sharing : Shares need low (λ w. owners_of W c.vars under w) v gives.answer
+  pub sharing : IsSharing need low (λ w. owners_of W c.vars under w) v gives.answer
   pub typed : IsTyped gives.answer
-  pub untold : NewDropped n e.built.draft gives.answer
+  pub untold : EndsDropped n e.built.draft gives.answer
 
 -- a row whose answer names wires of a kind, or new ones
 pub record Sourced (W : Places) (used : Targets) (n : ℕ) (under : List Value) (c : Context) (s : Flattening) (classical : Bool) (g : Given (List Operand)) (Of : WireId → Type 0) : Type 0 where
@@ -95,10 +95,24 @@ module _ (out : Outside) (held : List (List Part)) (W : Places) (need : Need) (u
           made (inl lt) = lt
           made (inr more) = let z = safe_none (length g.built.draft.wires) w g.answer last.known.values.0.there more in absurd (omega (arith, z, t))
 
-module _ (out : Outside) (sc : Scope) (need other : Need) (wants : List Ty) (e : Effect) (W : Places) (under : List Value) (us : List Use) (c : Context) (s : Flattening) (xs : List Value) (d : Context) (o : ExprDone out sc other e W under us c s xs d) where
+-- what is done before a step, but for the values
+pub record EffectDone (out : Outside) (sc : Scope) (e : Effect) (W : Places) (us : List Use) (c : Context) (s : Flattening) (d : Context) : Type 0 where
+  pub fine : Fine e s
+  pub after : Places
+  pub agree : Agree c.next W after
+  pub kinds_stay : kinds d.vars ≡ kinds c.vars
+  pub leaves : Leaves s (flat e s)
+  pub touches : Touches (consumed_wires W c.vars us) s.built.draft (flat e s).built.draft
+  pub plain : is_qfree sc.this.mark ≡ true → StaysPlain s.built.draft (flat e s).built.draft
+  pub unmade : Unmade (flat e s).built.draft
+
+abbrev pub effect_of : (out : Outside) (sc : Scope) (need : Need) (e : Effect) (W : Places) (under : List Value) (us : List Use) (c : Context) (s : Flattening) (vs : List Value) (d : Context) → ExprDone out sc need e W under us c s vs d → EffectDone out sc e W us c s d
+effect_of out sc need e W under us c s vs d o = record { fine = o.fine; after = o.after; agree = o.agree; kinds_stay = o.kinds_stay; leaves = o.leaves; touches = o.touches; plain = o.plain; unmade = o.unmade }
+
+module _ (out : Outside) (sc : Scope) (need : Need) (wants : List Ty) (e : Effect) (W : Places) (under : List Value) (us : List Use) (c : Context) (s : Flattening) (d : Context) (o : EffectDone out sc e W us c s d) where
   -- a step that gives a value for those of what stands before it, with what is told
   pub shows_then : (st : Effect) (U : Places) (v : Value) (f : Context) → Agree c.next o.after U → Fine st (flat e s) → kinds f.vars ≡ kinds d.vars
-      → GivesTold out sc.held U need (used_wires W c.vars us) (consumed_wires W c.vars us) (wires_so_far s) c.next under f (flat e s) s.values v (flat st (flat e s)) → ExprShows out sc need wants (e >> st) W under us c s (v ∷ []) f
+      → GivesTold out sc.held U need (used_wires W c.vars us) (consumed_wires W c.vars us) (wires_so_far s) c.next under f (flat e s) s.values v (flat st (flat e s)) → ExprTells out sc need wants (e >> st) W under us c s (v ∷ []) f
   shows_then st U v f agree fine same g = record {
     done = record {
       fine = (o.fine, fine);
@@ -117,4 +131,5 @@ module _ (out : Outside) (sc : Scope) (need other : Need) (wants : List Ty) (e :
     sharing = (g.sharing, tt);
     typed = λ q. (g.typed, tt);
     untold = (g.untold, tt);
+    several = tt;
   }

@@ -32,20 +32,21 @@ use Rattle.flat_form.specs.Shows.{ListBoth}
 use Rattle.bit_arith.specs.declared.operand.Operand.{Operand}
 use Rattle.flat_typed.specs.Places.{Places, times_in, owners_of}
 use Rattle.flat_typed.specs.Footprint.{wires_of_part, used_wires, consumed_wires, Touches, NoneNames, Within}
-use Rattle.flat_typed.specs.Relation.{Outside, Stands, IsAnswer, BeganFrom, IfOwn}
+use Rattle.flat_typed.specs.Relation.{Outside, Stands, IsAnswer, BeganFrom}
 use Rattle.flat_typed.specs.Scopes.{as_meaning}
 use Rattle.flat_typed.specs.Uses.{IsThere}
-use Rattle.flat_typed.specs.Done.{Agree, Begins, ExprDone, IsTyped, Leaves, carrying}
-use Rattle.flat_typed.specs.Tells.{OnePart, Shares, NewDropped, ExprShows}
+use Rattle.flat_typed.specs.Done.{Agree, Begins, ExprDone, IsTyped, Leaves, carrying, ExprTells, EndsDropped, IsSharing}
 use Rattle.flat_typed.proofs.Ordered.{clash, or_left, or_right}
 use Rattle.flat_typed.proofs.Owning.{among_times}
 use Rattle.flat_typed.proofs.Spans.{part_at_most}
 use Rattle.flat_typed.proofs.Growing.{touches_then, touches_more}
 use Rattle.flat_typed.proofs.Apart.{used_part, wires_are}
 use Rattle.flat_typed.proofs.Uses.{used_append, consumed_append, consumed_is_used}
+use Rattle.flat_typed.proofs.Falling.{OnePart}
 use Rattle.flat_typed.proofs.Tame.{AllLeft, all_there_left}
 use Rattle.flat_typed.proofs.Behind.{leaves_then}
 use Rattle.flat_typed.proofs.Spending.{Gone}
+use Rattle.flat_typed.proofs.Operating.{EffectDone}
 use Rattle.flat_typed.proofs.Following.{Facts, owners_next, used_next, consumed_next, answer_apart, begins_next, good_next, used_old, of_none}
 
 -- ---- one operand
@@ -57,7 +58,7 @@ pub record Alone (out : Outside) (sc : Scope) (low : ℕ) (others : ℕ → ℕ)
   pub all : done.answers ≡ known ∷ []
   pub given : IsAnswer done.after needs.Held (used_wires W c.vars us) (consumed_wires W c.vars us) (wires_so_far s) c.next x known
   pub shares : x.ty.classical ≡ true → (w : WireId) → 1 ≤ owners_of done.after d.vars under w → names known w ≡ false
-  pub untold : NewDropped (wires_so_far s) (flat E s).built.draft known
+  pub untold : EndsDropped (wires_so_far s) (flat E s).built.draft known
   pub there : AllOf (IsThere sc.held c.vars) us
   pub gone : AllOf (Gone d.vars) us
   pub left : AllLeft c.vars d.vars
@@ -68,9 +69,9 @@ pub alone_stands : (out : Outside) (sc : Scope) (low : ℕ) (others : ℕ → �
 alone_stands out sc low others E W under us c s x d a = subst (λ ks. Stands out sc.held a.done.after (carrying needs.Held (x ∷ []) ks ++ under) d (flat E s)) a.all a.done.stands
 
 pub alone_of : (out : Outside) (sc : Scope) (low : ℕ) (others : ℕ → ℕ) (W : Places) (under : List Value) (taker : Ty → Receiver) (wants : List Ty) (e : Expression) (c : Context) (s : Flattening) (x : Value) (d : Context) → Facts sc taker needs.Held wants e c (x ∷ []) d
-    → Begins out sc low others W under (uses e sc c.vars needs.Held) c s → OnePart c.vars
+    → Begins out sc low others W under (uses e sc c.vars needs.Held) c s
     → (a : Alone out sc low others (meanings.expr e (as_meaning taker sc) needs.Held) W under (uses e sc c.vars needs.Held) c s x d) × (wants ≡ [] → IsTyped a.known)
-alone_of out sc low others W under taker wants e c s x d h b one = go t.done.answers refl t.done.each t.sharing t.typed t.untold
+alone_of out sc low others W under taker wants e c s x d h b = go t.done.answers refl t.done.each t.sharing t.typed t.untold
   where
     E : Effect
     E = meanings.expr e (as_meaning taker sc) needs.Held
@@ -78,11 +79,11 @@ alone_of out sc low others W under taker wants e c s x d h b one = go t.done.ans
     us : List Use
     us = uses e sc c.vars needs.Held
 
-    t : ExprShows out sc needs.Held wants (meanings.expr e (as_meaning taker sc) needs.Held) W under (uses e sc c.vars needs.Held) c s (x ∷ []) d
-    t = h.tells out low others W under s b one
+    t : ExprTells out sc needs.Held wants (meanings.expr e (as_meaning taker sc) needs.Held) W under (uses e sc c.vars needs.Held) c s (x ∷ []) d
+    t = h.tells out low others W under s b
 
     go : (ks : List Known) → t.done.answers ≡ ks → ListBoth (IsAnswer t.done.after needs.Held (used_wires W c.vars (uses e sc c.vars needs.Held)) (consumed_wires W c.vars (uses e sc c.vars needs.Held)) (wires_so_far s) c.next) (x ∷ []) ks
-        → ListBoth (Shares needs.Held c.next (λ w. owners_of t.done.after d.vars under w)) (x ∷ []) ks → (wants ≡ [] → AllOf IsTyped ks) → AllOf (NewDropped (wires_so_far s) (flat (meanings.expr e (as_meaning taker sc) needs.Held) s).built.draft) ks
+        → ListBoth (IsSharing needs.Held c.next (λ w. owners_of t.done.after d.vars under w)) (x ∷ []) ks → (wants ≡ [] → AllOf IsTyped ks) → AllOf (EndsDropped (wires_so_far s) (flat (meanings.expr e (as_meaning taker sc) needs.Held) s).built.draft) ks
         → (a : Alone out sc low others (meanings.expr e (as_meaning taker sc) needs.Held) W under (uses e sc c.vars needs.Held) c s x d) × (wants ≡ [] → IsTyped a.known)
     go [] q a sh ty un = absurd a
     go (k ∷ []) q a sh ty un = (
@@ -123,7 +124,7 @@ of_unnamed w Absent e = refl
 pub begins_less : (out : Outside) (sc : Scope) (low : ℕ) (others : ℕ → ℕ) (W : Places) (under : List Value) (us vs : List Use) (c : Context) (s : Flattening) → ((w : WireId) → consumed_wires W c.vars vs w ≡ true → consumed_wires W c.vars us w ≡ true)
     → Begins out sc low others W under us c s → Begins out sc low others W under vs c s
 begins_less out sc low others W under us vs c s less b =
-    record { good = b.good; unmade = b.unmade; sole = b.sole; counted = b.counted; stands = b.stands; open_air = b.open_air; apart = λ w t. b.apart w (less w t); placed = b.placed }
+    record { good = b.good; unmade = b.unmade; sole = b.sole; counted = b.counted; stands = b.stands; open_air = b.open_air; apart = λ w t. b.apart w (less w t); placed = b.placed; lone = b.lone }
 
 or_first : (a b : Bool) → a ≡ true → (a || b) ≡ true
 or_first true b e = refl
@@ -198,26 +199,6 @@ module _ (out : Outside) (sc : Scope) (low : ℕ) (others : ℕ → ℕ) (W : Pl
       within_both w (inl e) = inl (uses_second w (sym (same_used w) ∙ e))
       within_both w (inr le) = inr (let l = longer in omega (arith, le, l))
 
-      moved_both : (w : WireId) → (consumed_wires Ua d1.vars vs w ≡ true) ⊎ (wires_so_far s1 ≤ w.number) → (consumed_wires W c.vars (us ++ vs) w ≡ true) ⊎ (wires_so_far s ≤ w.number)
-      moved_both w (inl e) = inl (consumes_second w (sym (same_consumed w) ∙ e))
-      moved_both w (inr le) = inr (let l = longer in omega (arith, le, l))
-
-      own_moved : (k : Known) → IfOwn (λ ps. (w : WireId) → 1 ≤ times_in w ps → (consumed_wires Ua d1.vars vs w ≡ true) ⊎ (wires_so_far s1 ≤ w.number)) k → IfOwn (λ ps. (w : WireId) → 1 ≤ times_in w ps → (consumed_wires W c.vars (us ++ vs) w ≡ true) ⊎ (wires_so_far s ≤ w.number)) k
-      own_moved (Static z) h = h
-      own_moved (Shown u) h = λ e w le. moved_both w (h e w le)
-      own_moved (Lent start size u) h = h
-      own_moved Absent h = h
-
-      first_moved : (k : Known) → IfOwn (λ ps. (w : WireId) → 1 ≤ times_in w ps → (consumed_wires W c.vars us w ≡ true) ⊎ (wires_so_far s ≤ w.number)) k → IfOwn (λ ps. (w : WireId) → 1 ≤ times_in w ps → (consumed_wires W c.vars (us ++ vs) w ≡ true) ⊎ (wires_so_far s ≤ w.number)) k
-      first_moved (Static z) h = h
-      first_moved (Shown u) h = λ e w le. more w (h e w le)
-        where
-          more : (w : WireId) → (consumed_wires W c.vars us w ≡ true) ⊎ (wires_so_far s ≤ w.number) → (consumed_wires W c.vars (us ++ vs) w ≡ true) ⊎ (wires_so_far s ≤ w.number)
-          more w (inl e) = inl (consumes_first w e)
-          more w (inr le) = inr le
-      first_moved (Lent start size u) h = h
-      first_moved Absent h = h
-
       -- of wires that the first one made the second value names none
       pub none_between : (w : WireId) → wires_so_far s ≤ w.number → w.number < wires_so_far s1 → names q.known w ≡ false
       none_between w le lt = go (names q.known w) refl
@@ -230,40 +211,11 @@ module _ (out : Outside) (sc : Scope) (low : ℕ) (others : ℕ → ℕ) (W : Pl
           go false e = refl
           go true e = old (q.given.within w e)
 
-      few : (w : WireId) → wires_so_far s ≤ w.number → (w.number < wires_so_far s1) ⊎ (wires_so_far s1 ≤ w.number) → times_in w (operands_of q.known) ≤ 1
-      few w le (inr ge) = q.given.differ w ge
-      few w le (inl lt) = let z = of_unnamed w q.known (none_between w le lt) in omega (arith, z)
-
-      pub pair_done : ExprDone out sc needs.Held (Ea >> Eb) W under (us ++ vs) c s (x ∷ y ∷ []) d2
+      pub pair_done : EffectDone out sc (Ea >> Eb) W (us ++ vs) c s d2
       pair_done = record {
         fine = (p.done.fine, q.done.fine);
         after = Ub;
         agree = λ n l. q.done.agree n (let g = p.grown in omega (arith, l, g)) ∙ p.done.agree n l;
-        answers = p.known ∷ q.known ∷ [];
-        values = second_values;
-        each = (
-          record {
-            typed = p.given.typed;
-            handed = λ e. clash (sym e);
-            own = λ e. clash (sym e);
-            borrowed = λ e. clash (sym e);
-            moved = first_moved p.known p.given.moved;
-            within = λ w e. more w (p.given.within w e);
-            began = p.given.began;
-            differ = p.given.differ;
-          },
-          (record {
-            typed = q.given.typed;
-            handed = λ e. clash (sym e);
-            own = λ e. clash (sym e);
-            borrowed = λ e. clash (sym e);
-            moved = own_moved q.known q.given.moved;
-            within = λ w e. within_both w (q.given.within w e);
-            began = began_earlier q.known q.given.began;
-            differ = λ w le. few w le (cases_lt w.number (wires_so_far s1));
-          }, tt),
-        );
-        stands = alone_stands out sc low others Eb Ua under vs d1 s1 y d2 q;
         kinds_stay = q.done.kinds_stay ∙ p.done.kinds_stay;
         leaves = leaves_then s s1 s2 p.done.leaves q.done.leaves;
         touches =
@@ -273,10 +225,23 @@ module _ (out : Outside) (sc : Scope) (low : ℕ) (others : ℕ → ℕ) (W : Pl
         plain = λ e w m. p.done.plain e w (q.done.plain e w m);
         unmade = q.done.unmade;
       }
+
+      pub pair_stands : Stands out sc.held Ub under d2 s2
+      pair_stands = alone_stands out sc low others Eb Ua under vs d1 s1 y d2 q
+
+      -- each value's wires are used by both or new
+      pub first_within : (w : WireId) → names p.known w ≡ true → (used_wires W c.vars (us ++ vs) w ≡ true) ⊎ (wires_so_far s ≤ w.number)
+      first_within w e = more (p.given.within w e)
         where
-          more : (w : WireId) → (used_wires W c.vars us w ≡ true) ⊎ (wires_so_far s ≤ w.number) → (used_wires W c.vars (us ++ vs) w ≡ true) ⊎ (wires_so_far s ≤ w.number)
-          more w (inl e) = inl (uses_first w e)
-          more w (inr le) = inr le
+          more : (used_wires W c.vars us w ≡ true) ⊎ (wires_so_far s ≤ w.number) → (used_wires W c.vars (us ++ vs) w ≡ true) ⊎ (wires_so_far s ≤ w.number)
+          more (inl e) = inl (uses_first w e)
+          more (inr le) = inr le
+
+      pub second_within : (w : WireId) → names q.known w ≡ true → (used_wires W c.vars (us ++ vs) w ≡ true) ⊎ (wires_so_far s ≤ w.number)
+      second_within w e = within_both w (q.given.within w e)
+
+      pub second_began : BeganFrom (wires_so_far s) q.known
+      second_began = began_earlier q.known q.given.began
 
       -- ---- what is told of both values behind the second
 
@@ -284,7 +249,7 @@ module _ (out : Outside) (sc : Scope) (low : ℕ) (others : ℕ → ℕ) (W : Pl
       first_shares one b2 e w le = let a = owners_next out sc low others Ua under vs d1 s1 b2 needs.Held Eb (y ∷ []) d2 q.done q.left one w in p.shares e w (omega (arith, a, le))
 
       -- the second one leaves what the first one made
-      pub first_untold : NewDropped (wires_so_far s) s2.built.draft p.known
+      pub first_untold : EndsDropped (wires_so_far s) s2.built.draft p.known
       first_untold w le n m = go (cases_lt w.number (wires_so_far s1))
         where
           kept : w.number < wires_so_far s1 → consumed_wires Ua d1.vars vs w ≡ false
@@ -298,7 +263,7 @@ module _ (out : Outside) (sc : Scope) (low : ℕ) (others : ℕ → ℕ) (W : Pl
           go (inl lt) = ap (λ (f : WireForm). f.ending) (q.done.touches.ends w lt (kept lt)) ∙ p.untold w le n (sym (q.done.touches.measured w lt (kept lt)) ∙ m)
           go (inr ge) = let z = of_none (wires_so_far s1) w p.known (subst (AllOf (IsKnown (wires_so_far s1))) first_values (good_next out sc low others W under us c s begins_first needs.Held Ea (x ∷ []) d1 p.done p.left).known.values).0 ge in absurd (omega (arith, z, le))
 
-      pub second_untold : NewDropped (wires_so_far s) s2.built.draft q.known
+      pub second_untold : EndsDropped (wires_so_far s) s2.built.draft q.known
       second_untold w le n m = go (cases_lt w.number (wires_so_far s1))
         where
           go : (w.number < wires_so_far s1) ⊎ (wires_so_far s1 ≤ w.number) → (wire_in s2.built.draft.wires w).ending ≡ Dropped

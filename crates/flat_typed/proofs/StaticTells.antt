@@ -19,9 +19,8 @@ use Rattle.flat_form.specs.Flat.{flat}
 use Rattle.flat_typed.specs.Places.{Places}
 use Rattle.flat_typed.specs.Footprint.{consumed_wires}
 use Rattle.flat_typed.specs.Relation.{Outside, Stands}
-use Rattle.flat_typed.specs.Done.{Begins}
-use Rattle.flat_typed.specs.Lemmas.{Callable}
-use Rattle.flat_typed.specs.Tells.{OnePart, ExprShows, ExprTold}
+use Rattle.flat_typed.specs.Done.{Begins, ExprTells}
+use Rattle.flat_typed.specs.Lemmas.{Callable, ExprFine}
 use Rattle.flat_typed.proofs.Ordered.{clash}
 use Rattle.flat_typed.proofs.Using.{touches_none}
 use Rattle.flat_typed.proofs.Placing.{stands_pushed}
@@ -47,7 +46,7 @@ module _ (out : Outside) (sc : Scope) (low : ℕ) (others : ℕ → ℕ) (W : Pl
   none_carried v true = refl
   none_carried v false = refl
 
-  shows_static : (wants : List Ty) (t : Ty) → wants ≡ t ∷ [] → fits t.shape (meanings.static_value sc.statics e) ≡ true → Begins out sc low others W under us c s → ExprShows out sc need wants E W under us c s (value_of t ∷ []) (record c { next = suc c.next })
+  shows_static : (wants : List Ty) (t : Ty) → wants ≡ t ∷ [] → fits t.shape (meanings.static_value sc.statics e) ≡ true → Begins out sc low others W under us c s → ExprTells out sc need wants E W under us c s (value_of t ∷ []) (record c { next = suc c.next })
   shows_static wants t asked suits b = record {
     done = record {
       fine = tt;
@@ -80,26 +79,27 @@ module _ (out : Outside) (sc : Scope) (low : ℕ) (others : ℕ → ℕ) (W : Pl
     sharing = (record { shares = λ k w le. refl; new = λ q k. omega arith; lifted = λ q k. lifted_origin t.classical }, tt);
     typed = λ none. absurd (grind (arith, asked, none));
     untold = (λ w le. absurd (omega (arith, le)), tt);
+    several = tt;
   }
 
-  pub static_shows : (wants : List Ty) (vs : List Value) (d : Context) → StaticGiven sc.statics e wants c vs d → Begins out sc low others W under us c s → ExprShows out sc need wants E W under us c s vs d
+  pub static_shows : (wants : List Ty) (vs : List Value) (d : Context) → StaticGiven sc.statics e wants c vs d → Begins out sc low others W under us c s → ExprTells out sc need wants E W under us c s vs d
   static_shows wants vs d h b =
-      subst (λ ws. ExprShows out sc need wants E W under us c s ws d) (sym h.values)
-      (subst (λ f. ExprShows out sc need wants E W under us c s (value_of h.ty ∷ []) f) (sym h.left)
+      subst (λ ws. ExprTells out sc need wants E W under us c s ws d) (sym h.values)
+      (subst (λ f. ExprTells out sc need wants E W under us c s (value_of h.ty ∷ []) f) (sym h.left)
       (shows_static wants h.ty h.asked h.suits b))
 
-pub static_told : (sc : Scope) (need : Need) (wants : List Ty) (c : Context) (e : Expression) (us : List Use) → ExprTold sc need wants c (static_value sc e wants) (step (give_static (meanings.static_value sc.statics e))) us
+pub static_told : (sc : Scope) (need : Need) (wants : List Ty) (c : Context) (e : Expression) (us : List Use) → ExprFine sc need wants c (static_value sc e wants) (step (give_static (meanings.static_value sc.statics e))) us
 static_told sc need wants c e us =
     gives-more (Callable sc) 0 (λ r. StaticGiven sc.statics e wants c r.0 r.1)
-    (λ r. (out : Outside) (low : ℕ) (others : ℕ → ℕ) (W : Places) (under : List Value) (s : Flattening) → Begins out sc low others W under us c s → OnePart c.vars → ExprShows out sc need wants (step (give_static (meanings.static_value sc.statics e))) W under us c s r.0 r.1)
+    (λ r. (out : Outside) (low : ℕ) (others : ℕ → ℕ) (W : Places) (under : List Value) (s : Flattening) → Begins out sc low others W under us c s → ExprTells out sc need wants (step (give_static (meanings.static_value sc.statics e))) W under us c s r.0 r.1)
     (static_value sc e wants c) ((o_static (Callable sc) c sc e wants).runs c refl)
-    (λ r h out low others W under s b one. static_shows out sc low others W under us c s need e wants r.0 r.1 h b)
+    (λ r h out low others W under s b. static_shows out sc low others W under us c s need e wants r.0 r.1 h b)
 
 -- an expression that may be static
-pub unless_static_told : (sc : Scope) (need : Need) (wants : List Ty) (c : Context) (e : Expression) (run : Check (List Value)) (does : Effect) (us : List Use) → (is_static sc.statics e ≡ false → ExprTold sc need wants c run does us)
-    → ExprTold sc need wants c (unless_static sc e wants run) (meanings.unless_static sc.statics e does) us
+pub unless_static_told : (sc : Scope) (need : Need) (wants : List Ty) (c : Context) (e : Expression) (run : Check (List Value)) (does : Effect) (us : List Use) → (is_static sc.statics e ≡ false → ExprFine sc need wants c run does us)
+    → ExprFine sc need wants c (unless_static sc e wants run) (meanings.unless_static sc.statics e does) us
 unless_static_told sc need wants c e run does us h = go (is_static sc.statics e) refl
   where
-    go : (t : Bool) → is_static sc.statics e ≡ t → ExprTold sc need wants c (cond t (static_value sc e wants) run) (cond t (step (give_static (meanings.static_value sc.statics e))) does) us
+    go : (t : Bool) → is_static sc.statics e ≡ t → ExprFine sc need wants c (cond t (static_value sc e wants) run) (cond t (step (give_static (meanings.static_value sc.statics e))) does) us
     go true q = static_told sc need wants c e us
     go false q = h q

@@ -33,14 +33,13 @@ use Rattle.flat_form.proofs.Goods.{good_flat}
 use Rattle.flat_typed.specs.Places.{Places, times_in, owners_of}
 use Rattle.flat_typed.specs.Footprint.{used_wires, consumed_wires}
 use Rattle.flat_typed.specs.Relation.{Outside, Stands}
-use Rattle.flat_typed.specs.Done.{ExprDone, kinds}
-use Rattle.flat_typed.specs.Tells.{ExprShows}
+use Rattle.flat_typed.specs.Done.{ExprDone, ExprTells, kinds}
 use Rattle.flat_typed.proofs.Ordered.{clash}
 use Rattle.flat_typed.proofs.Touching.{flips_by_two}
 use Rattle.flat_typed.proofs.Variables.{stands_vars}
 use Rattle.flat_typed.proofs.Receiving.{bits_of, consts_none}
 use Rattle.flat_typed.proofs.Answering.{IsFrom, two_answers}
-use Rattle.flat_typed.proofs.Operating.{GivesTold, Sourced, told_borrowed, shows_then}
+use Rattle.flat_typed.proofs.Operating.{GivesTold, Sourced, EffectDone, told_borrowed, shows_then}
 use Rattle.flat_typed.proofs.Unary.{unheld_origin, lifted_origin, is_one_bit}
 
 -- ---- types
@@ -112,7 +111,7 @@ ready_none U used n under c s classical u none = record {
   dropped = λ w le. let z = none w in absurd (omega (arith, z, le));
 }
 
-module _ (op : BinaryOp) (out : Outside) (sc : Scope) (need : Need) (wants : List Ty) (E : Effect) (W : Places) (under : List Value) (us : List Use) (c : Context) (s : Flattening) (x y : Value) (d : Context) (o : ExprDone out sc needs.Held E W under us c s (x ∷ y ∷ []) d)
+module _ (op : BinaryOp) (out : Outside) (sc : Scope) (need : Need) (wants : List Ty) (E : Effect) (W : Places) (under : List Value) (us : List Use) (c : Context) (s : Flattening) (x y : Value) (d : Context) (o : EffectDone out sc E W us c s d)
     (good : Good s) (before : Context) (same : before.vars ≡ d.vars) (grown : c.next ≤ before.next) (ok : binary_fits op x.ty.shape ≡ true) where
   abbrev pub joined_value : Value
   joined_value = record { ty = record { classical = x.ty.classical && y.ty.classical; shape = binary_shape op x.ty.shape }; origin = origin_of (x.ty.classical && y.ty.classical); place = before.next }
@@ -199,7 +198,7 @@ module _ (op : BinaryOp) (out : Outside) (sc : Scope) (need : Need) (wants : Lis
         good2 : Good s2
         good2 = good_flat E s good o.fine
 
-    pub joins : ExprShows out sc need wants (E >> step (two_operands op)) W under us c s (joined_value ∷ []) behind
+    pub joins : ExprTells out sc need wants (E >> step (two_operands op)) W under us c s (joined_value ∷ []) behind
     joins =
-        shows_then out sc need needs.Held wants E W under us c s (x ∷ y ∷ []) d o (step (two_operands op)) o.after joined_value behind (λ p l. refl) fine (ap kinds same)
+        shows_then out sc need wants E W under us c s d o (step (two_operands op)) o.after joined_value behind (λ p l. refl) fine (ap kinds same)
         (subst (λ r. GivesTold out sc.held o.after need used (consumed_wires W c.vars us) (wires_so_far s) c.next under behind s2 r joined_value (flat_step (two_operands op) s2)) (ap (λ r. drop 1 (drop 1 r)) values) told)

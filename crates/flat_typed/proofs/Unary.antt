@@ -40,9 +40,8 @@ use Rattle.flat_typed.specs.Places.{Places, times_in, owners_of}
 use Rattle.flat_typed.specs.Footprint.{used_wires, consumed_wires}
 use Rattle.flat_typed.specs.Relation.{Outside, Stands, IsAnswer}
 use Rattle.flat_typed.specs.Scopes.{as_meaning, NoStatics}
-use Rattle.flat_typed.specs.Done.{Begins, ExprDone, IsTyped, carrying}
-use Rattle.flat_typed.specs.Lemmas.{Callable}
-use Rattle.flat_typed.specs.Tells.{OnePart, Shares, NewDropped, ExprShows, ExprTold, ExpressionTells}
+use Rattle.flat_typed.specs.Done.{Begins, ExprDone, IsSharing, IsTyped, EndsDropped, ExprTells, carrying}
+use Rattle.flat_typed.specs.Lemmas.{Callable, ExprFine, ExpressionIsFine}
 use Rattle.flat_typed.proofs.Ordered.{clash}
 use Rattle.flat_typed.proofs.Touching.{flips_by_one}
 use Rattle.flat_typed.proofs.Variables.{stands_vars}
@@ -52,7 +51,7 @@ use Rattle.flat_typed.proofs.StaticTells.{unless_static_told}
 use Rattle.flat_typed.proofs.Falling.{known_none}
 use Rattle.flat_typed.proofs.Answering.{one_answers}
 use Rattle.flat_typed.proofs.Following.{Facts, facts_here}
-use Rattle.flat_typed.proofs.Operating.{GivesTold, Sourced, told_borrowed, shows_then}
+use Rattle.flat_typed.proofs.Operating.{GivesTold, Sourced, effect_of, told_borrowed, shows_then}
 
 -- ---- what the walk tells
 
@@ -104,7 +103,7 @@ named_some w (p ∷ ps) le = go (named_by w p) le (named_some w ps)
 -- ---- the effect
 
 module _ (op : UnaryOp) (e : Expression) (sc : Scope) (taker : Ty → Receiver) (c : Context) (v : Value) (d : Context) (h : Facts sc taker needs.Held [] e c (v ∷ []) d) (ok : unary_fits op v.ty.shape ≡ true) (need : Need) (wants : List Ty)
-    (out : Outside) (low : ℕ) (others : ℕ → ℕ) (W : Places) (under : List Value) (s : Flattening) (b : Begins out sc low others W under (uses e sc c.vars needs.Held) c s) (one : OnePart c.vars) where
+    (out : Outside) (low : ℕ) (others : ℕ → ℕ) (W : Places) (under : List Value) (s : Flattening) (b : Begins out sc low others W under (uses e sc c.vars needs.Held) c s) where
   abbrev us : List Use
   us = uses e sc c.vars needs.Held
 
@@ -121,10 +120,10 @@ module _ (op : UnaryOp) (e : Expression) (sc : Scope) (taker : Ty → Receiver) 
   after = record d { next = suc d.next }
 
   abbrev Goal : Type 0
-  Goal = ExprShows out sc need wants (E ▸ step (one_operand op)) W under us c s (given ∷ []) after
+  Goal = ExprTells out sc need wants (E ▸ step (one_operand op)) W under us c s (given ∷ []) after
 
-  t : ExprShows out sc needs.Held [] E W under us c s (v ∷ []) d
-  t = h.tells out low others W under s b one
+  t : ExprTells out sc needs.Held [] E W under us c s (v ∷ []) d
+  t = h.tells out low others W under s b
 
   abbrev o : ExprDone out sc needs.Held E W under us c s (v ∷ []) d
   o = t.done
@@ -139,7 +138,7 @@ module _ (op : UnaryOp) (e : Expression) (sc : Scope) (taker : Ty → Receiver) 
   Told x = GivesTold out sc.held o.after need (used_wires W c.vars us) (consumed_wires W c.vars us) (wires_so_far s) c.next under after s1 (drop 1 s1.values) given x
 
   module _ (u : TypedBits) (values : s1.values ≡ Shown u ∷ s.values) (a : IsAnswer o.after needs.Held (used_wires W c.vars us) (consumed_wires W c.vars us) (wires_so_far s) c.next v (Shown u))
-      (sharing : Shares needs.Held c.next (λ w. owners_of o.after d.vars under w) v (Shown u)) (untold : NewDropped (wires_so_far s) s1.built.draft (Shown u)) (stands : Stands out sc.held o.after under d s1) where
+      (sharing : IsSharing needs.Held c.next (λ w. owners_of o.after d.vars under w) v (Shown u)) (untold : EndsDropped (wires_so_far s) s1.built.draft (Shown u)) (stands : Stands out sc.held o.after under d s1) where
     last_is : first s1.values ≡ Shown u
     last_is = ap first values
 
@@ -175,14 +174,14 @@ module _ (op : UnaryOp) (e : Expression) (sc : Scope) (taker : Ty → Receiver) 
 
     ends : Goal
     ends =
-        shows_then out sc need needs.Held wants E W under us c s (v ∷ []) d o (step (one_operand op)) o.after given after (λ p l. refl) fine refl
+        shows_then out sc need wants E W under us c s d (effect_of out sc needs.Held E W under us c s (v ∷ []) d o) (step (one_operand op)) o.after given after (λ p l. refl) fine refl
         (subst (λ l. GivesTold out sc.held o.after need (used_wires W c.vars us) (consumed_wires W c.vars us) (wires_so_far s) c.next under after s1 l given (flat_step (one_operand op) s1)) (ap (λ l. drop 1 l) values) told)
 
   pub unary_shows : Goal
   unary_shows = go o.answers o.values o.each o.stands t.sharing (t.typed refl) t.untold
     where
       go : (ks : List Known) → s1.values ≡ reverse ks ++ s.values → ListBoth (IsAnswer o.after needs.Held (used_wires W c.vars us) (consumed_wires W c.vars us) (wires_so_far s) c.next) (v ∷ []) ks
-          → Stands out sc.held o.after (carrying needs.Held (v ∷ []) ks ++ under) d s1 → ListBoth (Shares needs.Held c.next (λ w. owners_of o.after d.vars under w)) (v ∷ []) ks → AllOf IsTyped ks → AllOf (NewDropped (wires_so_far s) s1.built.draft) ks → Goal
+          → Stands out sc.held o.after (carrying needs.Held (v ∷ []) ks ++ under) d s1 → ListBoth (IsSharing needs.Held c.next (λ w. owners_of o.after d.vars under w)) (v ∷ []) ks → AllOf IsTyped ks → AllOf (EndsDropped (wires_so_far s) s1.built.draft) ks → Goal
       go [] q a st sh ty un = absurd a
       go (Static z ∷ []) q a st sh ty un = absurd ty.0
       go (Lent start size u ∷ []) q a st sh ty un = absurd a.0.typed
@@ -192,8 +191,8 @@ module _ (op : UnaryOp) (e : Expression) (sc : Scope) (taker : Ty → Receiver) 
 
 -- ---- the law
 
-pub unary_tells : (op : UnaryOp) (e : Expression) (s : Spot) → ExpressionTells e → ExpressionTells (unary op e s)
-unary_tells op e s fine sc taker need wants c t free =
+pub unary_is_fine : (op : UnaryOp) (e : Expression) (s : Spot) → ExpressionIsFine e → ExpressionIsFine (unary op e s)
+unary_is_fine op e s fine sc taker need wants c t free =
     unless_static_told sc need wants c (unary op e s) (expr e sc needs.Held [] >>= (λ vs. single e vs >>= unary_value op s)) (meanings.expr e (as_meaning taker sc) needs.Held ▸ step (one_operand op)) (uses e sc c.vars needs.Held)
     (λ q. (o_bind (Callable sc) 0 first_walk (λ vs. o_bind (Callable sc) 0 (one_of (Callable sc) (λ vs d. Facts sc taker needs.Held [] e c vs d) e vs) (λ v. o_more (Callable sc) 0 (value_tells v) (λ ws d k. ends v ws d k)))).runs c refl)
   where
@@ -210,10 +209,10 @@ unary_tells op e s fine sc taker need wants c t free =
 
     Ends : List Value → Context → Type 0
     Ends ws d =
-        (out : Outside) (low : ℕ) (others : ℕ → ℕ) (W : Places) (under : List Value) (st : Flattening) → Begins out sc low others W under (uses e sc c.vars needs.Held) c st → OnePart c.vars
-        → ExprShows out sc need wants (meanings.expr e (as_meaning taker sc) needs.Held ▸ step (one_operand op)) W under (uses e sc c.vars needs.Held) c st ws d
+        (out : Outside) (low : ℕ) (others : ℕ → ℕ) (W : Places) (under : List Value) (st : Flattening) → Begins out sc low others W under (uses e sc c.vars needs.Held) c st
+        → ExprTells out sc need wants (meanings.expr e (as_meaning taker sc) needs.Held ▸ step (one_operand op)) W under (uses e sc c.vars needs.Held) c st ws d
 
     ends : (v : Value) (ws : List Value) (d : Context) → TypedAfter (After v) v.ty.classical v.ty.shape ws d → Ends ws d
     ends v ws d k =
         subst (λ l. Ends l d) (sym k.values) (subst (λ f. Ends (record { ty = record { classical = v.ty.classical; shape = v.ty.shape }; origin = origin_of v.ty.classical; place = k.before.next } ∷ []) f) (sym k.left)
-        (λ out low others W under st b one. unary_shows op e sc taker c v k.before k.is.1 k.is.0 need wants out low others W under st b one))
+        (λ out low others W under st b. unary_shows op e sc taker c v k.before k.is.1 k.is.0 need wants out low others W under st b))
