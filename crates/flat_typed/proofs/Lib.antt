@@ -99,6 +99,10 @@ pub mod Gone
 pub mod Answering
 pub mod Lasting
 pub mod Following
+pub mod Operating
+pub mod StaticTells
+pub mod Unary
+pub mod Pairing
 pub mod OneArgument
 pub mod GateCalls
 pub mod GateWalks
@@ -120,3 +124,8 @@ pub mod Inputs
 pub mod CallMarks
 pub mod OwnCalls
 pub mod CallsStated
+pub mod TwoOperands
+pub mod LastPart
+pub mod PartSteps
+pub mod PartAssign
+pub mod PartAssignments

@@ -43,7 +43,7 @@ use Rattle.flat_typed.proofs.LentParts.{stands_lent}
 use Rattle.flat_typed.proofs.Lone.{lone_live, each_found}
 use Rattle.flat_typed.proofs.PlaceTells.{own_tells}
 
-moved_part : (is : List ℤ) (v : TypedBits) → is_empty is ≡ false → moved is v ≡ Lent (part_start v.shape is) (shape_bits (part_shape v.shape is)) v
+pub moved_part : (is : List ℤ) (v : TypedBits) → is_empty is ≡ false → moved is v ≡ Lent (part_start v.shape is) (shape_bits (part_shape v.shape is)) v
 moved_part [] v e = clash e
 moved_part (i ∷ is) v e = refl
 
