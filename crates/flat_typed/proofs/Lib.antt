@@ -129,3 +129,6 @@ pub mod LastPart
 pub mod PartSteps
 pub mod PartAssign
 pub mod PartAssignments
+pub mod Received
+pub mod UnderWay
+pub mod TakenOver
