@@ -132,3 +132,4 @@ pub mod PartAssignments
 pub mod Received
 pub mod UnderWay
 pub mod TakenOver
+pub mod ArgumentNext
