@@ -101,7 +101,7 @@ owned_append : (p : ℕ) (xs ys : List Value) → owned p (xs ++ ys) ≡ owned p
 owned_append p [] ys = omega arith
 owned_append p (x ∷ xs) ys = let a = owned_append p xs ys in omega (arith, a)
 
-handed_all : (need : Need) (p : ℕ) (vs : List Value) → is_consumed need ≡ true → handed need p vs ≡ owned p vs
+pub handed_all : (need : Need) (p : ℕ) (vs : List Value) → is_consumed need ≡ true → handed need p vs ≡ owned p vs
 handed_all needs.Held p vs e = clash (sym e)
 handed_all needs.Consumed p vs e = refl
 

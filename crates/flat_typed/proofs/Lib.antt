@@ -133,3 +133,6 @@ pub mod Received
 pub mod UnderWay
 pub mod TakenOver
 pub mod ArgumentNext
+pub mod ArgumentList
+pub mod ArgumentsDone
+pub mod ArgumentWalk

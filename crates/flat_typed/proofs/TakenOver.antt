@@ -70,7 +70,7 @@ pub record TakenNext (out : Outside) (sc : Scope) (r : Receiver) (E : Effect) (W
 abbrev pub taken_effect : Scope → (Ty → Receiver) → Expression → Receiver → Effect
 taken_effect sc taker e r = meanings.expr e (as_meaning taker sc) (need_of r) >> step (receive r)
 
-later_began : (m n : ℕ) (k : Known) → m ≤ n → BeganFrom n k → BeganFrom m k
+pub later_began : (m n : ℕ) (k : Known) → m ≤ n → BeganFrom n k → BeganFrom m k
 later_began m n (Static z) le h = h
 later_began m n (Shown u) le h = omega (arith, le, h)
 later_began m n (Lent a l u) le h = h

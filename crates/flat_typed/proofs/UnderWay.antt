@@ -32,11 +32,11 @@ linear_append : (W : Places) (w : WireId) (xs ys : List Value) → linear_carrie
 linear_append W w [] ys = omega arith
 linear_append W w (x ∷ xs) ys = let a = linear_append W w xs ys in omega (arith, a)
 
-all_first : {A : Type 0} (Q : A → Type 0) (xs ys : List A) → AllOf Q (xs ++ ys) → AllOf Q xs
+pub all_first : {A : Type 0} (Q : A → Type 0) (xs ys : List A) → AllOf Q (xs ++ ys) → AllOf Q xs
 all_first Q [] ys h = tt
 all_first Q (x ∷ xs) ys h = (h.0, all_first Q xs ys h.1)
 
-all_second : {A : Type 0} (Q : A → Type 0) (xs ys : List A) → AllOf Q (xs ++ ys) → AllOf Q ys
+pub all_second : {A : Type 0} (Q : A → Type 0) (xs ys : List A) → AllOf Q (xs ++ ys) → AllOf Q ys
 all_second Q [] ys h = h
 all_second Q (x ∷ xs) ys h = all_second Q xs ys h.1
 
