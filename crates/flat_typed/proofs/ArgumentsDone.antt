@@ -122,7 +122,7 @@ module _ (out : Outside) (sc : Scope) (low : ℕ) (others : ℕ → ℕ) (W : Pl
   still_none : is_carried r v ≡ false → (w : WireId) → owners_of p.after d.vars under w ≡ 0 → carriers U w (carried rs vs) ≡ 0 → owners_of U d2.vars (carried (r ∷ rs) (v ∷ vs) ++ under) w ≡ 0
   still_none e w z k =
       let a = owners_fall d.next p.after U q.done.agree d.vars d2.vars left2 (one_part d.vars b2.lone) under (live_before out sc low (λ x. others x + handed (need_of r) x (v ∷ [])) p.after (carried (r ∷ []) (v ∷ []) ++ under) ws d s2 b2)
-          (all_second (λ (x : Value). x.place < d.next) first_own under (under_before out sc low (λ x. others x + handed (need_of r) x (v ∷ [])) p.after (carried (r ∷ []) (v ∷ []) ++ under) ws d s2 b2)) w in
+      (all_second (λ (x : Value). x.place < d.next) first_own under (under_before out sc low (λ x. others x + handed (need_of r) x (v ∷ [])) p.after (carried (r ∷ []) (v ∷ []) ++ under) ws d s2 b2)) w in
       let f = sym (all_owners w) in
       let g = carriers_append U w (carried rs vs) (carried (r ∷ []) (v ∷ []) ++ under) in
       let h = carriers_append U w (carried (r ∷ []) (v ∷ [])) under in

@@ -136,3 +136,4 @@ pub mod ArgumentNext
 pub mod ArgumentList
 pub mod ArgumentsDone
 pub mod ArgumentWalk
+pub mod Arguments

@@ -141,7 +141,7 @@ module _ (out : Outside) (sc : Scope) (low : ℕ) (others : ℕ → ℕ) (W : Pl
     none_behind q cl w n =
         let z = none_before q cl w (gets.from w n) in
         let a = owners_fall c.next U end.0.after end.0.agree d.vars d.vars (left_same d.vars) (one_left c.vars d.vars f.left (one_part c.vars b.lone)) under
-            (below_left c.next c.vars d.vars f.left (live_before out sc low others W under us c s b)) (under_before out sc low others W under us c s b) w in
+        (below_left c.next c.vars d.vars f.left (live_before out sc low others W under us c s b)) (under_before out sc low others W under us c s b) w in
         omega (arith, z, a)
 
     next : Next
