@@ -137,3 +137,4 @@ pub mod ArgumentList
 pub mod ArgumentsDone
 pub mod ArgumentWalk
 pub mod Arguments
+pub mod ListsStated
