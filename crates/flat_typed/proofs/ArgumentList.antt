@@ -1,17 +1,14 @@
 -- The first value of a list and those behind it.
-use Rattle.std.proofs.Common.{◌≡◌, ◌⊎◌, inl, inr, ℕ, ◌+◌, ◌≤◌, ◌<◌, Bool, true, false, cond, not, ◌&&◌, ◌||◌, List, [], ◌∷◌, ◌++◌, refl, sym, ap, ap₂, ◌∙◌, subst, arith}
-use Rattle.std.specs.Prelude.{reverse}
+use Rattle.std.proofs.Common.{◌≡◌, ◌⊎◌, inl, inr, ℕ, ◌+◌, ◌≤◌, ◌<◌, Bool, true, false, cond, List, [], ◌∷◌, ◌++◌, refl, sym, ap, ◌∙◌, subst, arith}
 use Rattle.std.proofs.lemmas.Bool.{cases_lt, eq-eqb}
-use Rattle.std.proofs.lemmas.List.{append_assoc}
 use Rattle.silq_types.specs.declared.values.Value.{Value}
-use Rattle.silq_types.specs.declared.values.Var.{Var}
 use Rattle.silq_types.specs.Calls.{is_consumed}
-use Rattle.silq_mean.specs.Effect.{Effect, ◌>>◌}
+use Rattle.silq_mean.specs.Effect.{Effect}
 use Rattle.silq_mean.specs.declared.receiver.Receiver.{Receiver}
 use Rattle.check_scope.specs.declared.uses.Use.{Use}
 use Rattle.check_scope.specs.Context.{Scope, Context}
 use Rattle.check_scope.specs.Uses.{consume_and_hold}
-use Rattle.check_expr.specs.Owners.{at_place, owners, owned, handed, Sole}
+use Rattle.check_expr.specs.Owners.{owners, handed}
 use Rattle.flat_core.specs.declared.step.WireId.{WireId}
 use Rattle.bit_arith.specs.Calls.{Targets}
 use Rattle.flat_form.specs.declared.known.Known.{Known}
@@ -20,24 +17,18 @@ use Rattle.flat_form.specs.Flat.{flat}
 use Rattle.flat_form.specs.Names.{AllOf, names}
 use Rattle.flat_form.specs.Good.{IsKnown}
 use Rattle.flat_form.specs.Shows.{ListBoth}
-use Rattle.flat_typed.specs.Places.{Places, times_in, carriers, owners_of}
+use Rattle.flat_typed.specs.Places.{Places, times_in, carriers}
 use Rattle.flat_typed.specs.Footprint.{used_wires, consumed_wires}
-use Rattle.flat_typed.specs.Relation.{Outside, Stands, IsTakenOver, AllNew, is_argument, is_carried, need_of}
+use Rattle.flat_typed.specs.Relation.{Outside, IsTakenOver, AllNew, is_argument, is_carried, need_of}
 use Rattle.flat_typed.specs.Uses.{IsThere}
-use Rattle.flat_typed.specs.Done.{Agree, Begins}
-use Rattle.flat_typed.specs.Calls.{Three, carried, SparesCarried, IsGivenOver, ArgsTells}
-use Rattle.flat_typed.proofs.Ordered.{clash, or_left, or_right}
-use Rattle.flat_typed.proofs.Growing.{touches_then, touches_more}
-use Rattle.flat_typed.proofs.Behind.{leaves_then}
-use Rattle.flat_typed.proofs.Uses.{consumed_append}
+use Rattle.flat_typed.specs.Done.{Begins}
+use Rattle.flat_typed.specs.Calls.{Three, carried, SparesCarried, ArgsTells}
 use Rattle.flat_typed.proofs.Tame.{AllLeft}
-use Rattle.flat_typed.proofs.Falling.{left_owners, known_unnamed, one_part, owners_fall}
+use Rattle.flat_typed.proofs.Falling.{left_owners, known_unnamed}
 use Rattle.flat_typed.proofs.Spending.{Gone}
-use Rattle.flat_typed.proofs.Lone.{lone_stays}
-use Rattle.flat_typed.proofs.Following.{live_before, under_before}
-use Rattle.flat_typed.proofs.UnderWay.{carriers_append, owners_turned, stands_turned, all_second}
+use Rattle.flat_typed.proofs.UnderWay.{carriers_append}
 use Rattle.flat_typed.proofs.TakenOver.{TakenNext, later_began}
-use Rattle.flat_typed.proofs.ArgumentNext.{consumed_first, consumed_second, used_first, used_second, carried_consumes, handed_all, under_next, others_next, next_used, next_consumed, carried_not_used, next_apart}
+use Rattle.flat_typed.proofs.ArgumentNext.{consumed_first, consumed_second, used_first, used_second, carried_consumes, handed_all, next_used, next_consumed, carried_not_used, next_apart}
 
 -- ---- lists
 

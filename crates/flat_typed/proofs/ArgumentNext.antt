@@ -1,7 +1,6 @@
 -- From where the values behind the first one of a list begin.
-use Rattle.std.proofs.Common.{◌≡◌, ◌⊎◌, inl, inr, ℕ, ◌+◌, ◌≤◌, ◌<◌, Bool, true, false, cond, not, ◌&&◌, ◌||◌, List, [], ◌∷◌, ◌++◌, refl, sym, ap, ap₂, ◌∙◌, subst, arith}
+use Rattle.std.proofs.Common.{◌≡◌, ◌⊎◌, inl, inr, ℕ, ◌+◌, ◌≤◌, Bool, true, false, cond, not, ◌&&◌, ◌||◌, List, [], ◌∷◌, ◌++◌, refl, sym, ap, ap₂, ◌∙◌, subst, arith}
 use Rattle.std.specs.Prelude.{Option, Some, None}
-use Rattle.std.specs.List.{list_any}
 use Rattle.silq_types.specs.declared.types.Ty.{Ty}
 use Rattle.silq_types.specs.declared.values.Part.{Part}
 use Rattle.silq_types.specs.declared.values.Value.{Value}
@@ -18,15 +17,14 @@ use Rattle.check_scope.specs.Uses.{consume_and_hold}
 use Rattle.check_expr.specs.Owners.{owned, handed, Sole}
 use Rattle.flat_core.specs.declared.step.WireId.{WireId}
 use Rattle.bit_arith.specs.Calls.{among}
-use Rattle.flat_form.specs.declared.known.Known.{Known}
-use Rattle.flat_form.specs.State.{Flattening, wires_so_far, wires_in, part_of, operands_of}
+use Rattle.flat_form.specs.State.{Flattening, wires_in, part_of, operands_of}
 use Rattle.flat_form.specs.Flat.{flat}
-use Rattle.flat_form.specs.Names.{AllOf, named_by, names}
+use Rattle.flat_form.specs.Names.{AllOf, names}
 use Rattle.flat_typed.specs.Places.{Places, times_in, carriers, owners_of}
 use Rattle.flat_typed.specs.Footprint.{wires_for, wires_of_part, used_wires, consumed_wires}
-use Rattle.flat_typed.specs.Relation.{Outside, Stands, is_argument, is_carried, need_of}
+use Rattle.flat_typed.specs.Relation.{Outside, is_argument, is_carried, need_of}
 use Rattle.flat_typed.specs.Uses.{IsThere}
-use Rattle.flat_typed.specs.Done.{Agree, Counted, Begins}
+use Rattle.flat_typed.specs.Done.{Agree, Begins}
 use Rattle.flat_typed.specs.Calls.{carried}
 use Rattle.flat_typed.proofs.Ordered.{clash}
 use Rattle.flat_typed.proofs.Moving.{found_all}

@@ -1,19 +1,16 @@
 -- What the walk of values that are taken over in turn asks: their types, their places, and uses that do not clash.
-use Rattle.std.proofs.Common.{◌≡◌, ◌⊎◌, inl, inr, ℕ, ◌+◌, ◌≤◌, ◌<◌, Bool, true, false, cond, not, ◌&&◌, ◌||◌, List, [], ◌∷◌, ◌++◌, length, map, drop, refl, sym, ap, ap₂, ◌∙◌, subst, arith}
+use Rattle.std.proofs.Common.{◌≡◌, ◌⊎◌, inl, inr, ℕ, ◌+◌, ◌≤◌, ◌<◌, Bool, true, false, cond, not, ◌&&◌, ◌||◌, List, [], ◌∷◌, ◌++◌, map, drop, refl, sym, ap, ap₂, ◌∙◌, subst, arith}
 use Rattle.std.proofs.lemmas.Bool.{cases_lt, eq-eqb, lt-ltb}
 use Rattle.std.specs.Prelude.{◌==◌, ⊤, nat_lt}
 use Rattle.silq_tree.specs.Syntax.{Expression, Expressions, none, more}
 use Rattle.silq_types.specs.declared.types.Ty.{Ty}
 use Rattle.silq_types.specs.declared.need.Need.{Need}
-use Rattle.silq_types.specs.declared.need.Need.TheVariants as needs
 use Rattle.silq_types.specs.declared.values.Value.{Value}
 use Rattle.silq_types.specs.declared.values.Var.{Var}
-use Rattle.silq_types.specs.Types.{shape_eq, count, at}
+use Rattle.silq_types.specs.Types.{shape_eq, at}
 use Rattle.silq_types.specs.Calls.{is_consumed, first_need, later_needs}
 use Rattle.silq_mean.specs.declared.receiver.Receiver.{Receiver}
 use Rattle.silq_mean.specs.declared.receiver.Receiver.TheVariants.{Variable, Argument, CallResult, EntryOutput}
-use Rattle.silq_mean.specs.Effect.{Effect, nothing, step, receive, ◌>>◌}
-use Rattle.silq_mean.specs.Meaning as meanings
 use Rattle.check_scope.specs.declared.uses.Use.{Use}
 use Rattle.check_scope.specs.Context.{Scope, Context, overlaps}
 use Rattle.silq_types.specs.declared.values.Part.{Part}
@@ -23,28 +20,16 @@ use Rattle.flat_typed.proofs.Changing.{same_shape}
 use Rattle.flat_typed.specs.Done.{kinds}
 use Rattle.flat_typed.proofs.ArgumentNext.{handed_all}
 use Rattle.check_scope.specs.Uses.{uses, all_uses, argument_uses, meets, is_only_held, some_pair, some_with, both_consume, consume_and_hold, clash as uses_clash}
-use Rattle.check_expr.specs.Expression.{Asked, first_asked, later_asked, is_tuple, lone_need, lone_wants, suits, expr, arguments}
-use Rattle.check_expr.specs.Owners.{at_place, owners, owned, handed, handed_arguments, Sole, Gives, Ensures}
-use Rattle.check_expr.proofs.Owners.{gives-more, sole-less, o_bind, o_then, o_back, o_more, o_rules, o_suits}
-use Rattle.flat_form.specs.State.{Flattening}
-use Rattle.flat_form.specs.Flat.{flat}
-use Rattle.flat_form.specs.Names.{AllOf}
+use Rattle.check_expr.specs.Expression.{Asked, first_asked, later_asked, suits}
+use Rattle.check_expr.specs.Owners.{owners, handed, handed_arguments, Ensures}
+use Rattle.check_expr.proofs.Owners.{o_more, o_rules, o_suits}
 use Rattle.flat_form.specs.Shows.{ListBoth}
-use Rattle.flat_typed.specs.Places.{Places}
-use Rattle.flat_typed.specs.Relation.{Outside, FitsPart, is_argument, need_of}
-use Rattle.flat_typed.specs.Scopes.{as_meaning, NoStatics}
-use Rattle.flat_typed.specs.Uses.{IsThere}
-use Rattle.flat_typed.specs.Done.{Begins}
-use Rattle.flat_typed.specs.Calls.{ArgsTells}
-use Rattle.flat_typed.specs.Lemmas.{Callable, ExpressionIsFine, EachIsFine, Agrees, Asking, uses_by, Untangled, ArgumentsAreFine}
+use Rattle.flat_typed.specs.Relation.{is_argument, need_of}
+use Rattle.flat_typed.specs.Lemmas.{Agrees, Asking, Untangled}
 use Rattle.flat_typed.proofs.Ordered.{clash, or_left, or_right}
-use Rattle.flat_typed.proofs.Uses.{all_join, uses_kinds, all_uses_kinds}
-use Rattle.flat_typed.proofs.Tame.{AllLeft, left_then, left_same, kinds_left, all_there_left}
-use Rattle.flat_typed.proofs.Reached.{one_of}
-use Rattle.flat_typed.proofs.Lasting.{statics_left}
-use Rattle.flat_typed.proofs.LastTold.{dead, dead_sole}
-use Rattle.flat_typed.proofs.Following.{Facts, facts_here}
-use Rattle.flat_typed.proofs.TakenOver.{Suited, taken_next}
+use Rattle.flat_typed.proofs.Uses.{uses_kinds}
+use Rattle.flat_typed.proofs.LastTold.{dead}
+use Rattle.flat_typed.proofs.TakenOver.{Suited}
 use Rattle.flat_typed.proofs.ArgumentList.{HadOwner}
 
 -- ---- what is asked

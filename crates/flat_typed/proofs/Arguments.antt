@@ -6,16 +6,15 @@ use Rattle.silq_types.specs.declared.types.Ty.{Ty}
 use Rattle.silq_types.specs.declared.need.Need.{Need}
 use Rattle.silq_types.specs.declared.need.Need.TheVariants as needs
 use Rattle.silq_types.specs.declared.values.Value.{Value}
-use Rattle.silq_types.specs.declared.values.Var.{Var}
 use Rattle.silq_types.specs.Types.{count}
 use Rattle.silq_mean.specs.declared.receiver.Receiver.{Receiver}
-use Rattle.silq_mean.specs.Effect.{Effect, nothing, step, receive, ◌>>◌}
+use Rattle.silq_mean.specs.Effect.{Effect, step, receive, ◌>>◌}
 use Rattle.silq_mean.specs.Meaning as meanings
 use Rattle.check_scope.specs.declared.uses.Use.{Use}
 use Rattle.check_scope.specs.Context.{Scope, Context}
 use Rattle.check_scope.specs.Uses.{uses, all_uses, consume_and_hold}
 use Rattle.check_expr.specs.Expression.{Asked, first_asked, later_asked, is_tuple, lone_need, lone_wants, expr, arguments}
-use Rattle.check_expr.specs.Owners.{owned, handed, handed_arguments, Sole, Gives, Ensures}
+use Rattle.check_expr.specs.Owners.{handed, handed_arguments, Sole, Gives, Ensures}
 use Rattle.check_expr.proofs.Owners.{gives-more, sole-less, o_bind, o_then, o_back, o_more}
 use Rattle.flat_form.specs.State.{Flattening}
 use Rattle.flat_form.specs.Flat.{flat}
@@ -25,7 +24,7 @@ use Rattle.flat_typed.specs.Places.{Places}
 use Rattle.flat_typed.specs.Relation.{Outside, FitsPart, is_argument, need_of}
 use Rattle.flat_typed.specs.Scopes.{as_meaning, NoStatics}
 use Rattle.flat_typed.specs.Uses.{IsThere}
-use Rattle.flat_typed.specs.Done.{Begins, kinds}
+use Rattle.flat_typed.specs.Done.{Begins}
 use Rattle.flat_typed.specs.Calls.{carried, ArgsTells}
 use Rattle.flat_typed.specs.Lemmas.{Callable, ExpressionIsFine, EachIsFine, Asking, uses_by, Untangled, ArgumentsAreFine}
 use Rattle.flat_typed.proofs.Ordered.{clash}

@@ -1,5 +1,5 @@
 -- What taking a value over tells: what the value that it gives names, and where its expression began.
-use Rattle.std.proofs.Common.{◌≡◌, ◌⊎◌, inl, inr, ℕ, ◌+◌, ◌≤◌, Bool, true, false, cond, not, ◌||◌, List, [], ◌∷◌, length, ℤ, refl, sym, ap, ◌∙◌, subst, arith}
+use Rattle.std.proofs.Common.{◌≡◌, ◌⊎◌, inl, inr, ℕ, ◌≤◌, Bool, true, false, cond, not, ◌||◌, List, [], ◌∷◌, length, ℤ, sym, ◌∙◌, subst}
 use Rattle.std.specs.List.{list_any}
 use Rattle.silq_types.specs.declared.types.Shape.{Shape}
 use Rattle.silq_types.specs.declared.types.Shape.TheVariants.{Bit, UInt, Int, Array}
@@ -19,7 +19,7 @@ use Rattle.flat_form.specs.declared.known.TypedBits.{TypedBits}
 use Rattle.flat_form.specs.declared.known.Known.{Known}
 use Rattle.flat_form.specs.declared.known.Known.TheVariants.{Static, Shown, Lent, Absent}
 use Rattle.flat_form.specs.State.{Caller, Flattening, began_or, first, last, drop_last, wires_so_far, are_wires, are_new, as_they_are, copied, taken, kept, typed_as}
-use Rattle.flat_form.specs.Flat.{taken_for, began_for, receive_value, shape_for, flat_step}
+use Rattle.flat_form.specs.Flat.{taken_for, began_for, receive_value, flat_step}
 use Rattle.flat_form.specs.Names.{named_by, names}
 use Rattle.flat_typed.specs.Places.{times_in}
 use Rattle.flat_typed.specs.Relation.{BeganFrom}

@@ -1,5 +1,5 @@
 -- One value of a list: its expression, and what takes it over.
-use Rattle.std.proofs.Common.{◌≡◌, ◌⊎◌, inl, inr, ℕ, ◌≤◌, ◌<◌, Bool, true, false, List, [], ◌∷◌, ◌++◌, drop, ℤ, refl, sym, ap, ◌∙◌, subst, arith}
+use Rattle.std.proofs.Common.{◌≡◌, ◌⊎◌, inl, inr, ℕ, ◌≤◌, ◌<◌, true, false, List, [], ◌∷◌, ◌++◌, drop, ℤ, refl, sym, ap, ◌∙◌, subst, arith}
 use Rattle.std.specs.Prelude.{reverse}
 use Rattle.std.proofs.lemmas.Bool.{cases_lt}
 use Rattle.silq_tree.specs.Syntax.{Expression}
@@ -10,7 +10,7 @@ use Rattle.silq_types.specs.Calls.{is_consumed}
 use Rattle.silq_mean.specs.Effect.{Effect, step, receive, ◌>>◌}
 use Rattle.silq_mean.specs.Meaning as meanings
 use Rattle.silq_mean.specs.declared.receiver.Receiver.{Receiver}
-use Rattle.silq_mean.specs.declared.receiver.Receiver.TheVariants.{Variable, EntryOutput}
+use Rattle.silq_mean.specs.declared.receiver.Receiver.TheVariants.{Variable}
 use Rattle.check_scope.specs.declared.uses.Use.{Use}
 use Rattle.check_scope.specs.Context.{Scope, Context}
 use Rattle.check_scope.specs.Uses.{uses}
@@ -18,7 +18,7 @@ use Rattle.check_expr.specs.Expression.{is_qfree}
 use Rattle.flat_core.specs.declared.step.WireId.{WireId}
 use Rattle.flat_form.specs.declared.known.Known.{Known}
 use Rattle.flat_form.specs.declared.known.Known.TheVariants.{Static, Shown, Lent, Absent}
-use Rattle.flat_form.specs.State.{Flattening, began_or, first, last, drop_last, wires_so_far}
+use Rattle.flat_form.specs.State.{Flattening, began_or, first, last, wires_so_far}
 use Rattle.flat_form.specs.Flat.{flat, flat_step}
 use Rattle.flat_form.specs.Fine.{Fine}
 use Rattle.flat_form.specs.Names.{AllOf, names}
@@ -27,18 +27,17 @@ use Rattle.flat_form.specs.Shows.{ListBoth}
 use Rattle.flat_form.proofs.Goods.{good_flat}
 use Rattle.flat_typed.specs.Places.{Places, owners_of}
 use Rattle.flat_typed.specs.Footprint.{used_wires, consumed_wires, Touches, StaysPlain, Unmade}
-use Rattle.flat_typed.specs.Relation.{Outside, Stands, IsAnswer, IsTakenOver, BeganFrom, taken_type, is_carried, need_of}
+use Rattle.flat_typed.specs.Relation.{Outside, Stands, IsAnswer, IsTakenOver, BeganFrom, taken_type, need_of}
 use Rattle.flat_typed.specs.Scopes.{as_meaning}
 use Rattle.flat_typed.specs.Done.{Agree, Begins, ExprTells, IsSharing, IsTyped, EndsDropped, Leaves, carrying, kinds}
 use Rattle.flat_typed.specs.Calls.{carried}
 use Rattle.flat_typed.proofs.Ordered.{clash}
 use Rattle.flat_typed.proofs.Growing.{touches_then}
 use Rattle.flat_typed.proofs.Behind.{leaves_then}
-use Rattle.flat_typed.proofs.Placing.{KnowsNone}
 use Rattle.flat_typed.proofs.Taking.{Around, TakesOver}
 use Rattle.flat_typed.proofs.Receiving.{IsSuited, receive_done}
 use Rattle.flat_typed.proofs.Received.{Receives, received}
-use Rattle.flat_typed.proofs.Tame.{AllLeft, left_same}
+use Rattle.flat_typed.proofs.Tame.{left_same}
 use Rattle.flat_typed.proofs.Falling.{one_part, owners_fall}
 use Rattle.flat_typed.proofs.Following.{Facts, one_left, below_left, live_before, under_before, good_next, knows_next, around_next}
 

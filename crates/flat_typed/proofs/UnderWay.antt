@@ -1,21 +1,17 @@
 -- Values under way in another order, and parts that are used beside them.
-use Rattle.std.proofs.Common.{◌≡◌, ◌⊎◌, inl, inr, ℕ, ◌+◌, ◌≤◌, ◌<◌, Bool, true, false, cond, not, ◌&&◌, ◌||◌, List, [], ◌∷◌, ◌++◌, refl, sym, ap, ap₂, ◌∙◌, subst, arith}
+use Rattle.std.proofs.Common.{◌≡◌, ◌⊎◌, inl, inr, ◌+◌, ◌≤◌, Bool, true, false, ◌||◌, List, [], ◌∷◌, ◌++◌, refl, sym, ap₂, ◌∙◌, arith}
 use Rattle.silq_types.specs.declared.values.Part.{Part}
 use Rattle.silq_types.specs.declared.values.Value.{Value}
 use Rattle.silq_types.specs.declared.values.Var.{Var}
-use Rattle.silq_types.specs.Types.{is_linear}
 use Rattle.check_scope.specs.declared.uses.Use.{Use}
 use Rattle.check_scope.specs.Context.{Context, variable}
 use Rattle.flat_core.specs.declared.step.WireId.{WireId}
 use Rattle.flat_form.specs.State.{Flattening, wires_in}
 use Rattle.flat_form.specs.Names.{AllOf, names, operands_in}
-use Rattle.flat_typed.specs.Places.{Places, is_part, is_shared, shown, times_in, carriers, linear_carriers, owners_of, linear_owners}
+use Rattle.flat_typed.specs.Places.{Places, is_shared, shown, times_in, carriers, linear_carriers, owners_of, linear_owners}
 use Rattle.flat_typed.specs.Footprint.{wires_of_part, used_wires}
 use Rattle.flat_typed.specs.Relation.{Outside, Stands}
 use Rattle.flat_typed.specs.Uses.{IsThere}
-use Rattle.flat_typed.proofs.Ordered.{clash}
-use Rattle.flat_typed.proofs.Parts.{found_there}
-use Rattle.flat_typed.proofs.Changes.{whole_is}
 use Rattle.flat_typed.proofs.Moving.{found_all}
 use Rattle.flat_typed.proofs.Owning.{among_times}
 use Rattle.flat_typed.proofs.Apart.{used_part, wires_are, part_shows}
