@@ -79,3 +79,4 @@ pub mod Results
 pub mod ReturnedValues
 pub mod BodyEnds
 pub mod Bodies
+pub mod Instances
