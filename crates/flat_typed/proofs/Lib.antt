@@ -80,3 +80,4 @@ pub mod ReturnedValues
 pub mod BodyEnds
 pub mod Bodies
 pub mod Instances
+pub mod HeldStay
