@@ -16,11 +16,11 @@ use Rattle.bit_arith.specs.declared.operand.Operand.TheVariants.{Const, Literal}
 use Rattle.bit_arith.specs.Built.{Built, Setting, Given, new_wire, next_wire, made, negated, read, blank, under_condition}
 use Rattle.bit_arith.specs.Rows.{flip}
 use Rattle.bit_arith.specs.Calls.{Targets, no_target, Safe, AllSafe}
+use Rattle.bit_arith.specs.Does.{Fresh}
 use Rattle.flat_form.specs.State.{Flattening, wires_so_far, wires_in, part_of, build}
 use Rattle.flat_form.specs.Flat.{as_condition, entered, enter_branch}
-use Rattle.flat_form.specs.Good.{Good}
 use Rattle.flat_form.specs.Names.{AllOf, named_by}
-use Rattle.flat_form.proofs.Goods.{Branches, goes_branch}
+use Rattle.flat_form.proofs.Goods.{Branches}
 use Rattle.flat_typed.specs.Places.{Places, is_part, has_wires, part_out, holders, owners_of, times_in}
 use Rattle.flat_typed.specs.Relation.{Outside, Guards, Stands, SparesGuarded}
 use Rattle.flat_typed.proofs.Ordered.{clash, or_left, or_right}
@@ -118,16 +118,16 @@ guarded_cases G p c w e = go (G w) (named_by w p) refl refl e
     go false false f g e = inr (inr e)
 
 -- no part of the variable that these parts do not overlap has a wire that the operand names
-abbrev pub ClearOf : Operand → List Part → Places → Var → Type 0
-ClearOf p ps W v =
-    has_wires v ≡ true → (is : List ℤ) (t : Ty) → part_type v.ty.classical v.ty.shape is ≡ Some t → overlaps_any ps (part_at v.part.name is) ≡ false →
+abbrev pub ClearOf : List (List Part) → Operand → List Part → Places → Var → Type 0
+ClearOf held p ps W v =
+    has_wires v ≡ true → (is : List ℤ) (t : Ty) → part_type v.ty.classical v.ty.shape is ≡ Some t → is_in_condition held (part_at v.part.name is) ≡ false → overlaps_any ps (part_at v.part.name is) ≡ false →
     (w : WireId) → 1 ≤ times_in w (part_of v.ty.shape is (W v.place)) → named_by w p ≡ false
 
-safe_below : (n : ℕ) (T : Targets) (p : Operand) (w : WireId) → Safe n T p → named_by w p ≡ true → w.number < n
+pub safe_below : (n : ℕ) (T : Targets) (p : Operand) (w : WireId) → Safe n T p → named_by w p ≡ true → w.number < n
 safe_below n T (Const b) w s e = clash (sym e)
 safe_below n T (Literal l) w s e = subst (λ (x : WireId). x.number < n) (wire_is l.wire w e) s.0
 
-condition_below : (n : ℕ) (c : Option Operand) (w : WireId) → AllSafe n no_target (under_condition c []) → guards_wire c w ≡ true → w.number < n
+pub condition_below : (n : ℕ) (c : Option Operand) (w : WireId) → AllSafe n no_target (under_condition c []) → guards_wire c w ≡ true → w.number < n
 condition_below n None w s e = clash (sym e)
 condition_below n (Some p) w s e = safe_below n no_target p w s.0 e
 
@@ -145,7 +145,7 @@ held_more (h ∷ hs) ps q e =
     go a b e f = ap (λ t. t || b) e ∙ f
 
 module _ (G : Targets) (p : Operand) (cnd : Option Operand) (ps : List Part) (held : List (List Part)) (W : Places) (all : List Var) (n : ℕ) (none : (y : NameId) → part_out all y ≡ None) (new : (w : WireId) → guards_wire cnd w ≡ true → (named_by w p ≡ true) ⊎ (n ≤ w.number)) where
-  one_spared : (v : Var) → ((w : WireId) → has_wires v ≡ true → 1 ≤ times_in w (W v.place) → w.number < n) → SparesGuarded G held W v → ClearOf p ps W v → SparesGuarded (guarded_in G p cnd) (held ++ ps ∷ []) W v
+  one_spared : (v : Var) → ((w : WireId) → has_wires v ≡ true → 1 ≤ times_in w (W v.place) → w.number < n) → SparesGuarded G held W v → ClearOf held p ps W v → SparesGuarded (guarded_in G p cnd) (held ++ ps ∷ []) W v
   one_spared v low sp clear has is t kind loose =
       each_named (λ w. guarded_in G p cnd w ≡ false) (part_of v.ty.shape is (W v.place)) (λ w le. go w le (guarded_in G p cnd w) refl)
     where
@@ -157,7 +157,7 @@ module _ (G : Targets) (p : Operand) (cnd : Option Operand) (ps : List Part) (he
       go w le true e = pick (guarded_cases G p cnd w e)
         where
           operand : named_by w p ≡ true → true ≡ false
-          operand m = clash (sym m ∙ clear has is t kind apart.1 w le)
+          operand m = clash (sym m ∙ clear has is t kind apart.0 apart.1 w le)
 
           pick : (G w ≡ true) ⊎ ((named_by w p ≡ true) ⊎ (guards_wire cnd w ≡ true)) → true ≡ false
           pick (inl g) =
@@ -173,7 +173,7 @@ module _ (G : Targets) (p : Operand) (cnd : Option Operand) (ps : List Part) (he
                   let b = low w has (omega (arith, a, le)) in
                   absurd (omega (arith, b, above))
 
-  all_spared : (vs : List Var) → ((w : WireId) → 1 ≤ holders W all w vs → w.number < n) → AllOf (SparesGuarded G held W) vs → AllOf (ClearOf p ps W) vs → AllOf (SparesGuarded (guarded_in G p cnd) (held ++ ps ∷ []) W) vs
+  all_spared : (vs : List Var) → ((w : WireId) → 1 ≤ holders W all w vs → w.number < n) → AllOf (SparesGuarded G held W) vs → AllOf (ClearOf held p ps W) vs → AllOf (SparesGuarded (guarded_in G p cnd) (held ++ ps ∷ []) W) vs
   all_spared [] low sp clear = tt
   all_spared (v ∷ vs) low sp clear = (
     one_spared v (λ w has le. low w (let a = owns_all W all w v (none v.part.name) has (wired_live v has) in omega (arith, a, le))) sp.0 clear.0,
@@ -184,8 +184,8 @@ module _ (out : Outside) (held : List (List Part)) (W : Places) (c : Context) (s
   abbrev pub in_branch : Outside
   in_branch = record { guarded = guarded_in out.guarded p (enter_branch p s).setting.condition; answered = out.answered }
 
-  pub stands_entered : Good s → Safe (wires_so_far s) no_target p → Stands out held W [] c s → AllOf (λ v. is_part v ≡ false) c.vars → AllOf (ClearOf p ps W) c.vars → Stands in_branch (held ++ ps ∷ []) W [] c (enter_branch p s)
-  stands_entered g safe r whole clear = record {
+  pub stands_entered : Fresh s.built.draft → Branches s (enter_branch p s) → ((w : WireId) → named_by w p ≡ true → w.number < wires_so_far s) → Stands out held W [] c s → AllOf (λ v. is_part v ≡ false) c.vars → AllOf (ClearOf held p ps W) c.vars → Stands in_branch (held ++ ps ∷ []) W [] c (enter_branch p s)
+  stands_entered fresh b safe r whole clear = record {
     env = r.env;
     differ = r.differ;
     parts = r.parts;
@@ -206,12 +206,9 @@ module _ (out : Outside) (held : List (List Part)) (W : Places) (c : Context) (s
       k = branch_enters p s
 
       h : Stands out held W [] c (build (entered s.setting p s.built).built s)
-      h = stands_grown out held W [] c s (entered s.setting p s.built).built (flips_plain no_target (wires_so_far s) s.built (entered s.setting p s.built).built g.fresh k.flips) r
-
-      b : Branches s (enter_branch p s)
-      b = goes_branch p s g safe
+      h = stands_grown out held W [] c s (entered s.setting p s.built).built (flips_plain no_target (wires_so_far s) s.built (entered s.setting p s.built).built fresh k.flips) r
 
       below : (w : WireId) → (out.guarded w ≡ true) ⊎ ((named_by w p ≡ true) ⊎ (guards_wire (enter_branch p s).setting.condition w ≡ true)) → w.number < wires_so_far (enter_branch p s)
       below w (inl e) = h.below w e
-      below w (inr (inl e)) = let a = safe_below (wires_so_far s) no_target p w safe e in let f = k.flips.few in omega (arith, a, f)
+      below w (inr (inl e)) = let a = safe w e in let f = k.flips.few in omega (arith, a, f)
       below w (inr (inr e)) = condition_below (wires_so_far (enter_branch p s)) (enter_branch p s).setting.condition w b.good.condition e

@@ -54,7 +54,7 @@ two_found W all (z ∷ zs) w x y v u e f n = go (same_part z.part (variable x)) 
     go false g true h e f i = let a : holds W all w z ≡ holds W all w u = ap (holds W all w) (some_same z u f) in let b = one_found W all zs w (variable x) v e in omega (arith, a, b)
     go false g false h e f i = let a = i e f in omega (arith, a)
 
-named_none : (w : WireId) (ps : List Operand) → list_any (named_by w) ps ≡ false → times_in w ps ≡ 0
+pub named_none : (w : WireId) (ps : List Operand) → list_any (named_by w) ps ≡ false → times_in w ps ≡ 0
 named_none w [] e = refl
 named_none w (p ∷ ps) e = go (named_by w p) e (named_none w ps)
   where

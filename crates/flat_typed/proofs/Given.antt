@@ -80,6 +80,7 @@ then_tells out sc need other wants e W under us c s xs d o st U v f agree fine s
   sharing = (g.sharing, tt);
   typed = λ q. (g.typed, tt);
   untold = (g.untold, tt);
+  several = tt;
 }
 
 -- an effect with nothing behind it
@@ -102,6 +103,7 @@ with_nothing out sc need wants e W under us c s vs d t = record {
   sharing = t.sharing;
   typed = t.typed;
   untold = t.untold;
+  several = t.several;
 }
 
 -- ---- one value with a type

@@ -148,6 +148,7 @@ module _ (out : Outside) (sc : Scope) (low : ℕ) (others : ℕ → ℕ) (W : Pl
     sharing = (record { shares = λ e. clash (sym e); new = λ q e. clash (sym e); lifted = λ q e. clash (sym e) }, tt);
     typed = λ e. (tt, tt);
     untold = (λ w le. let a = none w in absurd (omega (arith, a, le)), tt);
+    several = tt;
   }
 
 pub typed_number_is_fine : (n : ℤ) (k : ScalarType) (s : Spot) → ExpressionIsFine (typed_number n k s)

@@ -159,7 +159,7 @@ module _ (U W : Places) (all more : List Var) (none : (y : NameId) → part_out 
       ap (λ t. cond t (entries U more ws) ((w.part.name, shown U more w) ∷ entries U more ws)) (same_is_part v w h.0)
       ∙ ap₂ (λ l e. cond (is_part v) l (e ∷ l)) (same_entries vs ws h.1 a.1) (ap₂ (λ (p : Part) k. (p.name, k)) h.0.part (same_shown v w h.0 a.0))
 
-  same_holds : (q : WireId) (v w : Var) → SameVar v w → LiveAgree U W v → holds U more q w ≡ holds W all q v
+  pub same_holds : (q : WireId) (v w : Var) → SameVar v w → LiveAgree U W v → holds U more q w ≡ holds W all q v
   same_holds q v w h a = ap₂ (λ t k. cond t (times_in q (operands_in k)) 0) (same_wired v w h) (same_shown v w h a)
 
   pub same_holders : (q : WireId) (vs ws : List Var) → AllSame vs ws → AllOf (LiveAgree U W) vs → holders U more q ws ≡ holders W all q vs

@@ -126,7 +126,7 @@ all_entered after W used consumed n low i (p ∷ ps) (v ∷ vs) (k ∷ ks) a t =
     }
 
 -- whether a parameter owns its wires, and is Linear
-wires_by : (h c : Bool) → not (c || is_held (cond h Held (cond c Classical Linear))) ≡ is_consumed (cond h needs.Held needs.Consumed) && not c
+pub wires_by : (h c : Bool) → not (c || is_held (cond h Held (cond c Classical Linear))) ≡ is_consumed (cond h needs.Held needs.Consumed) && not c
 wires_by true true = refl
 wires_by true false = refl
 wires_by false true = refl

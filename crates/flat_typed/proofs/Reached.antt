@@ -44,7 +44,7 @@ use Rattle.flat_typed.proofs.Turns.{gives_both, wired_live}
 abbrev pub Told : Scope → Need → Expression → Context → Context → Type 0
 Told sc need e c d = (W : Places) → AllOf (FitsPart W c.vars) c.vars → AllOf (IsThere sc.held c.vars) (uses e sc c.vars need) × (AllLeft c.vars d.vars × AllOf (FitsPart W d.vars) d.vars)
 
-gives_each : {A B : Type 0} (S : InstanceKey → Signature → Type 0) (P : B → A → Type 0) (w : Walk A) → ((b : B) → Gives S (P b) w) → Gives S (λ a. (b : B) → P b a) w
+pub gives_each : {A B : Type 0} (S : InstanceKey → Signature → Type 0) (P : B → A → Type 0) (w : Walk A) → ((b : B) → Gives S (P b) w) → Gives S (λ a. (b : B) → P b a) w
 gives_each S P (answer a) h = h
 gives_each S P (broken e) h = tt
 gives_each S P (counted w) h = gives_each S P w h

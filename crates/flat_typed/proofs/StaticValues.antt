@@ -139,6 +139,7 @@ module _ (out : Outside) (sc : Scope) (low : ℕ) (others : ℕ → ℕ) (W : Pl
       sharing = (record { shares = λ k w le. refl; new = λ q k. omega arith; lifted = λ q k. ap (λ b. is_linear (origin_of b)) k }, tt);
       typed = λ none. absurd (grind (arith, asked, none));
       untold = (λ w le. absurd (omega (arith, le)), tt);
+      several = tt;
     }
 
   pub static_ends : (wants : List Ty) (vs : List Value) (d : Context) → StaticGiven sc.statics e wants c vs d → Begins out sc low others W under us c s → ExprTells out sc need wants E W under us c s vs d

@@ -76,7 +76,7 @@ known_unnamed n (Lent start size v) h w le = no_times w (operands_in (Lent start
     none (inl lt) = let a = times_there n w v.operands h.there (omega (arith, lt)) in absurd (omega (arith, a, le))
     none (inr z) = let a = span_and_outside w start size v.operands in omega (arith, z, a)
 
-all_unnamed : (n : ℕ) (ks : List Known) → AllOf (IsKnown n) ks → (w : WireId) → n ≤ w.number → AllOf (λ k. names k w ≡ false) ks
+pub all_unnamed : (n : ℕ) (ks : List Known) → AllOf (IsKnown n) ks → (w : WireId) → n ≤ w.number → AllOf (λ k. names k w ≡ false) ks
 all_unnamed n [] h w le = tt
 all_unnamed n (k ∷ ks) h w le = (known_unnamed n k h.0 w le, all_unnamed n ks h.1 w le)
 
@@ -84,11 +84,11 @@ block_unnamed : (n : ℕ) (b : List (NameId × Known)) → AllOf (λ (p : NameId
 block_unnamed n [] h w le = tt
 block_unnamed n (p ∷ ps) h w le = (known_unnamed n p.1 h.0 w le, block_unnamed n ps h.1 w le)
 
-env_unnamed : (n : ℕ) (env : Env Known) → AllEnv (IsKnown n) env → (w : WireId) → n ≤ w.number → AllEnv (λ k. names k w ≡ false) env
+pub env_unnamed : (n : ℕ) (env : Env Known) → AllEnv (IsKnown n) env → (w : WireId) → n ≤ w.number → AllEnv (λ k. names k w ≡ false) env
 env_unnamed n [] h w le = tt
 env_unnamed n (b ∷ bs) h w le = (block_unnamed n b h.0 w le, env_unnamed n bs h.1 w le)
 
-callers_unnamed : (n : ℕ) (cs : List Caller) → AllOf (CallerOf (IsKnown n)) cs → (w : WireId) → n ≤ w.number → AllOf (CallerOf (λ k. names k w ≡ false)) cs
+pub callers_unnamed : (n : ℕ) (cs : List Caller) → AllOf (CallerOf (IsKnown n)) cs → (w : WireId) → n ≤ w.number → AllOf (CallerOf (λ k. names k w ≡ false)) cs
 callers_unnamed n [] h w le = tt
 callers_unnamed n (c ∷ cs) h w le = ((env_unnamed n c.env h.0.0 w le, all_unnamed n c.values h.0.1 w le), callers_unnamed n cs h.1 w le)
 
@@ -183,7 +183,7 @@ module _ (U : Places) (n : ℕ) (all : List Var) (w : WireId) (le : n ≤ w.numb
       one true = none_shown v h.0
       one false = refl
 
-  none_shares : (vs : List Var) → AllOf (λ v. v.consumed ≡ false → Before n (U v.place)) vs → AllOf (λ v. is_shared v ≡ true → names (shown U all v) w ≡ false) vs
+  pub none_shares : (vs : List Var) → AllOf (λ v. v.consumed ≡ false → Before n (U v.place)) vs → AllOf (λ v. is_shared v ≡ true → names (shown U all v) w ≡ false) vs
   none_shares [] h = tt
   none_shares (v ∷ vs) h = (λ e. no_times w (operands_in (shown U all v)) (none_shown v h.0), none_shares vs h.1)
 

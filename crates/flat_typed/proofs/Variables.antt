@@ -145,19 +145,19 @@ stands_vars out held W under c d s e r =
 -- ---- the law
 
 module _ (out : Outside) (sc : Scope) (low : ℕ) (others : ℕ → ℕ) (W : Places) (under : List Value) (c : Context) (s : Flattening) (x : NameId) where
-  abbrev uses_of : Need → Option Var → List Use
+  abbrev pub uses_of : Need → Option Var → List Use
   uses_of need o = place_use sc.statics o none need
 
-  abbrev Starts : Need → Option Var → Type 0
+  abbrev pub Starts : Need → Option Var → Type 0
   Starts need o = Begins out sc low others W under (uses_of need o) c s
 
-  abbrev Ends : Need → Option Var → Value → Context → Type 0
+  abbrev pub Ends : Need → Option Var → Value → Context → Type 0
   Ends need o u d = ExprDone out sc need (step (give_part need x [])) W under (uses_of need o) c s (u ∷ []) d
 
-  abbrev held_use : Use
+  abbrev pub held_use : Use
   held_use = record { part = variable x; need = needs.Held }
 
-  is_there : (need : Need) (u : Value) (d : Context) (h : VariableUsed sc need c x u d) → IsThere sc.held c.vars held_use
+  pub is_there : (need : Need) (u : Value) (d : Context) (h : VariableUsed sc need c x u d) → IsThere sc.held c.vars held_use
   is_there need u d h = record {
     owner = h.var;
     found = h.found;
@@ -221,7 +221,7 @@ module _ (out : Outside) (sc : Scope) (low : ℕ) (others : ℕ → ℕ) (W : Pl
       g =
           borrowed_done out sc.held W under c s b.stands b.good held_use (is_there need u d h) need m.still (used_wires W c.vars (uses_of need (Some h.var))) (consumed_wires W c.vars (uses_of need (Some h.var))) c.next u m.type m.new named
 
-  variable_done : (need : Need) (u : Value) (d : Context) → VariableUsed sc need c x u d → Starts need (find_var c.vars (variable x)) → Ends need (find_var c.vars (variable x)) u d
+  pub variable_done : (need : Need) (u : Value) (d : Context) → VariableUsed sc need c x u d → Starts need (find_var c.vars (variable x)) → Ends need (find_var c.vars (variable x)) u d
   variable_done need u d h b = subst (λ o. Starts need o → Ends need o u d) (sym h.found) (go h.how) b
     where
       go : Moved need c h.var u d ⊎ Stayed need c h.var u d → Starts need (Some h.var) → Ends need (Some h.var) u d

@@ -125,12 +125,19 @@ IsTyped k = Unit {0}
 abbrev pub EndsDropped : ℕ → DraftForm → Known → Type 0
 EndsDropped n d k = (w : WireId) → 1 ≤ times_in w (operands_of k) → n ≤ w.number → is_measured d.steps w ≡ false → (wire_in d.wires w).ending ≡ Dropped
 
--- and of its values: a classical one names no wire with an owner; where no type was asked each has one; and what they name that is new is dropped
+-- each of several values has wires of its own
+abbrev pub OwnIfSeveral : List Known → Type 0
+OwnIfSeveral (k ∷ (l ∷ ks)) = AllOf (λ k. is_own k ≡ true) (k ∷ (l ∷ ks))
+OwnIfSeveral ks = Unit {0}
+
+-- and of its values: a classical one names no wire with an owner; where no type was asked each has one; what they name that is new is
+-- dropped; and several have wires of their own
 pub record ExprTells (out : Outside) (sc : Scope) (need : Need) (wants : List Ty) (e : Effect) (W : Places) (under : List Value) (us : List Use) (c : Context) (s : Flattening) (vs : List Value) (d : Context) : Type 0 where
   pub done : ExprDone out sc need e W under us c s vs d
   pub sharing : ListBoth (IsSharing need c.next (λ w. owners_of done.after d.vars under w)) vs done.answers
   pub typed : wants ≡ [] → AllOf IsTyped done.answers
   pub untold : AllOf (EndsDropped (wires_so_far s) (flat e s).built.draft) done.answers
+  pub several : OwnIfSeveral done.answers
 
 -- ---- statements
 
