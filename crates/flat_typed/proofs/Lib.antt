@@ -81,3 +81,4 @@ pub mod Decided
 pub mod Choices
 pub mod ChoiceLaws
 pub mod LastWalks
+pub mod Settling
