@@ -1,5 +1,5 @@
 -- Bodies: their statements one after another, then what is returned, and nothing Linear is left.
-use Rattle.std.proofs.Common.{◌≡◌, ◌⊎◌, inl, inr, ℕ, suc, ◌≤◌, ◌<◌, Bool, true, false, cond, not, ◌||◌, List, [], ◌∷◌, length, map, refl, sym, ap, ◌∙◌, subst, arith}
+use Rattle.std.proofs.Common.{◌≡◌, ◌⊎◌, inl, inr, ℕ, suc, ◌+◌, ◌≤◌, ◌<◌, Bool, true, false, cond, not, ◌||◌, List, [], ◌∷◌, length, map, refl, sym, ap, ◌∙◌, subst, arith}
 use Rattle.std.specs.Prelude.{⊤, Option, Some, None, is_some, ◌==◌, ℤ}
 use Rattle.std.proofs.lemmas.Bool.{eqb-true, eq-eqb}
 use Rattle.silq_tree.specs.declared.node.NameId.{NameId}
@@ -18,7 +18,7 @@ use Rattle.silq_mean.specs.Written.{Header, value_of}
 use Rattle.check_scope.specs.Walk.{answer}
 use Rattle.check_scope.specs.Context.{Scope, Context, Check, ◌>>=◌, ◌>>◌, give_back, find_var, variable, same_part}
 use Rattle.check_expr.specs.Expression.{asked_of_items, arguments}
-use Rattle.check_expr.specs.Owners.{Gives, Ensures}
+use Rattle.check_expr.specs.Owners.{Sole, Gives, Ensures}
 use Rattle.check_expr.proofs.Owners.{gives-bind, gives-more, o_bind, o_then, o_back, o_fail, o_rules}
 use Rattle.check_fun.specs.Statement.{any_name, is_live_linear, returned, ended_with, body, stmts, end_from, results_or_fault, whole_body}
 use Rattle.check_fun.specs.Program.{shares_name, param_vars, param_origin, returned_as, instance_walk}
@@ -30,20 +30,22 @@ use Rattle.flat_form.specs.State.{Flattening}
 use Rattle.flat_form.specs.Flat.{flat, on_line, count_statement}
 use Rattle.flat_form.specs.Fine.{Fine}
 use Rattle.flat_form.specs.Names.{AllOf}
-use Rattle.flat_typed.specs.Places.{Places}
+use Rattle.flat_typed.specs.Places.{Places, is_part}
 use Rattle.flat_typed.specs.Relation.{Outside}
 use Rattle.flat_typed.specs.Done.{StmtBegins, StmtDone}
 use Rattle.flat_typed.specs.Calls.{ArgsDone, first_context, BodyDone, BodyFine}
 use Rattle.flat_typed.specs.Scopes.{as_meaning, scope_for, NoStatics}
 use Rattle.flat_typed.specs.Lemmas.{Callable, StmtFine, ArgumentsAreFine, uses_by}
-use Rattle.flat_typed.specs.Stay.{Stayed, Goes}
+use Rattle.flat_typed.specs.Stay.{Stayed}
+use Rattle.flat_typed.specs.Settled.{Settled, Settles}
 use Rattle.flat_typed.specs.Endings.{Last, none_last, nothing_last, value_last, front, last_of, last_walk, last_effect, returned_items, last_items, statements_of}
 use Rattle.flat_typed.specs.Bodies.{TakesResults, HasFineParts, BodyIsFine}
 use Rattle.flat_typed.proofs.Ordered.{clash, same_is_equal, or_left, or_right}
 use Rattle.flat_typed.proofs.Parts.{whole_same}
+use Rattle.flat_typed.proofs.Parameters.{params_whole, params_sole}
 use Rattle.flat_typed.proofs.Blocks.{ClosedFrom, closed_from}
 use Rattle.flat_typed.proofs.Leaving.{k_any}
-use Rattle.flat_typed.proofs.Turns.{Does, gives_both, begins_next, begins_on_line, sole_now}
+use Rattle.flat_typed.proofs.Turns.{Does, gives_both, begins_next, begins_on_line}
 use Rattle.flat_typed.proofs.Assignments.{arguments_long}
 use Rattle.flat_typed.proofs.LastWalks.{SplitsAt, body_splits, effect_splits, items_are, returned_as_items}
 use Rattle.flat_typed.proofs.LastTold.{LastTold, last_told}
@@ -84,6 +86,19 @@ params_free words before f statics h e x q = go (static_name f.statics statics x
     go (inl a) = none_named f.statics x 0 f.params h.params a e
     go (inr z) = clash (sym z)
 
+params_placed : (m i : ℕ) (ns : List Parameter) (ps : List Param) → i + length ps ≤ m → AllOf (λ v. v.place < m) (param_vars i ns ps)
+params_placed m i [] ps le = tt
+params_placed m i (n ∷ ns) [] le = tt
+params_placed m i (n ∷ ns) (p ∷ ps) le = (omega (arith, le), params_placed m (suc i) ns ps (omega (arith, le)))
+
+pub starts_settled : (words : List (NameId × BuiltIn)) (before : List Function) (f : Function) (statics : List ℤ) (h : Header) → shares_name f.statics f.params ≡ false → Settled (scope_for words before f statics h) (first_context f h)
+starts_settled words before f statics h e = record {
+  free = params_free words before f statics h e;
+  whole = params_whole 0 f.params h.params;
+  placed = params_placed (length h.params) 0 f.params h.params (omega arith);
+  sole = params_sole f.params h.params;
+}
+
 -- ---- one body
 
 module _ (words : List (NameId × BuiltIn)) (before : List Function) (taker : Ty → Receiver) (takes : TakesResults taker) (f : Function) (statics : List ℤ) (h : Header) where
@@ -106,7 +121,7 @@ module _ (words : List (NameId × BuiltIn)) (before : List Function) (taker : Ty
 
     -- behind the statements but the last
     abbrev Front : Context → Type 0
-    Front c = Does sc start e1 c × Goes (NoStatics sc) start c
+    Front c = Does sc start e1 c × Settles sc start c
 
     module _ (c1 : Context) (reached : Front c1) (es : Expressions) (vs : List Value) (d : Context) (told : LastTold sc taker es c1 vs d) (closed : AllOf (λ v. is_live_linear v ≡ false) d.vars) where
       abbrev E : Effect
@@ -123,7 +138,7 @@ module _ (words : List (NameId × BuiltIn)) (before : List Function) (taker : Ty
           F = reached.0 out (length h.params) W s b0
 
           G : Stayed start c1
-          G = reached.1.stayed (sole_now (length h.params) start b0.sole)
+          G = record { sole = record { grown = reached.1.grown; one = reached.1.settled.sole.one; ahead = reached.1.settled.sole.ahead }; owners = reached.1.owners }
 
           s1 : Flattening
           s1 = flat e1 s
@@ -155,7 +170,7 @@ module _ (words : List (NameId × BuiltIn)) (before : List Function) (taker : Ty
           F = reached.0 out (length h.params) W s b0
 
           G : Stayed start c1
-          G = reached.1.stayed (sole_now (length h.params) start b0.sole)
+          G = record { sole = record { grown = reached.1.grown; one = reached.1.settled.sole.one; ahead = reached.1.settled.sole.ahead }; owners = reached.1.owners }
 
           s1 : Flattening
           s1 = flat e1 s
@@ -220,10 +235,10 @@ module _ (words : List (NameId × BuiltIn)) (before : List Function) (taker : Ty
 
     body_ends : HasFineParts f → ss ≡ statements_of f.body → Gives (Callable sc) Finds (body ss sc start)
     body_ends parts is =
-        body_splits (Callable sc) sc Front Finds (last_of ss) (λ c1 reached. last_ends c1 reached reached.1.holds (last_of ss) refl (subst (λ l. ArgumentsAreFine (last_items (last_of l))) (sym is) parts.returned)) ss refl start
-        (gives_both (Callable sc) (λ (r : Unit {0} × Context). Does sc start e1 r.1) (λ (r : Unit {0} × Context). Goes (NoStatics sc) start r.1) (stmts (front ss) sc start)
-        (subst (λ l. StmtFine sc start (stmts (front l) sc) (meanings.stmts (front l) m)) (sym is) (parts.statements sc taker start (params_free words before f statics h parts.names)))
-        (subst (λ l. Gives (Callable sc) (λ (r : Unit {0} × Context). Goes (NoStatics sc) start r.1) (stmts (front l) sc start)) (sym is) (parts.keeps sc start (params_free words before f statics h parts.names))))
+        body_splits (Callable sc) sc Front Finds (last_of ss) (λ c1 reached. last_ends c1 reached reached.1.settled.free (last_of ss) refl (subst (λ l. ArgumentsAreFine (last_items (last_of l))) (sym is) parts.returned)) ss refl start
+        (gives_both (Callable sc) (λ (r : Unit {0} × Context). Does sc start e1 r.1) (λ (r : Unit {0} × Context). Settles sc start r.1) (stmts (front ss) sc start)
+        (subst (λ l. StmtFine sc start (stmts (front l) sc) (meanings.stmts (front l) m)) (sym is) (parts.statements sc taker start (starts_settled words before f statics h parts.names)))
+        (subst (λ l. Gives (Callable sc) (λ (r : Unit {0} × Context). Settles sc start r.1) (stmts (front l) sc start)) (sym is) (parts.settling sc start (starts_settled words before f statics h parts.names))))
 
     -- the results are what was found
     abbrev Answers : Option (List Value) → List Value → Type 0

@@ -78,7 +78,6 @@ pub mod Copying
 pub mod Repeating
 pub mod Measuring
 pub mod Outer
-pub mod Entering
 pub mod SameEnds
 pub mod Held
 pub mod Joining

@@ -11,20 +11,20 @@ use Rattle.check_fun.specs.Program.{shares_name, instance_walk, returned_as}
 use Rattle.check_expr.specs.Owners.{Gives}
 use Rattle.silq_mean.specs.declared.receiver.Receiver.{Receiver}
 use Rattle.silq_mean.specs.declared.receiver.Receiver.TheVariants.{CallResult, EntryOutput}
-use Rattle.flat_typed.specs.Scopes.{scope_for, NoStatics}
+use Rattle.flat_typed.specs.Scopes.{scope_for}
 use Rattle.flat_typed.specs.Calls.{BodyFine}
-use Rattle.flat_typed.specs.Lemmas.{Callable, ArgumentsAreFine, StatementsAreFine}
-use Rattle.flat_typed.specs.Stay.{Keeps}
+use Rattle.flat_typed.specs.Lemmas.{Callable, ArgumentsAreFine}
+use Rattle.flat_typed.specs.Settled.{FineStatements, Settling}
 use Rattle.flat_typed.specs.Endings.{front, last_of, last_items, statements_of}
 
 -- what takes the results of a body over
 abbrev pub TakesResults : (Ty → Receiver) → Type 0
 TakesResults taker = (t : Ty) → (taker t ≡ CallResult t) ⊎ (taker t ≡ EntryOutput t)
 
--- the statements but the return are fine and keep places apart, what is returned is fine, and no parameter has the name of a static one
+-- the statements but the return are fine and leave the context settled, what is returned is fine, and no parameter has the name of a static one
 pub record HasFineParts (f : Function) : Type 0 where
-  pub statements : StatementsAreFine (front (statements_of f.body))
-  pub keeps : (sc : Scope) → Keeps (NoStatics sc) sc (stmts (front (statements_of f.body)) sc)
+  pub statements : FineStatements (front (statements_of f.body))
+  pub settling : (sc : Scope) → Settling sc (stmts (front (statements_of f.body)) sc)
   pub returned : ArgumentsAreFine (last_items (last_of (statements_of f.body)))
   pub names : shares_name f.statics f.params ≡ false
 
