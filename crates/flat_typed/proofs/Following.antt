@@ -150,18 +150,15 @@ fits_placed U n p ps all (v ∷ vs) le b h f = (one, fits_placed U n p ps all vs
     one i =
         let a = f.0 i in
         let x = h.0 i in
-        let y = found_all (Below n) all (variable v.part.name) a.0 a.1 b a.2.live in (
-          a.0,
-          a.1,
-          record {
-            live = a.2.live;
-            kind = a.2.kind;
-            same = a.2.same;
-            wires =
-                place_other U p ps v.place (ne_eqb v.place p (λ e. omega (arith, e, le, x)))
-                ∙ (a.2.wires ∙ ap (part_of a.0.ty.shape (indices v.part)) (sym (place_other U p ps a.0.place (ne_eqb a.0.place p (λ e. omega (arith, e, le, y))))));
-          },
-        )
+        let y = found_all (Below n) all (variable v.part.name) a.0 a.1 b a.2.live in
+        (a.0, a.1, record {
+          live = a.2.live;
+          kind = a.2.kind;
+          same = a.2.same;
+          wires =
+              place_other U p ps v.place (ne_eqb v.place p (λ e. omega (arith, e, le, x)))
+              ∙ (a.2.wires ∙ ap (part_of a.0.ty.shape (indices v.part)) (sym (place_other U p ps a.0.place (ne_eqb a.0.place p (λ e. omega (arith, e, le, y))))));
+        })
 
 of_none : (n : ℕ) (w : WireId) (k : Known) → IsKnown n k → n ≤ w.number → times_in w (operands_of k) ≡ 0
 of_none n w (Static z) h le = refl
