@@ -82,3 +82,4 @@ pub mod Choices
 pub mod ChoiceLaws
 pub mod LastWalks
 pub mod Settling
+pub mod SettledLaws
