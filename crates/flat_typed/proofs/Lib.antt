@@ -115,3 +115,4 @@ pub mod Bodies
 pub mod Instances
 pub mod HeldStay
 pub mod Settling
+pub mod SettledLaws
