@@ -37,9 +37,9 @@ use Rattle.flat_typed.specs.Calls.{ArgsDone, first_context, BodyDone, BodyFine}
 use Rattle.flat_typed.specs.Scopes.{as_meaning, scope_for, NoStatics}
 use Rattle.flat_typed.specs.Lemmas.{Callable, StmtFine, ArgumentsAreFine, uses_by}
 use Rattle.flat_typed.specs.Stay.{Stayed}
-use Rattle.flat_typed.specs.Settled.{Settled, Settles}
+use Rattle.flat_typed.specs.Settled.{Settled, AllStay, Settles}
 use Rattle.flat_typed.specs.Endings.{Last, none_last, nothing_last, value_last, front, last_of, last_walk, last_effect, returned_items, last_items, statements_of}
-use Rattle.flat_typed.specs.Bodies.{TakesResults, HasFineParts, BodyIsFine}
+use Rattle.flat_typed.specs.Bodies.{TakesResults, HasFineParts, ShowsConsts, ConstsStay, BodyIsFine}
 use Rattle.flat_typed.proofs.Ordered.{clash, same_is_equal, or_left, or_right}
 use Rattle.flat_typed.proofs.Parts.{whole_same}
 use Rattle.flat_typed.proofs.Parameters.{params_whole, params_sole}
@@ -48,8 +48,9 @@ use Rattle.flat_typed.proofs.Leaving.{k_any}
 use Rattle.flat_typed.proofs.Turns.{Does, gives_both, begins_next, begins_on_line}
 use Rattle.flat_typed.proofs.Assignments.{arguments_long}
 use Rattle.flat_typed.proofs.LastWalks.{SplitsAt, body_splits, effect_splits, items_are, returned_as_items}
+use Rattle.flat_typed.proofs.HeldStay.{HeldFirst}
 use Rattle.flat_typed.proofs.LastTold.{LastTold, last_told}
-use Rattle.flat_typed.proofs.BodyEnds.{body_done}
+use Rattle.flat_typed.proofs.BodyEnds.{body_done, consts_stay}
 
 -- ---- names of parameters
 
@@ -91,6 +92,16 @@ params_placed m i [] ps le = tt
 params_placed m i (n ∷ ns) [] le = tt
 params_placed m i (n ∷ ns) (p ∷ ps) le = (omega (arith, le), params_placed m (suc i) ns ps (omega (arith, le)))
 
+params_live : (i : ℕ) (ns : List Parameter) (ps : List Param) → AllOf (λ v. v.consumed ≡ false) (param_vars i ns ps)
+params_live i [] ps = tt
+params_live i (n ∷ ns) [] = tt
+params_live i (n ∷ ns) (p ∷ ps) = (refl, params_live (suc i) ns ps)
+
+held_of : (vs ws : List Var) → AllStay vs ws → HeldFirst vs ws
+held_of [] ws h = tt
+held_of (v ∷ vs) [] h = absurd h
+held_of (v ∷ vs) (w ∷ ws) h = (h.0.same, held_of vs ws h.1)
+
 pub starts_settled : (words : List (NameId × BuiltIn)) (before : List Function) (f : Function) (statics : List ℤ) (h : Header) → shares_name f.statics f.params ≡ false → Settled (scope_for words before f statics h) (first_context f h)
 starts_settled words before f statics h e = record {
   free = params_free words before f statics h e;
@@ -113,7 +124,8 @@ module _ (words : List (NameId × BuiltIn)) (before : List Function) (taker : Ty
 
   -- what the statements of a body are to do, where it returns these values
   abbrev EndsAs : Statements → List Value → Type 0
-  EndsAs ss vs = (out : Outside) (W : Places) (s : Flattening) → StmtBegins out sc (length h.params) (λ p. 0) W start s → BodyDone out f h (meanings.stmts ss m) W s (returned_as h.params h.results vs)
+  EndsAs ss vs = (out : Outside) (W : Places) (s : Flattening) → StmtBegins out sc (length h.params) (λ p. 0) W start s
+      → BodyDone out f h (meanings.stmts ss m) W s (returned_as h.params h.results vs) × ShowsConsts f h W (flat (meanings.stmts ss m) s)
 
   module _ (ss : Statements) where
     abbrev e1 : Effect
@@ -128,11 +140,14 @@ module _ (words : List (NameId × BuiltIn)) (before : List Function) (taker : Ty
       E = meanings.exprs es m needs.Consumed [] (map taker h.results)
 
       with_line : (l : ℕ) (i : Effect) → last_effect (last_of ss) m ≡ (statement l i ▸ nothing) → ((s : Flattening) → flat i s ≡ flat E s) → ((s : Flattening) → Fine E s → Fine i s) → EndsAs ss vs
-      with_line l i is same finely out W s b0 =
-          body_done words before taker takes f statics h es out W s b0 e1 c1 F G (length h.params) s2 b2 refl refl vs d told closed (meanings.stmts ss m) u
-          (splits.fine F.fine (subst (λ e. Fine e s1) (sym is) (finely s2 done.fine, tt)))
-          (splits.becomes ∙ (ap (λ e. flat e s1) is ∙ ap (on_line s1.setting.line) (same s2)))
-          refl refl (ap (λ (t : Setting). record t { line = s1.setting.line }) done.leaves.setting ∙ F.leaves.setting) refl
+      with_line l i is same finely out W s b0 = (
+        body_done words before taker takes f statics h es out W s b0 e1 c1 F G (length h.params) s2 b2 refl refl vs d told closed (meanings.stmts ss m) u
+            (splits.fine F.fine (subst (λ e. Fine e s1) (sym is) (finely s2 done.fine, tt)))
+            becomes
+            refl refl (ap (λ (t : Setting). record t { line = s1.setting.line }) done.leaves.setting ∙ F.leaves.setting) refl,
+        consts_stay words before taker takes f statics h es out W s b0 e1 c1 F G (length h.params) s2 b2 refl refl vs d told closed (meanings.stmts ss m) u becomes refl
+            (held_of start.vars c1.vars reached.1.there) (params_placed (length h.params) 0 f.params h.params (omega arith)) (params_live 0 f.params h.params),
+      )
         where
           F : StmtDone out sc e1 W start s c1
           F = reached.0 out (length h.params) W s b0
@@ -155,16 +170,22 @@ module _ (words : List (NameId × BuiltIn)) (before : List Function) (taker : Ty
           splits : SplitsAt m ss s
           splits = effect_splits m ss s
 
+          becomes : flat (meanings.stmts ss m) s ≡ u
+          becomes = splits.becomes ∙ (ap (λ e. flat e s1) is ∙ ap (on_line s1.setting.line) (same s2))
+
           done : ArgsDone out sc (map taker h.results) E F.after [] (uses_by es sc c1 (map taker h.results)) c1 s2 vs d
           done = (told.does out (length h.params) F.after s2 b2).done
 
       -- where the body ends without a return
       without : last_effect (last_of ss) m ≡ nothing → E ≡ nothing → EndsAs ss vs
-      without is bare out W s b0 =
-          body_done words before taker takes f statics h es out W s b0 e1 c1 F G (length h.params) s1 b1 refl refl vs d told closed (meanings.stmts ss m) (flat E s1)
-          (splits.fine F.fine (subst (λ e. Fine e s1) (sym is) tt))
-          (splits.becomes ∙ ap (λ e. flat e s1) (is ∙ sym bare))
-          refl refl ((told.does out (length h.params) F.after s1 b1).done.leaves.setting ∙ F.leaves.setting) refl
+      without is bare out W s b0 = (
+        body_done words before taker takes f statics h es out W s b0 e1 c1 F G (length h.params) s1 b1 refl refl vs d told closed (meanings.stmts ss m) (flat E s1)
+            (splits.fine F.fine (subst (λ e. Fine e s1) (sym is) tt))
+            becomes
+            refl refl ((told.does out (length h.params) F.after s1 b1).done.leaves.setting ∙ F.leaves.setting) refl,
+        consts_stay words before taker takes f statics h es out W s b0 e1 c1 F G (length h.params) s1 b1 refl refl vs d told closed (meanings.stmts ss m) (flat E s1) becomes refl
+            (held_of start.vars c1.vars reached.1.there) (params_placed (length h.params) 0 f.params h.params (omega arith)) (params_live 0 f.params h.params),
+      )
         where
           F : StmtDone out sc e1 W start s c1
           F = reached.0 out (length h.params) W s b0
@@ -180,6 +201,9 @@ module _ (words : List (NameId × BuiltIn)) (before : List Function) (taker : Ty
 
           splits : SplitsAt m ss s
           splits = effect_splits m ss s
+
+          becomes : flat (meanings.stmts ss m) s ≡ flat E s1
+          becomes = splits.becomes ∙ ap (λ e. flat e s1) (is ∙ sym bare)
 
     -- ---- the walk
 
@@ -268,10 +292,13 @@ module _ (words : List (NameId × BuiltIn)) (before : List Function) (taker : Ty
   effect_is : (b : Block) → meanings.body_of b m ≡ meanings.stmts (statements_of b) m
   effect_is (block ss end) = refl
 
-  pub body_fine : HasFineParts f → Gives (Callable sc) (λ vs. BodyFine words before taker f statics h (returned_as h.params h.results vs)) (instance_walk words before f statics h)
+  pub body_fine : HasFineParts f → Gives (Callable sc) (λ vs. BodyFine words before taker f statics h (returned_as h.params h.results vs) × ConstsStay words before taker f statics h) (instance_walk words before f statics h)
   body_fine parts =
-      gives-bind (Callable sc) 0 (λ r. EndsAs (statements_of f.body) r.0) (λ vs. BodyFine words before taker f statics h (returned_as h.params h.results vs)) (whole_body f.body sc start) (λ r. answer r.0) (ends_by f.body parts refl)
-      (λ r q out W s b. subst (λ e. BodyDone out f h e W s (returned_as h.params h.results r.0)) (sym (effect_is f.body)) (q out W s b))
+      gives-bind (Callable sc) 0 (λ r. EndsAs (statements_of f.body) r.0) (λ vs. BodyFine words before taker f statics h (returned_as h.params h.results vs) × ConstsStay words before taker f statics h) (whole_body f.body sc start) (λ r. answer r.0) (ends_by f.body parts refl)
+      (λ r q. (
+        λ out W s b. subst (λ e. BodyDone out f h e W s (returned_as h.params h.results r.0)) (sym (effect_is f.body)) (q out W s b).0,
+        λ out W s b. subst (λ e. ShowsConsts f h W (flat e s)) (sym (effect_is f.body)) (q out W s b).1,
+      ))
 
 pub body_is_fine : BodyIsFine
 body_is_fine words before taker f statics h takes parts = body_fine words before taker takes f statics h parts

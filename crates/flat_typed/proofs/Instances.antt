@@ -23,6 +23,7 @@ use Rattle.check_scope.specs.Context.{variable, same_part}
 use Rattle.check_expr.specs.Expression.{exact_place}
 use Rattle.check_expr.specs.Owners.{Gives, fun_at, IsProper, AreProper, ProperFor}
 use Rattle.check_expr.proofs.Alike.{some_same, same_key_same}
+use Rattle.check_expr.proofs.Owners.{gives-more}
 use Rattle.check_fun.specs.Statement.{any_name}
 use Rattle.check_fun.specs.Program.{param_names, param_vars, returned_as, instance_walk, signature_by, with_instance, kept, check_one, instances}
 use Rattle.check_fun.proofs.Growth.{ok_inside, ok_same, met_known}
@@ -33,7 +34,7 @@ use Rattle.flat_typed.specs.Relation.{HasNone, PartsDiffer}
 use Rattle.flat_typed.specs.Calls.{parted, BodyFine, CallFine}
 use Rattle.flat_typed.specs.Scopes.{scope_for}
 use Rattle.flat_typed.specs.Lemmas.{Callable}
-use Rattle.flat_typed.specs.Bodies.{HasFineParts}
+use Rattle.flat_typed.specs.Bodies.{ConstsStay}
 use Rattle.flat_typed.specs.Instances.{Tells, AllTell, IsFineFunction, InstancesTell}
 use Rattle.flat_typed.proofs.Ordered.{clash, same_is_equal, or_left, or_right}
 use Rattle.flat_typed.proofs.Parts.{whole_same, name_refl}
@@ -205,8 +206,10 @@ module _ (words : List (NameId × BuiltIn)) (funs : List Function) where
       w : BodyFine words before CallResult f k.statics p.0 (returned_as p.0.params p.0.results q.0.0) × All T q.0.1.met
       w =
           ran_holds T (λ vs. BodyFine words before CallResult f k.statics p.0 (returned_as p.0.params p.0.results vs)) (instances words before) g d (instance_walk words before f k.statics p.0) c 0 q.0
-          (gives_weaker (Callable (scope_for words before f k.statics p.0)) T (λ vs. BodyFine words before CallResult f k.statics p.0 (returned_as p.0.params p.0.results vs)) (instance_walk words before f k.statics p.0) (callable f before k.statics p.0 ends)
-          (body_is_fine words before CallResult f k.statics p.0 (λ t. inl refl) fine.parts)) met q.1
+          (gives-more T 0 (λ vs. BodyFine words before CallResult f k.statics p.0 (returned_as p.0.params p.0.results vs) × ConstsStay words before CallResult f k.statics p.0)
+          (λ vs. BodyFine words before CallResult f k.statics p.0 (returned_as p.0.params p.0.results vs)) (instance_walk words before f k.statics p.0)
+          (gives_weaker (Callable (scope_for words before f k.statics p.0)) T (λ vs. BodyFine words before CallResult f k.statics p.0 (returned_as p.0.params p.0.results vs) × ConstsStay words before CallResult f k.statics p.0) (instance_walk words before f k.statics p.0)
+          (callable f before k.statics p.0 ends) (body_is_fine words before CallResult f k.statics p.0 (λ t. inl refl) fine.parts)) (λ vs q. q.0)) met q.1
 
       there : parted funs k.fun.number ≡ Some (f, before)
       there = subst (λ n. parted funs n ≡ Some (f, before)) (sym at_) (ends (length before) f before (parted_last f before))
