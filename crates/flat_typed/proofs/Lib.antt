@@ -116,3 +116,4 @@ pub mod Instances
 pub mod HeldStay
 pub mod Settling
 pub mod SettledLaws
+pub mod InputWires
