@@ -80,11 +80,11 @@ arguments_long S (more e es) sc other l =
 
 -- ---- lists
 
-take_own : {A : Type 0} (xs : List A) → take (length xs) xs ≡ xs
+pub take_own : {A : Type 0} (xs : List A) → take (length xs) xs ≡ xs
 take_own [] = refl
 take_own (x ∷ xs) = ap (λ l. x ∷ l) (take_own xs)
 
-drop_own : {A : Type 0} (xs : List A) → drop (length xs) xs ≡ []
+pub drop_own : {A : Type 0} (xs : List A) → drop (length xs) xs ≡ []
 drop_own [] = refl
 drop_own (x ∷ xs) = drop_own xs
 

@@ -117,3 +117,4 @@ pub mod HeldStay
 pub mod Settling
 pub mod SettledLaws
 pub mod InputWires
+pub mod EntryBegins
