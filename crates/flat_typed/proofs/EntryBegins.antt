@@ -58,7 +58,7 @@ abbrev pub held_times : List Param → List Known → WireId → ℕ
 held_times (p ∷ ps) (k ∷ ks) w = cond p.held (times_in w (operands_of k)) 0 + held_times ps ks w
 held_times ps ks w = 0
 
-abbrev its_values : ℕ → List Param → List Value
+abbrev pub its_values : ℕ → List Param → List Value
 its_values i ps = carried (map taken_param ps) (values_at i ps)
 
 carried_so : (h c : Bool) → c ≡ false → (is_consumed (cond h needs.Held needs.Consumed) && not c) ≡ not h

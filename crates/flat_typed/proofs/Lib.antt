@@ -118,3 +118,4 @@ pub mod Settling
 pub mod SettledLaws
 pub mod InputWires
 pub mod EntryBegins
+pub mod EntryStands
