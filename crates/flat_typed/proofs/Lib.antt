@@ -119,3 +119,5 @@ pub mod SettledLaws
 pub mod InputWires
 pub mod EntryBegins
 pub mod EntryStands
+pub mod EntryParams
+pub mod GivenHeld
