@@ -56,7 +56,7 @@ use Rattle.flat_typed.proofs.Results.{Before, is_new}
 use Rattle.flat_typed.proofs.ReturnedValues.{all_carried, named_are, named_moved, linear_are, results_are, unguarded_values}
 
 -- what may change is owned, and not guarded
-changeable_owned : (out : Outside) (W : Places) (vars : List Var) (w : WireId) → changeable out W vars [] w ≡ true → 1 ≤ owners_of W vars [] w
+pub changeable_owned : (out : Outside) (W : Places) (vars : List Var) (w : WireId) → changeable out W vars [] w ≡ true → 1 ≤ owners_of W vars [] w
 changeable_owned out W vars w e = go (cases_lt 0 (owners_of W vars [] w))
   where
     and_right : (a b : Bool) → (a && b) ≡ true → b ≡ true

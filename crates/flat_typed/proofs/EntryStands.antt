@@ -97,22 +97,25 @@ module _ (words : List (NameId × BuiltIn)) (before : List Function) (f : Functi
   as_many =
       length-map its_params (λ (p : NameId × Need × Ty). p.0) ∙ (length-map f.params (param_of f (static_pairs f.statics statics)) ∙ (len ∙ (sym (length-map h.params (λ (p : Param). p.ty.shape)) ∙ (sym (inputs_long shapes (begun empty_draft)) ∙ sym (length-reverse args)))))
 
+  pub args_long : length h.params ≡ length args
+  args_long = sym (length-map h.params (λ (p : Param). p.ty.shape)) ∙ sym (inputs_long shapes (begun empty_draft))
+
   args_are : reverse (take (length its_names) (reverse args)) ≡ args
   args_are = ap (λ n. reverse (take n (reverse args))) as_many ∙ (ap (λ l. reverse l) (take_own (reverse args)) ∙ reverse-reverse args)
 
   rest_is : drop (length its_names) (reverse args) ≡ []
   rest_is = ap (λ n. drop n (reverse args)) as_many ∙ drop_own (reverse args)
 
-  at_params : AtFrom 0 W args
+  pub at_params : AtFrom 0 W args
   at_params = at_places args
 
-  all_there : AllEntered W W 0 h.params (values_at 0 h.params) args
+  pub all_there : AllEntered W W 0 h.params (values_at 0 h.params) args
   all_there = inputs_entered W 0 h.params (begun empty_draft) quantum at_params
 
   pub once : (w : WireId) → NamedOnce 0 (wires_so_far first) w (named_times args w)
   once w = inputs_named shapes w
 
-  at_most : (w : WireId) → named_times args w ≤ 1
+  pub at_most : (w : WireId) → named_times args w ≤ 1
   at_most w = go (cases_lt w.number (wires_so_far first))
     where
       go : (w.number < wires_so_far first) ⊎ (wires_so_far first ≤ w.number) → named_times args w ≤ 1

@@ -101,7 +101,7 @@ parted_below (f ∷ before) n g b e = go (n == length before) refl e (parted_bel
     go true q e i = omega (arith, eqb-true n (length before) q)
     go false q e i = omega (arith, i e)
 
-parted_later : (f : Function) (before : List Function) (n : ℕ) (g : Function) (b : List Function) → parted before n ≡ Some (g, b) → parted (f ∷ before) n ≡ Some (g, b)
+pub parted_later : (f : Function) (before : List Function) (n : ℕ) (g : Function) (b : List Function) → parted before n ≡ Some (g, b) → parted (f ∷ before) n ≡ Some (g, b)
 parted_later f before n g b e = go (n == length before) refl
   where
     go : (t : Bool) → (n == length before) ≡ t → cond t (Some (f, before)) (parted before n) ≡ Some (g, b)
@@ -113,7 +113,7 @@ parted_last f before = ap (λ t. cond t (Some (f, before)) (parted before (lengt
 
 -- ---- readings with counts
 
-gives_weaker : {A : Type 0} (S R : InstanceKey → Signature → Type 0) (P : A → Type 0) (w : Walk A) → ((k : InstanceKey) (s : Signature) → R k s → S k s) → Gives S P w → Gives R P w
+pub gives_weaker : {A : Type 0} (S R : InstanceKey → Signature → Type 0) (P : A → Type 0) (w : Walk A) → ((k : InstanceKey) (s : Signature) → R k s → S k s) → Gives S P w → Gives R P w
 gives_weaker S R P (answer a) f g = g
 gives_weaker S R P (broken e) f g = tt
 gives_weaker S R P (counted w) f g = gives_weaker S R P w f g
@@ -136,8 +136,8 @@ module _ (S : InstanceKey → Signature → Type 0) where
   all_append (x ∷ met) k s p q = (p.0, all_append met k s p.1 q)
 
   -- a checker that makes such signatures
-  record Makes (check : Checker) : Type 0 where
-    makes : (d : ℕ) (k : InstanceKey) (c : Counts) (r : Signature × Counts) → All c.met → check d k c ≡ Ok r → S k r.0 × All r.1.met
+  pub record Makes (check : Checker) : Type 0 where
+    pub makes : (d : ℕ) (k : InstanceKey) (c : Counts) (r : Signature × Counts) → All c.met → check d k c ≡ Ok r → S k r.0 × All r.1.met
 
   found_holds : (check : Checker) → Makes check → (d : ℕ) (k : InstanceKey) (c : Counts) (q : Signature × Counts) (m : Met) → All c.met → meet d c.met k ≡ m → known_or_checked check d m k c ≡ Ok q → S k q.0 × All q.1.met
   found_holds check g d k c q (known s) p e f =
@@ -146,7 +146,7 @@ module _ (S : InstanceKey → Signature → Type 0) where
   found_holds check g d k c q (limited l) p e f = absurd (grind (arith, f))
   found_holds check g d k c q new p e f = g.makes (d + 1) k c q p f
 
-  ran_holds : {A : Type 0} (P : A → Type 0) (check : Checker) → Makes check → (d : ℕ) (w : Walk A) (c : Counts) (h : ℕ) (r : A × Counts × ℕ) → Gives S P w → All c.met → with_counts check d w c h ≡ Ok r → P r.0 × All r.1.met
+  pub ran_holds : {A : Type 0} (P : A → Type 0) (check : Checker) → Makes check → (d : ℕ) (w : Walk A) (c : Counts) (h : ℕ) (r : A × Counts × ℕ) → Gives S P w → All c.met → with_counts check d w c h ≡ Ok r → P r.0 × All r.1.met
   ran_holds P check g d (answer a) c h r gives p e = subst (λ (x : _ × Counts × ℕ). P x.0 × All x.1.met) (ok_same (a, c, h) r e) (gives, p)
   ran_holds P check g d (broken x) c h r gives p e = absurd (grind (arith, e))
   ran_holds P check g d (counted w) c h r gives p e = go (nat_lt c.walked most_walked) e (ran_holds P check g d w (record c { walked = suc c.walked }) h r gives p)
@@ -165,18 +165,18 @@ module _ (S : InstanceKey → Signature → Type 0) where
 -- ---- one function, and all
 
 module _ (words : List (NameId × BuiltIn)) (funs : List Function) where
-  abbrev T : InstanceKey → Signature → Type 0
+  abbrev pub T : InstanceKey → Signature → Type 0
   T = Tells words funs
 
   -- these functions are the last ones
-  abbrev Ends : List Function → Type 0
+  abbrev pub Ends : List Function → Type 0
   Ends some = (n : ℕ) (g : Function) (b : List Function) → parted some n ≡ Some (g, b) → parted funs n ≡ Some (g, b)
 
   proper_there : (some : List Function) → Ends some → (k : InstanceKey) (s : Signature) → IsProper funs k s → IsProper some k s
   proper_there some ends k s p = λ f h there head. let b = is_parted some k.fun.number f there in p f h (parted_is funs k.fun.number f b.0 (ends k.fun.number f b.0 b.1)) head
 
   -- what calls of functions before it rely on
-  callable : (f : Function) (before : List Function) (statics : List ℤ) (h : Header) → Ends (f ∷ before) → (k : InstanceKey) (s : Signature) → T k s → Callable (scope_for words before f statics h) k s
+  pub callable : (f : Function) (before : List Function) (statics : List ℤ) (h : Header) → Ends (f ∷ before) → (k : InstanceKey) (s : Signature) → T k s → Callable (scope_for words before f statics h) k s
   callable f before statics h ends k s t = (
     λ g b h' there head. t.0 g b h' (ends k.fun.number g b (parted_later f before k.fun.number g b there)) head,
     λ x r h' found number head.
@@ -238,7 +238,7 @@ module _ (words : List (NameId × BuiltIn)) (funs : List Function) where
       tells : T k (kept f p.0 k q.0).0
       tells = (calls, proper)
 
-  all_tell : (some : List Function) → AllOf IsFineFunction some → Ends some → Makes T (instances words some)
+  pub all_tell : (some : List Function) → AllOf IsFineFunction some → Ends some → Makes T (instances words some)
   all_tell [] fine ends = record { makes = λ d k c r p e. absurd (grind (arith, e)) }
   all_tell (f ∷ before) fine ends = go (all_tell before fine.1 (λ n g b e. ends n g b (parted_later f before n g b e)))
     where

@@ -121,3 +121,5 @@ pub mod EntryBegins
 pub mod EntryStands
 pub mod EntryParams
 pub mod GivenHeld
+pub mod EntryEnds
+pub mod Accepted

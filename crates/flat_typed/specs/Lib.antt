@@ -15,3 +15,4 @@ pub mod Settled
 pub mod Endings
 pub mod Bodies
 pub mod Instances
+pub mod Accepted
