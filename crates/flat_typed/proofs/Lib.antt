@@ -117,3 +117,4 @@ pub mod LastPart
 pub mod PartSteps
 pub mod PartAssign
 pub mod PartAssignments
+pub mod PlacesStated

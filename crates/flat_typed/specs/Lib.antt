@@ -14,3 +14,4 @@ pub mod Tells
 pub mod Settled
 pub mod Endings
 pub mod Bodies
+pub mod PlaceLaws
