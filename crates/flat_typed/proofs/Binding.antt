@@ -81,7 +81,7 @@ none_has (y ∷ ys) x e w h = go (same_part y.part (variable x)) refl e (λ d. n
     go true s e i = absurd (grind (arith, e))
     go false s e i = (s, i e)
 
-part_swap : (p q : Part) → same_part p q ≡ false → same_part q p ≡ false
+pub part_swap : (p q : Part) → same_part p q ≡ false → same_part q p ≡ false
 part_swap p q s = go (same_part q p) refl
   where
     go : (t : Bool) → same_part q p ≡ t → t ≡ false

@@ -48,7 +48,7 @@ use Rattle.flat_typed.proofs.Giving.{Beyond, GivesValue}
 
 -- ---- a variable that stays
 
-replace_same : (vs : List Var) (p : Part) (v : Var) → find_var vs p ≡ Some v → v.part ≡ p → replace vs v ≡ vs
+pub replace_same : (vs : List Var) (p : Part) (v : Var) → find_var vs p ≡ Some v → v.part ≡ p → replace vs v ≡ vs
 replace_same [] p v e q = refl
 replace_same (w ∷ ws) p v e q = go (same_part w.part p) refl e (λ d. replace_same ws p v d q)
   where

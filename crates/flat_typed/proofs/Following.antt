@@ -1,6 +1,6 @@
 -- What an expression leaves to the next one: from where that begins, and what is known of new wires.
-use Rattle.std.proofs.Common.{◌≡◌, ◌⊎◌, inl, inr, ℕ, ◌+◌, ◌≤◌, ◌<◌, Bool, true, false, ◌&&◌, ◌||◌, not, List, [], ◌∷◌, ◌++◌, refl, sym, ap, ap₂, ◌∙◌, subst, arith}
-use Rattle.std.specs.Prelude.{◌==◌, Option, Some, None}
+use Rattle.std.proofs.Common.{◌≡◌, ◌⊎◌, inl, inr, ℕ, ◌+◌, ◌≤◌, ◌<◌, Bool, true, false, ◌&&◌, ◌||◌, not, List, [], ◌∷◌, refl, sym, ap, ap₂, ◌∙◌, subst, arith}
+use Rattle.std.specs.Prelude.{Option, Some, None}
 use Rattle.std.proofs.lemmas.Bool.{cases_lt, ne_eqb}
 use Rattle.silq_tree.specs.declared.node.NameId.{NameId}
 use Rattle.silq_tree.specs.Syntax.{Expression}
@@ -19,9 +19,9 @@ use Rattle.check_scope.specs.declared.uses.Use.{Use}
 use Rattle.check_scope.specs.Walk.{Walk, answer, broken, counted, asked}
 use Rattle.check_scope.specs.Context.{Scope, Context, indices, variable, find_var}
 use Rattle.silq_types.specs.Calls.{is_consumed}
-use Rattle.check_scope.specs.Uses.{uses, both_consume, consume_and_hold}
+use Rattle.check_scope.specs.Uses.{uses, consume_and_hold}
 use Rattle.check_expr.specs.Expression.{is_tuple, expr}
-use Rattle.check_expr.specs.Owners.{owned, handed, Sole, Gives, Ensures}
+use Rattle.check_expr.specs.Owners.{owned, handed, Sole, Gives}
 use Rattle.check_expr.proofs.Owners.{gives-more, o_more, o_expr}
 use Rattle.flat_core.specs.declared.step.WireId.{WireId}
 use Rattle.bit_arith.specs.declared.operand.Operand.{Operand}
@@ -35,10 +35,10 @@ use Rattle.flat_form.specs.Good.{Good, IsKnown}
 use Rattle.flat_form.proofs.Goods.{good_flat}
 use Rattle.flat_typed.specs.Places.{Places, with_place, is_part, is_shared, shown, times_in, owners_of}
 use Rattle.flat_typed.specs.Footprint.{wires_for, wires_of_part, used_wires, consumed_wires, Within, NoneNames}
-use Rattle.flat_typed.specs.Relation.{Outside, Stands, FitsPart, IsPartOf, is_own}
+use Rattle.flat_typed.specs.Relation.{Outside, Stands, FitsPart}
 use Rattle.flat_typed.specs.Scopes.{as_meaning, NoStatics}
 use Rattle.flat_typed.specs.Uses.{IsThere}
-use Rattle.flat_typed.specs.Done.{Agree, Counted, Begins, ExprDone}
+use Rattle.flat_typed.specs.Done.{Counted, Begins, ExprDone}
 use Rattle.flat_typed.specs.Lemmas.{Callable}
 use Rattle.flat_typed.specs.Tells.{OnePart, NewDropped, ExprShows, ExpressionTells}
 use Rattle.flat_typed.proofs.Ordered.{clash}
@@ -46,15 +46,16 @@ use Rattle.flat_typed.proofs.Moving.{found_all, all_more}
 use Rattle.flat_typed.proofs.Owning.{no_times}
 use Rattle.flat_typed.proofs.Placing.{KnowsNone, place_other}
 use Rattle.flat_typed.proofs.Taking.{Around}
-use Rattle.flat_typed.proofs.Tame.{Left, AllLeft, FindLeft, find_left, all_there_left}
+use Rattle.flat_typed.proofs.Tame.{AllLeft, FindLeft, find_left, all_there_left}
 use Rattle.flat_typed.proofs.Footprints.{operands_apart}
 use Rattle.flat_typed.proofs.Leaving.{k_any}
-use Rattle.flat_typed.proofs.Turns.{gives_later, gives_both, sole_now}
+use Rattle.flat_typed.proofs.Turns.{gives_later, gives_both}
 use Rattle.flat_typed.proofs.Reached.{Told, expression_tells}
-use Rattle.flat_typed.proofs.Falling.{Below, left_owners, live_below, values_below, values_agree, shown_at_most, owners_fall, known_none, known_unnamed, order_of_env, vars_none}
+use Rattle.flat_typed.proofs.Falling.{Below, left_owners, live_below, values_below, shown_at_most, owners_fall, known_none, known_unnamed, order_of_env, vars_none}
 use Rattle.flat_typed.proofs.Spending.{Gone, none_twice}
 use Rattle.flat_typed.proofs.Gone.{uses_are_gone}
 use Rattle.flat_typed.proofs.Lasting.{expr_lasts}
+use Rattle.flat_typed.proofs.Lone.{lone_stays}
 
 -- ---- what a walk tells
 
@@ -150,15 +151,18 @@ fits_placed U n p ps all (v ∷ vs) le b h f = (one, fits_placed U n p ps all vs
     one i =
         let a = f.0 i in
         let x = h.0 i in
-        let y = found_all (Below n) all (variable v.part.name) a.0 a.1 b a.2.live in
-        (a.0, a.1, record {
-          live = a.2.live;
-          kind = a.2.kind;
-          same = a.2.same;
-          wires =
-              place_other U p ps v.place (ne_eqb v.place p (λ e. omega (arith, e, le, x)))
-              ∙ (a.2.wires ∙ ap (part_of a.0.ty.shape (indices v.part)) (sym (place_other U p ps a.0.place (ne_eqb a.0.place p (λ e. omega (arith, e, le, y))))));
-        })
+        let y = found_all (Below n) all (variable v.part.name) a.0 a.1 b a.2.live in (
+          a.0,
+          a.1,
+          record {
+            live = a.2.live;
+            kind = a.2.kind;
+            same = a.2.same;
+            wires =
+                place_other U p ps v.place (ne_eqb v.place p (λ e. omega (arith, e, le, x)))
+                ∙ (a.2.wires ∙ ap (part_of a.0.ty.shape (indices v.part)) (sym (place_other U p ps a.0.place (ne_eqb a.0.place p (λ e. omega (arith, e, le, y))))));
+          },
+        )
 
 of_none : (n : ℕ) (w : WireId) (k : Known) → IsKnown n k → n ≤ w.number → times_in w (operands_of k) ≡ 0
 of_none n w (Static z) h le = refl
@@ -287,4 +291,5 @@ module _ (out : Outside) (sc : Scope) (low : ℕ) (others : ℕ → ℕ) (W : Pl
       open_air = λ q r. ap (λ (x : _). x.condition) o.leaves.setting ∙ b.open_air q r;
       apart = λ w t. apart w (sym (consumed_next ws w there) ∙ t);
       placed = placed_more c.next d.next d.vars grown (placed_left c.next c.vars d.vars left b.placed);
+      lone = lone_stays c.vars d.vars o.kinds_stay b.lone;
     }

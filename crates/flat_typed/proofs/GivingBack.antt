@@ -47,7 +47,7 @@ differ_before [] p h = tt
 differ_before (v ∷ vs) p h = (all_before (λ (u : Var). same_part u.part v.part ≡ false) vs p h.0, differ_before vs p h.1)
 
 -- the last part is under way
-out_last : (vs : List Var) (p : Var) → AllOf (λ v. is_part v ≡ false) vs → is_part p ≡ true → p.consumed ≡ true → part_out (vs ++ p ∷ []) p.part.name ≡ Some p
+pub out_last : (vs : List Var) (p : Var) → AllOf (λ v. is_part v ≡ false) vs → is_part p ≡ true → p.consumed ≡ true → part_out (vs ++ p ∷ []) p.part.name ≡ Some p
 out_last [] p h part gone = ap₂ (λ a b. cond (a && (b && same_name p.part.name p.part.name)) (Some p) None) part gone ∙ ap (λ t. cond t (Some p) None) (name_refl p.part.name)
 out_last (v ∷ vs) p h part gone = ap (λ t. cond (t && (v.consumed && same_name v.part.name p.part.name)) (Some v) (part_out (vs ++ p ∷ []) p.part.name)) h.0 ∙ out_last vs p h.1 part gone
 

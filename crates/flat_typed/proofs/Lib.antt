@@ -93,6 +93,7 @@ pub mod PlaceLent
 pub mod UsedPlaces
 pub mod TakingOut
 pub mod GivingBack
+pub mod PartWalk
 pub mod Spending
 pub mod Gone
 pub mod Answering
@@ -123,3 +124,8 @@ pub mod EntryParams
 pub mod GivenHeld
 pub mod EntryEnds
 pub mod Accepted
+pub mod LastPart
+pub mod PartSteps
+pub mod PartAssign
+pub mod PartAssignments
+pub mod PlacesStated

@@ -43,7 +43,7 @@ use Rattle.flat_typed.proofs.LentParts.{stands_lent}
 use Rattle.flat_typed.proofs.Lone.{lone_live, each_found}
 use Rattle.flat_typed.proofs.PlaceTells.{own_tells}
 
-moved_part : (is : List ℤ) (v : TypedBits) → is_empty is ≡ false → moved is v ≡ Lent (part_start v.shape is) (shape_bits (part_shape v.shape is)) v
+pub moved_part : (is : List ℤ) (v : TypedBits) → is_empty is ≡ false → moved is v ≡ Lent (part_start v.shape is) (shape_bits (part_shape v.shape is)) v
 moved_part [] v e = clash e
 moved_part (i ∷ is) v e = refl
 
@@ -178,4 +178,4 @@ module _ (out : Outside) (sc : Scope) (low : ℕ) (others : ℕ → ℕ) (W : Pl
   pub lent_tells : (wants : List Ty) → ExprTells out sc needs.Consumed wants (step (give_part needs.Consumed u.part.name (indices u.part))) W under (u ∷ []) c s (handed_on p ∷ []) left
   lent_tells wants =
       subst (λ (q : Part). ExprTells out sc needs.Consumed wants (step (give_part needs.Consumed q.name (indices q))) W under (u ∷ []) c s (handed_on p ∷ []) left) its
-      (own_tells out sc needs.Consumed wants E W under (u ∷ []) c s (handed_on p) left lent_done its_bits (ap (λ k. k ∷ s.values) given_is) tt refl (part_class o.ty.classical o.ty.shape is p.ty of.kind ∙ quantum))
+      (own_tells out sc needs.Consumed wants E W under (u ∷ []) c s (handed_on p) left lent_done its_bits (ap (λ k. k ∷ s.values) given_is) refl tt refl (part_class o.ty.classical o.ty.shape is p.ty of.kind ∙ quantum))

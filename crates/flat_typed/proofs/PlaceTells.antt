@@ -1,10 +1,10 @@
 -- What the value of a used place tells beside the relation.
-use Rattle.std.proofs.Common.{◌≡◌, ℕ, ◌≤◌, ◌<◌, true, false, not, ◌&&◌, ◌||◌, List, [], ◌∷◌, ◌++◌, refl, sym, ap, ◌∙◌, subst, arith}
+use Rattle.std.proofs.Common.{◌≡◌, ℕ, ◌≤◌, ◌<◌, true, false, not, ◌&&◌, ◌||◌, List, [], ◌∷◌, ◌++◌, refl, sym, ap, ◌∙◌, subst, arith, ◌⊎◌, cond, ap₂}
 use Rattle.std.specs.Prelude.{reverse}
 use Rattle.std.specs.List.{list_any}
 use Rattle.silq_types.specs.declared.types.Ty.{Ty}
 use Rattle.silq_types.specs.declared.values.Value.{Value}
-use Rattle.silq_types.specs.Types.{is_held}
+use Rattle.silq_types.specs.Types.{is_held, is_linear}
 use Rattle.silq_types.specs.declared.values.Var.{Var}
 use Rattle.silq_types.specs.declared.need.Need.{Need}
 use Rattle.silq_types.specs.Calls.{is_consumed}
@@ -14,15 +14,15 @@ use Rattle.silq_mean.specs.Effect.{Effect, step, give_part}
 use Rattle.flat_core.specs.declared.step.WireId.{WireId}
 use Rattle.bit_arith.specs.declared.operand.Operand.{Operand}
 use Rattle.flat_form.specs.declared.known.Known.{Known}
-use Rattle.flat_form.specs.State.{Flattening, wires_so_far}
+use Rattle.flat_form.specs.State.{Flattening, wires_so_far, operands_of}
 use Rattle.flat_form.specs.Flat.{flat, part_used}
 use Rattle.flat_form.specs.Names.{AllOf, named_by, names, operands_in}
 use Rattle.flat_form.specs.Shows.{ListBoth}
 use Rattle.flat_typed.specs.Places.{Places, is_shared, shown, bits_for, times_in, owners_of}
 use Rattle.flat_typed.specs.Footprint.{wires_of_part, used_wires, consumed_wires}
-use Rattle.flat_typed.specs.Relation.{Outside, IsAnswer, is_own}
+use Rattle.flat_typed.specs.Relation.{Outside, IsAnswer, is_own, Stands, IfOwn, AllNew}
 use Rattle.flat_typed.specs.Uses.{IsThere}
-use Rattle.flat_typed.specs.Done.{Begins, ExprDone, ExprTells, IsSharing, IsTyped, EndsDropped, kinds}
+use Rattle.flat_typed.specs.Done.{Begins, ExprDone, ExprTells, IsSharing, IsTyped, EndsDropped, kinds, OwnIfSeveral, carrying}
 use Rattle.flat_typed.proofs.Ordered.{clash}
 use Rattle.flat_typed.proofs.Moving.{found_all}
 use Rattle.flat_typed.proofs.Owning.{no_times}
@@ -35,8 +35,15 @@ use Rattle.flat_typed.proofs.Giving.{GivesValue}
 use Rattle.flat_typed.proofs.Borrowing.{times_there, owner_known, use_is_fine, given_is, borrowed_done}
 use Rattle.flat_typed.proofs.Variables.{stands_vars}
 use Rattle.flat_typed.proofs.PlaceWalk.{Copied}
+use Rattle.flat_form.specs.declared.known.Known.TheVariants.{Static, Shown, Lent, Absent}
 
 -- ---- one value with wires of its own, of a quantum type
+
+own_operands : (Q : List Operand → Type 0) (k : Known) → IfOwn Q k → is_own k ≡ true → Q (operands_of k)
+own_operands Q (Static z) h e = clash (sym e)
+own_operands Q (Shown u) h e = h e
+own_operands Q (Lent start size u) h e = clash (sym e)
+own_operands Q Absent h e = clash (sym e)
 
 module _ (out : Outside) (sc : Scope) (need : Need) (wants : List Ty) (e : Effect) (W : Places) (under : List Value) (us : List Use) (c : Context) (s : Flattening) (v : Value) (d : Context) (o : ExprDone out sc need e W under us c s (v ∷ []) d) where
   -- the one answer is what is given
@@ -55,13 +62,27 @@ module _ (out : Outside) (sc : Scope) (need : Need) (wants : List Ty) (e : Effec
           first_is h = ap first_or h
       go (l ∷ (m ∷ ks)) h g = absurd g.1
 
-  pub own_tells : (k : Known) → (flat e s).values ≡ k ∷ s.values → IsTyped k → is_own k ≡ true → v.ty.classical ≡ false → ExprTells out sc need wants e W under us c s (v ∷ []) d
-  own_tells k q typed own quantum = record {
+  pub own_tells : (k : Known) → (flat e s).values ≡ k ∷ s.values → is_consumed need ≡ true → IsTyped k → is_own k ≡ true → v.ty.classical ≡ false → ExprTells out sc need wants e W under us c s (v ∷ []) d
+  own_tells k q consumes typed own quantum = record {
     done = o;
-    sharing = λ u. subst (ListBoth (IsSharing c.next (λ w. owners_of o.after d.vars under w)) (v ∷ [])) (sym (one_given k q)) (record { new = λ e. clash (sym e ∙ quantum); shares = λ e. clash (sym e ∙ quantum) }, tt);
+    sharing = subst (ListBoth (IsSharing need c.next (λ w. owners_of o.after d.vars under w)) (v ∷ [])) (sym (one_given k q)) (record { shares = λ e. clash (sym e ∙ quantum); new = λ n e. clash (sym e ∙ quantum); lifted = λ n e. clash (sym e ∙ quantum) }, tt);
     typed = λ w. subst (AllOf IsTyped) (sym (one_given k q)) (typed, tt);
-    untold = subst (AllOf (EndsDropped (wires_so_far s) (flat e s).built.draft)) (sym (one_given k q)) ((λ n. clash (sym own ∙ n)), tt);
+    untold = subst (AllOf (EndsDropped (wires_so_far s) (flat e s).built.draft)) (sym (one_given k q)) (dropped, tt);
+    several = subst OwnIfSeveral (sym (one_given k q)) tt;
   }
+    where
+      stood : Stands out sc.held o.after (v ∷ under) d (flat e s)
+      stood =
+          subst (λ l. Stands out sc.held o.after (l ++ under) d (flat e s)) (ap₂ (λ a b. cond (a && b) (v ∷ []) []) consumes own)
+          (subst (λ ks. Stands out sc.held o.after (carrying need (v ∷ []) ks ++ under) d (flat e s)) (one_given k q) o.stands)
+
+      shows : operands_of k ≡ o.after v.place
+      shows =
+          (own_operands (λ ps. (ps ≡ o.after v.place) × ((v.place < c.next) ⊎ AllNew (wires_so_far s) ps)) k
+          ((subst (ListBoth (IsAnswer o.after need (used_wires W c.vars us) (consumed_wires W c.vars us) (wires_so_far s) c.next) (v ∷ [])) (one_given k q) o.each).0.own consumes) own).0
+
+      dropped : EndsDropped (wires_so_far s) (flat e s).built.draft k
+      dropped w le n m = stood.untold w (let a = ap (times_in w) shows in omega (arith, a, le))
 
 -- ---- a use that leaves the variable
 
@@ -118,9 +139,10 @@ module _ (out : Outside) (sc : Scope) (low : ℕ) (others : ℕ → ℕ) (W : Pl
     unfolding borrows
     borrows_tell wants = record {
       done = borrows;
-      sharing = λ q. (
+      sharing = (
         record {
-          new = λ t. (copied.new q).0;
+          new = λ q t. (copied.new q).0;
+          lifted = λ q t. ap is_linear (copied.new q).1;
           shares = λ t w le.
               ap (λ k. names k w) answer_is
               ∙ unnamed w (sym (part_class h.owner.ty.classical h.owner.ty.shape (indices u.part) h.kind.0 h.kind.1) ∙ (ap (λ (x : Ty). x.classical) (sym copied.type) ∙ t)) (subst (λ l. 1 ≤ owners_of W l under w) copied.vars le);
@@ -128,5 +150,6 @@ module _ (out : Outside) (sc : Scope) (low : ℕ) (others : ℕ → ℕ) (W : Pl
         tt,
       );
       typed = λ e. (subst IsTyped (sym answer_is) tt, tt);
-      untold = (subst (EndsDropped (wires_so_far s) (flat E s).built.draft) (sym answer_is) (λ q w le n. let a = old w le in absurd (omega (arith, a, n))), tt);
+      untold = (subst (EndsDropped (wires_so_far s) (flat E s).built.draft) (sym answer_is) (λ w le n m. let a = old w le in absurd (omega (arith, a, n))), tt);
+      several = tt;
     }

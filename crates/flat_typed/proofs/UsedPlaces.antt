@@ -85,7 +85,7 @@ module _ (out : Outside) (sc : Scope) (low : ℕ) (others : ℕ → ℕ) (W : Pl
       used = record { var = m.var; found = m.found; live = m.live; unheld = λ k. m.unheld; loose = λ k. m.loose; clear = m.clear; how = inl (record { moved = m.moved; value = m.value; left = m.left }) }
 
       told : Starts (place_use sc.statics (find_var c.vars (variable x)) none needs.Consumed) → Tells needs.Consumed (step (give_part needs.Consumed x [])) (place_use sc.statics (find_var c.vars (variable x)) none needs.Consumed)
-      told b = own_tells out sc needs.Consumed wants E W under us c s u d done k refl both.0 both.1 quantum
+      told b = own_tells out sc needs.Consumed wants E W under us c s u d done k refl refl both.0 both.1 quantum
         where
           us : List Use
           us = place_use sc.statics (find_var c.vars (variable x)) none needs.Consumed

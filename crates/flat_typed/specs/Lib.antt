@@ -16,3 +16,4 @@ pub mod Endings
 pub mod Bodies
 pub mod Instances
 pub mod Accepted
+pub mod PlaceLaws

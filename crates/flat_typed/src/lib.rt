@@ -7,6 +7,7 @@
 //! below: each function has an empty body, and its contract is the law.
 
 pub mod programs;
+pub mod places;
 pub mod statements;
 pub mod steps;
 
