@@ -27,8 +27,7 @@ use Rattle.flat_form.specs.Names.{AllOf, AllEnv, operands_in, names, named_by}
 use Rattle.flat_form.specs.Good.{IsKnown}
 use Rattle.flat_typed.specs.Places.{Places, is_part, is_shared, has_wires, part_out, less_part, bits_for, shown, entries, in_order, holds, holders, times_in, carriers, owners_of}
 use Rattle.flat_typed.specs.Relation.{FitsPart}
-use Rattle.flat_typed.specs.Done.{Agree}
-use Rattle.flat_typed.specs.Tells.{OnePart}
+use Rattle.flat_typed.specs.Done.{Agree, parts_in}
 use Rattle.flat_typed.proofs.Ordered.{clash}
 use Rattle.flat_typed.proofs.Parts.{found_there}
 use Rattle.flat_typed.proofs.Changes.{whole_is}
@@ -38,6 +37,27 @@ use Rattle.flat_typed.proofs.Spans.{span_and_outside, part_at_most}
 use Rattle.flat_typed.proofs.Uses.{all_join}
 use Rattle.flat_typed.proofs.Tame.{Left, AllLeft}
 use Rattle.flat_typed.proofs.Handing.{carriers_agree}
+
+-- at most one part is taken out
+abbrev pub OnePart : List Var → Type 0
+OnePart [] = Unit {0}
+OnePart (v ∷ vs) = (is_part v ≡ true → AllOf (λ (u : Var). is_part u ≡ false) vs) × OnePart vs
+
+no_parts : (vs : List Var) → parts_in vs ≤ 0 → AllOf (λ (u : Var). is_part u ≡ false) vs
+no_parts [] le = tt
+no_parts (v ∷ vs) le = go (is_part v) refl le (no_parts vs)
+  where
+    go : (t : Bool) → is_part v ≡ t → cond t (suc (parts_in vs)) (parts_in vs) ≤ 0 → (parts_in vs ≤ 0 → AllOf (λ (u : Var). is_part u ≡ false) vs) → AllOf (λ (u : Var). is_part u ≡ false) (v ∷ vs)
+    go true e le i = absurd (omega (arith, le))
+    go false e le i = (e, i le)
+
+pub one_part : (vs : List Var) → parts_in vs ≤ 1 → OnePart vs
+one_part [] le = tt
+one_part (v ∷ vs) le = go (is_part v) refl le (one_part vs)
+  where
+    go : (t : Bool) → is_part v ≡ t → cond t (suc (parts_in vs)) (parts_in vs) ≤ 1 → (parts_in vs ≤ 1 → OnePart vs) → OnePart (v ∷ vs)
+    go true e le i = (λ q. no_parts vs (omega (arith, le)), i (omega (arith, le)))
+    go false e le i = (λ q. clash (sym q ∙ e), i le)
 
 -- ---- places of variables and values
 

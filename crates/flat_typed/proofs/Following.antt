@@ -38,12 +38,13 @@ use Rattle.flat_typed.specs.Footprint.{wires_for, wires_of_part, used_wires, con
 use Rattle.flat_typed.specs.Relation.{Outside, Stands, FitsPart}
 use Rattle.flat_typed.specs.Scopes.{as_meaning, NoStatics}
 use Rattle.flat_typed.specs.Uses.{IsThere}
-use Rattle.flat_typed.specs.Done.{Counted, Begins, ExprDone}
-use Rattle.flat_typed.specs.Lemmas.{Callable}
-use Rattle.flat_typed.specs.Tells.{OnePart, NewDropped, ExprShows, ExpressionTells}
+use Rattle.flat_typed.specs.Done.{Counted, Begins, ExprDone, ExprTells, EndsDropped}
+use Rattle.flat_typed.specs.Lemmas.{Callable, ExpressionIsFine}
 use Rattle.flat_typed.proofs.Ordered.{clash}
 use Rattle.flat_typed.proofs.Moving.{found_all, all_more}
-use Rattle.flat_typed.proofs.Owning.{no_times}
+use Rattle.flat_typed.proofs.Owning.{no_times, among_times}
+use Rattle.flat_typed.proofs.Spans.{part_at_most}
+use Rattle.flat_typed.proofs.Apart.{used_part, wires_are}
 use Rattle.flat_typed.proofs.Placing.{KnowsNone, place_other}
 use Rattle.flat_typed.proofs.Taking.{Around}
 use Rattle.flat_typed.proofs.Tame.{AllLeft, FindLeft, find_left, all_there_left}
@@ -51,7 +52,7 @@ use Rattle.flat_typed.proofs.Footprints.{operands_apart}
 use Rattle.flat_typed.proofs.Leaving.{k_any}
 use Rattle.flat_typed.proofs.Turns.{gives_later, gives_both}
 use Rattle.flat_typed.proofs.Reached.{Told, expression_tells}
-use Rattle.flat_typed.proofs.Falling.{Below, left_owners, live_below, values_below, shown_at_most, owners_fall, known_none, known_unnamed, order_of_env, vars_none}
+use Rattle.flat_typed.proofs.Falling.{OnePart, Below, left_owners, live_below, values_below, shown_at_most, owners_fall, known_none, known_unnamed, order_of_env, vars_none}
 use Rattle.flat_typed.proofs.Spending.{Gone, none_twice}
 use Rattle.flat_typed.proofs.Gone.{uses_are_gone}
 use Rattle.flat_typed.proofs.Lasting.{expr_lasts}
@@ -60,8 +61,8 @@ use Rattle.flat_typed.proofs.Lone.{lone_stays}
 -- ---- what a walk tells
 
 pub record Facts (sc : Scope) (taker : Ty → Receiver) (need : Need) (wants : List Ty) (e : Expression) (c : Context) (vs : List Value) (d : Context) : Type 0 where
-  pub tells : (out : Outside) (low : ℕ) (others : ℕ → ℕ) (W : Places) (under : List Value) (s : Flattening) → Begins out sc low others W under (uses e sc c.vars need) c s → OnePart c.vars
-      → ExprShows out sc need wants (meanings.expr e (as_meaning taker sc) need) W under (uses e sc c.vars need) c s vs d
+  pub tells : (out : Outside) (low : ℕ) (others : ℕ → ℕ) (W : Places) (under : List Value) (s : Flattening) → Begins out sc low others W under (uses e sc c.vars need) c s
+      → ExprTells out sc need wants (meanings.expr e (as_meaning taker sc) need) W under (uses e sc c.vars need) c s vs d
   pub told : Told sc need e c d
   pub left : AllLeft c.vars d.vars
   pub gone : (W : Places) → AllOf (FitsPart W c.vars) c.vars → AllOf (Gone d.vars) (uses e sc c.vars need)
@@ -79,7 +80,7 @@ expr_sole e sc need wants c =
     gives_later (Callable sc) (λ r. Sole b.0 (λ p. b.1 p + handed need p r.0) r.1) (expr e sc need wants c) (λ h.
     (o_expr (Callable sc) b.0 e b.1 sc (λ k s q. q.1) need wants).runs c h))
 
-pub expression_facts : (e : Expression) → ExpressionTells e → (sc : Scope) (taker : Ty → Receiver) (need : Need) (wants : List Ty) (c : Context) → is_tuple e ≡ false → NoStatics sc c.vars
+pub expression_facts : (e : Expression) → ExpressionIsFine e → (sc : Scope) (taker : Ty → Receiver) (need : Need) (wants : List Ty) (c : Context) → is_tuple e ≡ false → NoStatics sc c.vars
     → Gives (Callable sc) (λ r. Facts sc taker need wants e c r.0 r.1) (expr e sc need wants c)
 expression_facts e fine sc taker need wants c t free =
     gives-more (Callable sc) 0 (λ r. Tells r.0 r.1 × (Told sc need e c r.1 × (AllLeft c.vars r.1.vars × (IsGone r.1 × Soles r.0 r.1)))) (λ r. Facts sc taker need wants e c r.0 r.1) (expr e sc need wants c)
@@ -91,8 +92,8 @@ expression_facts e fine sc taker need wants c t free =
   where
     Tells : List Value → Context → Type 0
     Tells vs d =
-        (out : Outside) (low : ℕ) (others : ℕ → ℕ) (W : Places) (under : List Value) (s : Flattening) → Begins out sc low others W under (uses e sc c.vars need) c s → OnePart c.vars
-        → ExprShows out sc need wants (meanings.expr e (as_meaning taker sc) need) W under (uses e sc c.vars need) c s vs d
+        (out : Outside) (low : ℕ) (others : ℕ → ℕ) (W : Places) (under : List Value) (s : Flattening) → Begins out sc low others W under (uses e sc c.vars need) c s
+        → ExprTells out sc need wants (meanings.expr e (as_meaning taker sc) need) W under (uses e sc c.vars need) c s vs d
 
     IsGone : Context → Type 0
     IsGone d = (W : Places) → AllOf (FitsPart W c.vars) c.vars → AllOf (Gone d.vars) (uses e sc c.vars need)
@@ -101,7 +102,7 @@ expression_facts e fine sc taker need wants c t free =
     Soles vs d = (b : ℕ × (ℕ → ℕ)) → Sole b.0 b.1 c → Sole b.0 (λ p. b.1 p + handed need p vs) d
 
 -- in a walk, whether or not a tuple stands there
-pub facts_here : (e : Expression) → ExpressionTells e → (sc : Scope) (taker : Ty → Receiver) (need : Need) (wants : List Ty) (c : Context) → NoStatics sc c.vars
+pub facts_here : (e : Expression) → ExpressionIsFine e → (sc : Scope) (taker : Ty → Receiver) (need : Need) (wants : List Ty) (c : Context) → NoStatics sc c.vars
     → Gives (Callable sc) (λ r. is_tuple e ≡ false → Facts sc taker need wants e c r.0 r.1) (expr e sc need wants c)
 facts_here e fine sc taker need wants c free = go (is_tuple e) refl
   where
@@ -164,7 +165,7 @@ fits_placed U n p ps all (v ∷ vs) le b h f = (one, fits_placed U n p ps all vs
           },
         )
 
-of_none : (n : ℕ) (w : WireId) (k : Known) → IsKnown n k → n ≤ w.number → times_in w (operands_of k) ≡ 0
+pub of_none : (n : ℕ) (w : WireId) (k : Known) → IsKnown n k → n ≤ w.number → times_in w (operands_of k) ≡ 0
 of_none n w (Static z) h le = refl
 of_none n w (Shown v) h le = known_none n w (Shown v) h le
 of_none n w (Lent start size v) h le = refl
@@ -192,6 +193,20 @@ module _ (out : Outside) (sc : Scope) (low : ℕ) (others : ℕ → ℕ) (W : Pl
 
   vars_new : (w : WireId) → wires_so_far s ≤ w.number → AllOf (λ v. v.consumed ≡ false → times_in w (W v.place) ≡ 0) c.vars
   vars_new w le = vars_none (wires_so_far s) w W c.vars le (subst (AllOf _) b.stands.env (order_of_env (IsKnown (wires_so_far s)) s.env b.good.known.env)) b.stands.parts
+
+  -- what is used was made before
+  pub used_old : (ws : List Use) (w : WireId) → AllOf (IsThere sc.held c.vars) ws → used_wires W c.vars ws w ≡ true → w.number < wires_so_far s
+  used_old [] w h e = clash (sym e)
+  used_old (u ∷ ws) w h e = go (wires_of_part W c.vars u.part w) refl e (used_old ws w h.1) (cases_lt w.number (wires_so_far s))
+    where
+      go : (t : Bool) → wires_of_part W c.vars u.part w ≡ t → (t || used_wires W c.vars ws w) ≡ true → (used_wires W c.vars ws w ≡ true → w.number < wires_so_far s) → (w.number < wires_so_far s) ⊎ (wires_so_far s ≤ w.number) → w.number < wires_so_far s
+      go false f g i q = i g
+      go true f g i (inl lt) = lt
+      go true f g i (inr le) =
+          let a = among_times w (used_part out sc.held W under c s b.stands u h.0) (sym (wires_are out sc.held W under c s b.stands u h.0 w) ∙ f) in
+          let m = part_at_most w h.0.owner.ty.shape (indices u.part) (W h.0.owner.place) in
+          let z = found_all (λ v. v.consumed ≡ false → times_in w (W v.place) ≡ 0) c.vars (variable u.part.name) h.0.owner h.0.found (vars_new w le) h.0.live in
+          absurd (omega (arith, a, m, z))
 
   module _ (need : Need) (e : Effect) (vs : List Value) (d : Context) (o : ExprDone out sc need e W under us c s vs d) (left : AllLeft c.vars d.vars) where
     abbrev U : Places
@@ -238,7 +253,7 @@ module _ (out : Outside) (sc : Scope) (low : ℕ) (others : ℕ → ℕ) (W : Pl
         go w le true g = let a = b.stands.below w g in absurd (omega (arith, a, le))
         go w le false g = refl
 
-    pub around_next : (v : Value) (k : Known) → OnePart c.vars → IsKnown (wires_so_far s1) k → NewDropped (wires_so_far s) s1.built.draft k → Around out U (wires_so_far s) c.next under d s1 v k
+    pub around_next : (v : Value) (k : Known) → OnePart c.vars → IsKnown (wires_so_far s1) k → EndsDropped (wires_so_far s) s1.built.draft k → Around out U (wires_so_far s) c.next under d s1 v k
     around_next v k one known dropped = record {
       knows = knows_next one;
       grown = o.touches.grown;

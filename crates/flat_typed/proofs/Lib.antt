@@ -99,6 +99,10 @@ pub mod Gone
 pub mod Answering
 pub mod Lasting
 pub mod Following
+pub mod Operating
+pub mod StaticTells
+pub mod Unary
+pub mod Pairing
 pub mod OneArgument
 pub mod GateCalls
 pub mod GateWalks
@@ -124,6 +128,7 @@ pub mod EntryParams
 pub mod GivenHeld
 pub mod EntryEnds
 pub mod Accepted
+pub mod TwoOperands
 pub mod LastPart
 pub mod PartSteps
 pub mod PartAssign

@@ -167,7 +167,7 @@ pub consts_unnamed : (w : WireId) (bs : List Bool) → list_any (named_by w) (ma
 consts_unnamed w [] = refl
 consts_unnamed w (b ∷ bs) = consts_unnamed w bs
 
-abbrev bits_of : ℕ → Scalar → ℤ → TypedBits
+abbrev pub bits_of : ℕ → Scalar → ℤ → TypedBits
 bits_of m k z = record { classical = false; shape = single_shape k; operands = map (λ b. Const b) (low_bits (scalar_bits k) (modulo z (modulus k))); own = false; began = m }
 
 -- a value that fits a type is one of a scalar

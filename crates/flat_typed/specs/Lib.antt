@@ -10,7 +10,6 @@ pub mod Laws
 pub mod Stay
 pub mod StatementLaws
 pub mod Steps
-pub mod Tells
 pub mod Settled
 pub mod Endings
 pub mod Bodies
