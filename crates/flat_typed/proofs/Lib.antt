@@ -134,3 +134,4 @@ pub mod PartSteps
 pub mod PartAssign
 pub mod PartAssignments
 pub mod PlacesStated
+pub mod BodyStarts
