@@ -135,3 +135,4 @@ pub mod PartAssign
 pub mod PartAssignments
 pub mod PlacesStated
 pub mod BodyStarts
+pub mod NamedWires
