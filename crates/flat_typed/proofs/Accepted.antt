@@ -1,8 +1,7 @@
 -- Each accepted program is one that flattening can take, where each statement and each list of expressions is fine.
-use Rattle.std.proofs.Common.{◌≡◌, ◌⊎◌, inl, inr, ℕ, Bool, true, false, cond, not, ◌||◌, ◌==◌, List, [], ◌∷◌, length, map, reverse, refl, sym, ap, ap₂, ◌∙◌, subst, arith}
+use Rattle.std.proofs.Common.{◌≡◌, inr, ℕ, Bool, true, false, cond, not, ◌||◌, ◌==◌, List, [], ◌∷◌, length, map, reverse, refl, sym, ap₂, subst, arith}
 use Rattle.std.specs.Prelude.{Option, Some, None, Result, Ok, Err, ℤ, is_some}
 use Rattle.silq_tree.specs.declared.node.NameId.{NameId}
-use Rattle.silq_tree.specs.declared.node.Spot.{Spot}
 use Rattle.silq_tree.specs.Syntax.{Function, Statements, done, next}
 use Rattle.silq_types.specs.declared.types.Shape.{Shape}
 use Rattle.silq_types.specs.declared.built_in.BuiltIn.{BuiltIn}
@@ -10,7 +9,7 @@ use Rattle.silq_types.specs.declared.signature.InstanceKey.{InstanceKey}
 use Rattle.silq_types.specs.declared.signature.Signature.{Signature}
 use Rattle.silq_types.specs.declared.values.Value.{Value}
 use Rattle.silq_types.specs.Calls.{Found, built_in, find_fun}
-use Rattle.silq_types.specs.Programs.{Program, earlier_than, paired as static_pairs}
+use Rattle.silq_types.specs.Programs.{earlier_than, paired as static_pairs}
 use Rattle.silq_types.specs.Rules.{Fault, rule, name_taken, not_static, and_then}
 use Rattle.silq_types.specs.Types.{same_name}
 use Rattle.silq_mean.specs.Written.{Header, header_of}
@@ -18,35 +17,34 @@ use Rattle.check_scope.specs.Walk.{Counts, with_counts}
 use Rattle.check_scope.specs.Context.{Scope}
 use Rattle.check_expr.specs.Expression.{exact_place}
 use Rattle.check_expr.proofs.Alike.{some_same}
-use Rattle.check_expr.proofs.Owners.{gives-more}
 use Rattle.check_fun.specs.Statement.{any_name, stmts}
-use Rattle.check_fun.specs.Program.{Accepted, repeats, shares_name, param_names, header_names, all_headers, has_classical, has_negative, entry_rules, check_entry, check, check_one, instances, instance_walk, returned_as, kept}
-use Rattle.check_fun.proofs.Growth.{ok_inside, ok_same}
+use Rattle.check_fun.specs.Program.{repeats, shares_name, param_names, header_names, all_headers, has_classical, has_negative, entry_rules, check_entry, check_one, instances, instance_walk, returned_as, kept}
+use Rattle.check_fun.proofs.Growth.{ok_inside}
 use Rattle.silq_mean.specs.declared.receiver.Receiver.TheVariants.{EntryOutput}
-use Rattle.silq_mean.specs.Effect.{Effect, ◌>>◌, step, enter_body}
-use Rattle.silq_mean.specs.Meaning.{scope, functions, body_of, params_of, names_of, give_held, entry}
+use Rattle.silq_mean.specs.Effect.{◌>>◌, step, enter_body}
+use Rattle.silq_mean.specs.Meaning.{functions, body_of, params_of, names_of, give_held, entry}
 use Rattle.silq_mean.specs.Meaning as meanings
-use Rattle.silq_mean.specs.Table.{Job, job, job_of}
+use Rattle.silq_mean.specs.Table.{Job, job_of}
 use Rattle.flat_form.specs.Names.{AllOf}
 use Rattle.flat_form.specs.Jobs.{FineJob, EndsWell}
 use Rattle.flat_form.proofs.Both.{all_reverse}
 use Rattle.flat_typed.specs.Calls.{BodyFine}
-use Rattle.flat_typed.specs.Scopes.{as_meaning, scope_for}
+use Rattle.flat_typed.specs.Scopes.{scope_for}
 use Rattle.flat_typed.specs.Lemmas.{Callable, AcceptedIsFlattenable}
 use Rattle.flat_typed.specs.Endings.{front, last_of, last_items, statements_of}
 use Rattle.flat_typed.specs.Settled.{FineStatements, Settling}
-use Rattle.flat_typed.specs.Bodies.{HasFineParts, ConstsStay}
+use Rattle.flat_typed.specs.Bodies.{ConstsStay}
 use Rattle.flat_typed.specs.Instances.{IsFineFunction, Tells}
 use Rattle.flat_typed.specs.Accepted.{AllAreFine, AcceptedWhereFine}
-use Rattle.flat_typed.proofs.Ordered.{or_left, or_right}
+use Rattle.flat_typed.proofs.Ordered.{or_right}
 use Rattle.flat_typed.proofs.Scopes.{Both, then_ok, body_scope, header_parts}
 use Rattle.flat_typed.proofs.SettledLaws.{no_more_settle, next_settles, no_more_fine, next_fine}
 use Rattle.flat_typed.proofs.Bodies.{body_is_fine}
 use Rattle.flat_typed.proofs.Instances.{parted_later, gives_weaker, ran_holds, all_tell, callable}
 use Rattle.flat_typed.proofs.EntryParams.{AllMatch, header_move, params_match, matches_long, matches_quantum, matches_shapes}
-use Rattle.flat_typed.proofs.EntryBegins.{AllQuantum, param_shapes}
+use Rattle.flat_typed.proofs.EntryBegins.{AllQuantum}
 use Rattle.flat_typed.proofs.EntryStands.{its_places, entered, outside_entry, entry_begins}
-use Rattle.flat_typed.proofs.EntryEnds.{entry_job, entry_effect, entry_is_fine}
+use Rattle.flat_typed.proofs.EntryEnds.{entry_job, entry_is_fine}
 
 -- ---- statements in turn
 

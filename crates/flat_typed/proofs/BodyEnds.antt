@@ -1,6 +1,6 @@
 -- The end of a body: behind its last statement, where nothing Linear is left, it has done what a call relies on.
-use Rattle.std.proofs.Common.{◌≡◌, ◌⊎◌, inl, inr, ℕ, suc, ◌+◌, ◌≤◌, ◌<◌, Bool, true, false, cond, not, ◌&&◌, List, [], ◌∷◌, ◌++◌, length, map, reverse, refl, sym, ap, ap₂, ◌∙◌, subst, arith, nat_lt}
-use Rattle.std.specs.Prelude.{ℤ, Some, None}
+use Rattle.std.proofs.Common.{◌≡◌, ◌⊎◌, inl, inr, ℕ, ◌+◌, ◌≤◌, ◌<◌, Bool, true, false, cond, not, ◌&&◌, List, [], ◌∷◌, ◌++◌, length, map, reverse, refl, sym, ap, ◌∙◌, subst, arith, nat_lt}
+use Rattle.std.specs.Prelude.{ℤ, Some}
 use Rattle.std.proofs.lemmas.List.{append-nil}
 use Rattle.std.proofs.lemmas.Bool.{cases_lt, lt-ltb}
 use Rattle.silq_tree.specs.declared.node.NameId.{NameId}
@@ -14,9 +14,8 @@ use Rattle.silq_types.specs.Types.{is_held}
 use Rattle.silq_mean.specs.Written.{Header}
 use Rattle.check_scope.specs.Context.{Scope, Context, find_var}
 use Rattle.check_scope.specs.declared.uses.Use.{Use}
-use Rattle.check_expr.specs.Expression.{is_qfree}
 use Rattle.check_fun.specs.Statement.{is_live_linear}
-use Rattle.check_fun.specs.Program.{given_on, returned_as}
+use Rattle.check_fun.specs.Program.{returned_as}
 use Rattle.silq_mean.specs.declared.receiver.Receiver.{Receiver}
 use Rattle.silq_mean.specs.Effect.{Effect}
 use Rattle.silq_mean.specs.Meaning as meanings
@@ -24,19 +23,18 @@ use Rattle.flat_core.specs.declared.step.WireId.{WireId}
 use Rattle.flat_core.specs.declared.step.End.TheVariants.{Dropped}
 use Rattle.flat_core.specs.Form.{DraftForm}
 use Rattle.flat_core.specs.Label.{wire_in}
-use Rattle.bit_arith.specs.Calls.{Targets, IsTarget}
+use Rattle.bit_arith.specs.Calls.{IsTarget}
 use Rattle.flat_form.specs.declared.known.Known.{Known}
 use Rattle.flat_form.specs.declared.known.Known.TheVariants.{Shown, Absent}
-use Rattle.flat_form.specs.State.{Caller, Flattening, wires_so_far, operands_of, began_or}
+use Rattle.flat_form.specs.State.{Caller, Flattening, wires_so_far, began_or}
 use Rattle.flat_form.specs.Flat.{flat, known_in}
 use Rattle.flat_form.specs.Fine.{Fine}
 use Rattle.flat_form.specs.Names.{AllOf, names}
-use Rattle.flat_form.specs.Shows.{ListBoth}
-use Rattle.flat_typed.specs.Places.{Places, is_part, is_shared, part_out, less_part, bits_for, in_order, shown, carriers, linear_carriers, owners_of, linear_owners}
+use Rattle.flat_typed.specs.Places.{Places, is_part, is_shared, part_out, less_part, bits_for, in_order, shown, carriers, owners_of, linear_owners}
 use Rattle.flat_typed.specs.Footprint.{used_wires, consumed_wires, Owed, Touches, StaysPlain, Unmade}
 use Rattle.flat_typed.specs.Relation.{Outside, Stands, IsTakenOver}
 use Rattle.flat_typed.specs.Done.{MadeSince, StmtBegins, StmtDone, changeable}
-use Rattle.flat_typed.specs.Calls.{Three, carried, ArgsDone, ArgsTells, first_context, named_times, quantum_times, BodyDone}
+use Rattle.flat_typed.specs.Calls.{Three, carried, ArgsTells, first_context, named_times, quantum_times, BodyDone}
 use Rattle.flat_typed.specs.Scopes.{as_meaning, scope_for}
 use Rattle.flat_typed.specs.Stay.{HadOwner, Stayed}
 use Rattle.flat_typed.specs.Lemmas.{uses_by}
@@ -51,7 +49,7 @@ use Rattle.flat_typed.proofs.Lone.{each_found}
 use Rattle.flat_typed.proofs.Parts.{shows_its_place, whole_part}
 use Rattle.flat_typed.proofs.Binding.{none_out}
 use Rattle.flat_typed.proofs.HeldStay.{HeldFirst}
-use Rattle.flat_typed.proofs.LastTold.{HadPlace, PlainFor, LastTold}
+use Rattle.flat_typed.proofs.LastTold.{LastTold}
 use Rattle.flat_typed.proofs.Results.{Before, is_new}
 use Rattle.flat_typed.proofs.ReturnedValues.{all_carried, named_are, named_moved, linear_are, results_are, unguarded_values}
 

@@ -1,35 +1,28 @@
 -- Where the entry begins: its parameters stand, each with input wires of its own.
-use Rattle.std.proofs.Common.{◌≡◌, ◌⊎◌, inl, inr, ℕ, suc, ◌+◌, ◌≤◌, ◌<◌, Bool, true, false, cond, not, ◌&&◌, List, [], ◌∷◌, ◌++◌, length, map, refl, sym, ap, ap₂, ◌∙◌, subst, arith, nat_lt}
-use Rattle.std.specs.Prelude.{⊤, None}
+use Rattle.std.proofs.Common.{◌≡◌, ℕ, suc, ◌+◌, ◌≤◌, Bool, true, false, cond, not, ◌&&◌, List, [], ◌∷◌, map, refl, sym, ap, ap₂, ◌∙◌, arith}
 use Rattle.std.specs.List.{list_any}
-use Rattle.std.proofs.lemmas.Bool.{cases_lt, lt-ltb}
-use Rattle.silq_tree.specs.Syntax.{Parameter}
 use Rattle.silq_types.specs.declared.types.Shape.{Shape}
-use Rattle.silq_types.specs.declared.types.Ty.{Ty}
 use Rattle.silq_types.specs.declared.need.Need.TheVariants as needs
 use Rattle.silq_types.specs.declared.signature.Param.{Param}
 use Rattle.silq_types.specs.declared.values.Value.{Value}
-use Rattle.silq_types.specs.declared.values.Part.{Part}
-use Rattle.silq_types.specs.declared.values.Var.{Var}
 use Rattle.silq_types.specs.Types.{shape_bits}
 use Rattle.silq_types.specs.Calls.{is_consumed}
-use Rattle.check_fun.specs.Program.{param_vars, param_origin}
+use Rattle.check_fun.specs.Program.{param_origin}
 use Rattle.silq_mean.specs.declared.receiver.Receiver.{Receiver}
 use Rattle.flat_core.specs.declared.step.WireId.{WireId}
-use Rattle.bit_arith.specs.Built.{Built, begun}
-use Rattle.bit_arith.specs.Calls.{Targets, no_target}
+use Rattle.bit_arith.specs.Built.{Built}
 use Rattle.flat_form.specs.declared.known.Known.{Known}
 use Rattle.flat_form.specs.declared.known.Known.TheVariants.{Shown}
-use Rattle.flat_form.specs.State.{operands_of, wires_in}
+use Rattle.flat_form.specs.State.{operands_of}
 use Rattle.flat_form.specs.Flat.{inputs, input_wires}
 use Rattle.flat_form.specs.Names.{AllOf, named_by, names}
 use Rattle.flat_typed.specs.Places.{Places, times_in, carriers}
-use Rattle.flat_typed.specs.Relation.{is_carried, SparesGuarded}
+use Rattle.flat_typed.specs.Relation.{is_carried}
 use Rattle.flat_typed.specs.Calls.{Three, carried, SparesCarried, named_times}
 use Rattle.flat_typed.proofs.Ordered.{clash}
 use Rattle.flat_typed.proofs.Scopes.{taken_param}
 use Rattle.flat_typed.proofs.Owning.{no_times}
-use Rattle.flat_typed.proofs.Parameters.{AtFrom, Entered, AllEntered}
+use Rattle.flat_typed.proofs.Parameters.{AtFrom, AllEntered}
 
 -- the values of parameters, as if each had been handed over from its own place
 abbrev pub values_at : ℕ → List Param → List Value

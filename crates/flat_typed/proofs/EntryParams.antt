@@ -1,5 +1,5 @@
 -- The parameters of an entry, as they are written and as its header tells them.
-use Rattle.std.proofs.Common.{◌≡◌, ℕ, suc, ◌+◌, Bool, true, false, cond, ◌&&◌, ◌||◌, List, [], ◌∷◌, ◌++◌, length, map, refl, sym, ap, ap₂, ◌∙◌, subst, arith}
+use Rattle.std.proofs.Common.{◌≡◌, suc, ◌+◌, Bool, true, false, cond, ◌||◌, List, [], ◌∷◌, ◌++◌, length, map, refl, sym, ap, ap₂, ◌∙◌, subst, arith}
 use Rattle.std.specs.Prelude.{Option, Some, None, Result, Ok, Err, ℤ, is_some, nat_abs}
 use Rattle.silq_tree.specs.declared.node.Spot.{Spot}
 use Rattle.silq_tree.specs.Syntax.{Expression, ScalarType, bit, uint, int, WrittenType, Parameter, Function}
@@ -11,15 +11,15 @@ use Rattle.silq_types.specs.declared.types.Shape.{Shape}
 use Rattle.silq_types.specs.declared.types.Shape.TheVariants.{Array}
 use Rattle.silq_types.specs.declared.types.Ty.{Ty}
 use Rattle.silq_types.specs.declared.signature.Param.{Param}
-use Rattle.silq_types.specs.Rules.{Fault, rule, and_then, lifted_without_result}
+use Rattle.silq_types.specs.Rules.{Fault, and_then}
 use Rattle.silq_types.specs.Types.{Statics, is_lifted, first_unknown, scalar_names, size_names}
 use Rattle.silq_types.specs.Calls.{param_is_held}
-use Rattle.silq_mean.specs.Written.{or_not_static, needed_at, sized, width_of, length_of, scalar_by, shape_by, all_known, moved_to, value_of, written_scalar, written_size, written_at, is_classical, header_type, param_types, result_types, header_of, Header, Where, is_count, most_bits, most_items}
+use Rattle.silq_mean.specs.Written.{or_not_static, needed_at, width_of, length_of, scalar_by, shape_by, all_known, moved_to, value_of, written_scalar, written_size, written_at, is_classical, header_type, param_types, result_types, header_of, Header, Where, is_count, most_bits, most_items}
 use Rattle.check_expr.specs.Expression.{exact_place}
 use Rattle.check_fun.specs.Program.{has_classical}
 use Rattle.silq_mean.specs.Meaning.{type_of, type_or_bit, param_of}
 use Rattle.flat_typed.proofs.Ordered.{or_left, or_right}
-use Rattle.flat_typed.proofs.Scopes.{Both, then_ok, ok_same}
+use Rattle.flat_typed.proofs.Scopes.{then_ok, ok_same}
 use Rattle.flat_typed.proofs.EntryBegins.{AllQuantum, param_shapes}
 
 -- ---- the header does not depend on where its faults would stand

@@ -1,10 +1,10 @@
 -- The relation stands where the entry begins.
-use Rattle.std.proofs.Common.{◌≡◌, ◌⊎◌, inl, inr, ℕ, suc, ◌+◌, ◌≤◌, ◌<◌, Bool, true, false, cond, List, [], ◌∷◌, ◌++◌, length, map, take, drop, reverse, refl, sym, ap, ap₂, ◌∙◌, subst, arith, nat_lt}
+use Rattle.std.proofs.Common.{◌≡◌, ◌⊎◌, inl, inr, suc, ◌+◌, ◌≤◌, ◌<◌, true, false, List, [], ◌∷◌, length, take, drop, reverse, refl, sym, ap, ◌∙◌, subst, arith, nat_lt}
 use Rattle.std.specs.Prelude.{Ok, ℤ}
 use Rattle.std.proofs.lemmas.List.{length-reverse, reverse-reverse, length-map}
 use Rattle.std.proofs.lemmas.Bool.{cases_lt, lt-ltb}
 use Rattle.silq_tree.specs.declared.node.NameId.{NameId}
-use Rattle.silq_tree.specs.Syntax.{Parameter, Function}
+use Rattle.silq_tree.specs.Syntax.{Function}
 use Rattle.silq_types.specs.declared.types.Shape.{Shape}
 use Rattle.silq_types.specs.declared.types.Ty.{Ty}
 use Rattle.silq_types.specs.declared.need.Need.{Need}
@@ -14,26 +14,22 @@ use Rattle.silq_types.specs.declared.values.Var.{Var}
 use Rattle.silq_types.specs.Types.{shape_bits}
 use Rattle.silq_types.specs.Programs.{paired as static_pairs}
 use Rattle.silq_mean.specs.Written.{Header}
-use Rattle.check_scope.specs.Context.{Scope}
 use Rattle.check_fun.specs.Program.{param_names, param_vars}
-use Rattle.silq_mean.specs.Effect.{Effect, step, enter_body}
+use Rattle.silq_mean.specs.Effect.{step, enter_body}
 use Rattle.silq_mean.specs.Meaning.{params_of, param_of, names_of}
 use Rattle.flat_core.specs.declared.step.Step.{Step}
 use Rattle.flat_core.specs.declared.step.WireId.{WireId}
-use Rattle.flat_core.specs.declared.step.End.TheVariants.{Dropped}
-use Rattle.flat_core.specs.Label.{wire_in}
 use Rattle.flat_core.specs.Drafts.{empty_draft, is_measured}
 use Rattle.bit_arith.specs.Built.{Built, begun}
-use Rattle.bit_arith.specs.Calls.{no_target, IsTarget}
+use Rattle.bit_arith.specs.Calls.{no_target}
 use Rattle.flat_form.specs.declared.known.Known.{Known}
-use Rattle.flat_form.specs.State.{Flattening, wires_so_far, wires_in}
+use Rattle.flat_form.specs.State.{Flattening, wires_so_far}
 use Rattle.flat_form.specs.Flat.{flat, begin, inputs, input_wires, paired}
 use Rattle.flat_form.specs.Fine.{Fine, IsTaken}
-use Rattle.flat_form.specs.Names.{AllOf, CallerOf, names}
-use Rattle.flat_form.specs.Good.{Good}
+use Rattle.flat_form.specs.Names.{AllOf, names}
 use Rattle.flat_form.proofs.Goods.{good_flat}
-use Rattle.flat_typed.specs.Places.{Places, entries, in_order, holders, linear_holders, carriers, owners_of, linear_owners}
-use Rattle.flat_typed.specs.Footprint.{Owed, Unmade}
+use Rattle.flat_typed.specs.Places.{Places, holders, carriers, owners_of, linear_owners}
+use Rattle.flat_typed.specs.Footprint.{Owed}
 use Rattle.flat_typed.specs.Relation.{Outside, Stands, SparesGuarded}
 use Rattle.flat_typed.specs.Done.{StmtBegins}
 use Rattle.flat_typed.specs.Calls.{first_context, named_times}

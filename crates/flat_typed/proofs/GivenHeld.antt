@@ -1,9 +1,8 @@
 -- The const parameters of an entry are given behind its results.
-use Rattle.std.proofs.Common.{◌≡◌, ℕ, suc, ◌+◌, ◌≤◌, Bool, true, false, cond, ◌&&◌, ◌||◌, List, [], ◌∷◌, length, map, refl, sym, ap, ap₂, ◌∙◌, subst, arith}
+use Rattle.std.proofs.Common.{◌≡◌, ℕ, suc, ◌+◌, Bool, true, false, cond, ◌||◌, List, [], ◌∷◌, length, map, refl, sym, ap, ◌∙◌, subst, arith}
 use Rattle.std.proofs.lemmas.List.{length-map}
 use Rattle.silq_tree.specs.declared.node.NameId.{NameId}
 use Rattle.silq_tree.specs.Syntax.{Parameter, Function}
-use Rattle.silq_types.specs.declared.types.Shape.{Shape}
 use Rattle.silq_types.specs.declared.need.Need.TheVariants as needs
 use Rattle.silq_types.specs.declared.signature.Param.{Param}
 use Rattle.silq_types.specs.declared.values.Origin.TheVariants.{Held, Linear, Classical}
@@ -13,14 +12,14 @@ use Rattle.silq_types.specs.Calls.{is_consumed, param_is_held}
 use Rattle.silq_mean.specs.Env.{Block, Env, is_in_block, in_block, found, block_with, in_its_block}
 use Rattle.silq_mean.specs.Effect.{Effect, ◌>>◌, step, give_part}
 use Rattle.silq_mean.specs.Meaning.{param_of, give_held}
-use Rattle.check_fun.specs.Program.{param_vars, param_origin}
+use Rattle.check_fun.specs.Program.{param_vars}
 use Rattle.flat_core.specs.declared.step.WireId.{WireId}
 use Rattle.bit_arith.specs.Built.{Built, made, wires_from}
 use Rattle.bit_arith.proofs.Making.{length-from}
 use Rattle.flat_form.specs.declared.known.Known.{Known}
 use Rattle.flat_form.specs.declared.known.Known.TheVariants.{Shown, Absent}
 use Rattle.flat_form.specs.declared.known.TypedBits.{TypedBits}
-use Rattle.flat_form.specs.State.{Flattening, wires_so_far, operands_of, part_of, are_wires, push}
+use Rattle.flat_form.specs.State.{Flattening, wires_so_far, operands_of, are_wires}
 use Rattle.flat_form.specs.Flat.{flat, known_in, inputs, input_wires, use_part, after_use}
 use Rattle.flat_form.specs.Fine.{Fine, IsOf, MayUse, FitsIndex}
 use Rattle.flat_form.specs.Names.{AllOf}
@@ -32,7 +31,7 @@ use Rattle.flat_typed.proofs.Moving.{start_none, whole_of}
 use Rattle.flat_typed.proofs.Inside.{fits_none}
 use Rattle.flat_typed.proofs.Parameters.{AtFrom, param_var}
 use Rattle.flat_typed.proofs.EntryBegins.{param_shapes, held_times}
-use Rattle.flat_typed.proofs.EntryParams.{Matches, AllMatch}
+use Rattle.flat_typed.proofs.EntryParams.{AllMatch}
 
 -- ---- a use that leaves what a name shows leaves the environment
 

@@ -1,6 +1,6 @@
 -- What an expression does to variables: it spends some that are live and not held, and leaves all else.
-use Rattle.std.proofs.Common.{◌≡◌, ℕ, Bool, true, false, cond, not, ◌&&◌, ◌||◌, List, [], ◌∷◌, refl, sym, ap, ◌∙◌, subst}
-use Rattle.std.specs.Prelude.{⊤, Option, Some, None, ℤ}
+use Rattle.std.proofs.Common.{◌≡◌, ℕ, Bool, true, false, cond, not, ◌&&◌, List, [], ◌∷◌, refl, sym, ap, ◌∙◌, subst}
+use Rattle.std.specs.Prelude.{Option, Some, None}
 use Rattle.silq_tree.specs.declared.node.Spot.{Spot}
 use Rattle.silq_tree.specs.Syntax.{Expression, Expressions, Place, number, typed_number, truth, pi, place, called, tuple, unary, binary, none, more}
 use Rattle.static_num.specs.Static.{is_static}
@@ -17,17 +17,16 @@ use Rattle.silq_types.specs.declared.values.Var.{Var}
 use Rattle.silq_types.specs.Types.{is_held, at, place_name, place_indices}
 use Rattle.silq_types.specs.Calls.{Found, built_in, find_fun}
 use Rattle.silq_types.specs.Programs.{paired}
-use Rattle.silq_mean.specs.Written.{Header, needed_at, header_of}
-use Rattle.check_scope.specs.Context.{Scope, Context, Check, ◌>>=◌, find_var, replace, same_part, part_at, variable, part_type, indices, is_in_condition}
-use Rattle.check_scope.specs.Places.{move, unmoved, is_moved, use_part, use_found, use_place, use_rules, disturbs}
-use Rattle.check_expr.specs.Expression.{Asked, Arguments, first_asked, later_asked, expr, arguments, later_arguments, lone_need, lone_wants, is_tuple, single, suits, unless_static, operands, call_gate, call_built_in, call_own, call_found, vector_value, asked_by_built_in, asked_by, asked_of_items, exact_place, static_arguments}
-use Rattle.check_expr.specs.Owners.{Gives, Ensures}
-use Rattle.check_expr.proofs.Alike.{same_part_same}
+use Rattle.silq_mean.specs.Written.{needed_at, header_of}
+use Rattle.check_scope.specs.Context.{Scope, Context, Check, ◌>>=◌, find_var, replace, same_part, part_at, variable}
+use Rattle.check_scope.specs.Places.{unmoved, is_moved, use_part, use_found, use_place, use_rules, disturbs}
+use Rattle.check_expr.specs.Expression.{Asked, Arguments, first_asked, later_asked, expr, arguments, later_arguments, lone_need, lone_wants, single, unless_static, operands, call_gate, call_built_in, call_own, call_found, vector_value, asked_by_built_in, asked_of_items, exact_place}
+use Rattle.check_expr.specs.Owners.{Ensures}
 use Rattle.check_expr.proofs.Owners.{o_bind, o_then, o_more, o_from, o_back, o_fail, o_if, o_rules, o_result, o_variables, o_names, o_length, o_signature, o_suits, o_all_needed, o_static_arguments, found_part}
 use Rattle.flat_typed.proofs.Ordered.{clash}
 use Rattle.flat_typed.proofs.Parts.{some_same}
 use Rattle.flat_typed.proofs.Moving.{spent}
-use Rattle.flat_typed.proofs.Leaving.{On, k_any, k_new, k_static, k_typed, k_single, k_unary, k_binary, k_gates, k_many, k_results}
+use Rattle.flat_typed.proofs.Leaving.{On, k_new, k_static, k_typed, k_single, k_unary, k_binary, k_gates, k_many, k_results}
 
 -- something that holds of variables where one of them that is live and not held is spent
 abbrev pub Spends : (List Var → Type 0) → Type 0

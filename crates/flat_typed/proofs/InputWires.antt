@@ -1,5 +1,5 @@
 -- The state in which a program begins: each input wire is named once, and nothing was done.
-use Rattle.std.proofs.Common.{◌≡◌, ◌⊎◌, inl, inr, ℕ, zero, suc, ◌+◌, ◌≤◌, ◌<◌, Bool, true, false, cond, List, [], ◌∷◌, ◌++◌, length, refl, sym, ap, ap₂, ◌∙◌, subst, arith, append-nil, length-append}
+use Rattle.std.proofs.Common.{◌≡◌, ◌⊎◌, inl, inr, ℕ, zero, suc, ◌+◌, ◌≤◌, ◌<◌, Bool, true, false, cond, List, [], ◌∷◌, length, refl, sym, ap, ◌∙◌, arith, append-nil, length-append}
 use Rattle.std.specs.Prelude.{get_or, eqb}
 use Rattle.std.proofs.lemmas.List.{get_or_append_left, length-map}
 use Rattle.std.proofs.lemmas.Bool.{cases_lt, eqb-true, eq-eqb}
@@ -8,15 +8,13 @@ use Rattle.silq_types.specs.Types.{shape_bits}
 use Rattle.flat_core.specs.declared.step.WireId.{WireId}
 use Rattle.flat_core.specs.declared.step.End.TheVariants.{Dropped}
 use Rattle.flat_core.specs.Form.{DraftForm, WireForm}
-use Rattle.flat_core.specs.Label.{wire_id, same_wire, no_wire, wire_in}
+use Rattle.flat_core.specs.Label.{no_wire, wire_in}
 use Rattle.flat_core.specs.Drafts.{empty_draft, with_wire, over_by_wire}
 use Rattle.bit_arith.specs.Built.{Built, begun, or_later, made, all_made, wires_from}
 use Rattle.bit_arith.specs.Calls.{no_target}
 use Rattle.bit_arith.proofs.Listed.{all_off_none}
 use Rattle.bit_arith.proofs.Making.{length-from, below_from}
 use Rattle.bit_arith.proofs.Carrying.{safe_made}
-use Rattle.flat_form.specs.declared.known.Known.{Known}
-use Rattle.flat_form.specs.State.{operands_of}
 use Rattle.flat_form.specs.Flat.{input_wires, inputs, begin}
 use Rattle.flat_form.specs.Names.{AllOf}
 use Rattle.flat_form.specs.Good.{IsKnown, Good}

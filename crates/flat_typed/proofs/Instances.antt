@@ -1,9 +1,8 @@
 -- Signatures of instances, function by function.
-use Rattle.std.proofs.Common.{◌≡◌, ◌⊎◌, inl, inr, ℕ, suc, ◌+◌, ◌≤◌, ◌<◌, Bool, true, false, cond, ◌||◌, List, [], ◌∷◌, ◌++◌, length, refl, sym, ap, ◌∙◌, subst, arith, nat_lt}
-use Rattle.std.specs.Prelude.{⊤, Option, Some, None, Result, Ok, Err, ℤ, ◌==◌, max}
+use Rattle.std.proofs.Common.{◌≡◌, inl, ℕ, suc, ◌+◌, ◌<◌, Bool, true, false, cond, List, [], ◌∷◌, ◌++◌, length, refl, sym, ap, ◌∙◌, subst, arith, nat_lt}
+use Rattle.std.specs.Prelude.{Some, Result, Ok, Err, ℤ, ◌==◌, max}
 use Rattle.std.proofs.lemmas.Bool.{eqb-true, eq-eqb}
 use Rattle.silq_tree.specs.declared.node.NameId.{NameId}
-use Rattle.silq_tree.specs.declared.node.Spot.{Spot}
 use Rattle.silq_tree.specs.Syntax.{Parameter, Function}
 use Rattle.silq_io.specs.declared.limit.LimitKind.TheVariants.{Walked}
 use Rattle.silq_types.specs.declared.built_in.BuiltIn.{BuiltIn}
@@ -12,7 +11,6 @@ use Rattle.silq_types.specs.declared.signature.Param.{Param}
 use Rattle.silq_types.specs.declared.signature.Signature.{Signature}
 use Rattle.silq_types.specs.declared.values.Value.{Value}
 use Rattle.silq_types.specs.declared.values.Var.{Var}
-use Rattle.silq_types.specs.Calls.{Found, find_fun}
 use Rattle.silq_types.specs.Known.{Signatures, same_key, signature_of}
 use Rattle.silq_types.specs.Programs.{paired}
 use Rattle.silq_types.specs.Rules.{Fault, rule, name_taken, and_then, over}
@@ -20,22 +18,21 @@ use Rattle.silq_types.specs.Types.{same_name}
 use Rattle.silq_mean.specs.Written.{Header, header_of}
 use Rattle.check_scope.specs.Walk.{Walk, answer, broken, counted, asked, Met, known, limited, new, meet, Counts, Checker, known_or_checked, with_counts, most_walked}
 use Rattle.check_scope.specs.Context.{variable, same_part}
-use Rattle.check_expr.specs.Expression.{exact_place}
-use Rattle.check_expr.specs.Owners.{Gives, fun_at, IsProper, AreProper, ProperFor}
+use Rattle.check_expr.specs.Owners.{Gives, fun_at, IsProper, AreProper}
 use Rattle.check_expr.proofs.Alike.{some_same, same_key_same}
 use Rattle.check_expr.proofs.Owners.{gives-more}
 use Rattle.check_fun.specs.Statement.{any_name}
-use Rattle.check_fun.specs.Program.{param_names, param_vars, returned_as, instance_walk, signature_by, with_instance, kept, check_one, instances}
+use Rattle.check_fun.specs.Program.{param_names, param_vars, returned_as, instance_walk, kept, check_one, instances}
 use Rattle.check_fun.proofs.Growth.{ok_inside, ok_same, met_known}
 use Rattle.check_fun.proofs.Bodies.{instances-proper}
 use Rattle.silq_mean.specs.declared.receiver.Receiver.TheVariants.{CallResult}
 use Rattle.flat_form.specs.Names.{AllOf}
-use Rattle.flat_typed.specs.Relation.{HasNone, PartsDiffer}
+use Rattle.flat_typed.specs.Relation.{PartsDiffer}
 use Rattle.flat_typed.specs.Calls.{parted, BodyFine, CallFine}
 use Rattle.flat_typed.specs.Scopes.{scope_for}
 use Rattle.flat_typed.specs.Lemmas.{Callable}
 use Rattle.flat_typed.specs.Bodies.{ConstsStay}
-use Rattle.flat_typed.specs.Instances.{Tells, AllTell, IsFineFunction, InstancesTell}
+use Rattle.flat_typed.specs.Instances.{Tells, IsFineFunction, InstancesTell}
 use Rattle.flat_typed.proofs.Ordered.{clash, same_is_equal, or_left, or_right}
 use Rattle.flat_typed.proofs.Parts.{whole_same, name_refl}
 use Rattle.flat_typed.proofs.Scopes.{found_stands}

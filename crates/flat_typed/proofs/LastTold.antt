@@ -4,7 +4,6 @@ use Rattle.std.specs.Prelude.{⊤, ◌==◌}
 use Rattle.std.proofs.lemmas.Bool.{cases_lt, lt-ltb, le-ltb, eq-eqb, eqb-true}
 use Rattle.silq_tree.specs.Syntax.{Expression, Expressions, none, more}
 use Rattle.silq_types.specs.declared.types.Ty.{Ty}
-use Rattle.silq_types.specs.declared.need.Need.{Need}
 use Rattle.silq_types.specs.declared.need.Need.TheVariants as needs
 use Rattle.silq_types.specs.declared.signature.InstanceKey.{InstanceKey}
 use Rattle.silq_types.specs.declared.signature.Signature.{Signature}
@@ -14,7 +13,7 @@ use Rattle.silq_types.specs.Types.{is_linear, count, at}
 use Rattle.check_scope.specs.Context.{Scope, Context, Check}
 use Rattle.check_scope.specs.declared.uses.Use.{Use}
 use Rattle.check_scope.specs.Uses.{uses, all_uses}
-use Rattle.check_expr.specs.Expression.{asked_of_items, expr, arguments, lone_need, lone_wants, is_tuple, single, suits}
+use Rattle.check_expr.specs.Expression.{asked_of_items, expr, arguments, lone_need, lone_wants, is_tuple}
 use Rattle.check_expr.specs.Owners.{at_place, owners, owned, handed_arguments, Sole, Gives, Ensures}
 use Rattle.check_expr.proofs.Owners.{gives-more, o_bind, o_then, o_more, o_from, o_back, o_rules, o_suits, o_arguments}
 use Rattle.silq_mean.specs.declared.receiver.Receiver.{Receiver}
@@ -30,7 +29,7 @@ use Rattle.flat_typed.specs.Calls.{ArgsTells}
 use Rattle.flat_typed.specs.Scopes.{as_meaning, NoStatics}
 use Rattle.flat_typed.specs.Uses.{IsThere}
 use Rattle.flat_typed.specs.Bodies.{TakesResults}
-use Rattle.flat_typed.specs.Lemmas.{Callable, Agrees, Asking, Untangled, uses_by, ArgumentsAreFine}
+use Rattle.flat_typed.specs.Lemmas.{Callable, Agrees, Asking, uses_by, ArgumentsAreFine}
 use Rattle.flat_typed.proofs.Ordered.{clash}
 use Rattle.flat_typed.proofs.Uses.{all_join}
 use Rattle.flat_typed.proofs.Tame.{AllLeft, left_same}
@@ -40,7 +39,7 @@ use Rattle.flat_typed.proofs.UsesThere.{There, Inv}
 use Rattle.flat_typed.proofs.WalkThere.{first_by, gives_all, u_expr}
 use Rattle.flat_typed.proofs.Reached.{one_of, begins_expression}
 use Rattle.flat_typed.proofs.HeldStay.{HeldFirst, held_spends, h_arguments}
-use Rattle.flat_typed.proofs.PlainValues.{IsPlain, Any, n_expr}
+use Rattle.flat_typed.proofs.PlainValues.{IsPlain, n_expr}
 
 -- ---- what is used is there
 

@@ -1,7 +1,7 @@
 -- A body is fine where its statements and what it returns are.
 use Rattle.std.specs.Prelude.{◌≡◌, true, false, List, length, ℤ, ◌⊎◌}
 use Rattle.silq_tree.specs.declared.node.NameId.{NameId}
-use Rattle.silq_tree.specs.Syntax.{Statements, Function}
+use Rattle.silq_tree.specs.Syntax.{Function}
 use Rattle.silq_types.specs.declared.types.Ty.{Ty}
 use Rattle.silq_types.specs.declared.built_in.BuiltIn.{BuiltIn}
 use Rattle.silq_mean.specs.Written.{Header}

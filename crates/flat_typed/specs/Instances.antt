@@ -1,5 +1,5 @@
 -- Signatures of a program's instances: each tells what calls do, where the bodies of all functions are fine.
-use Rattle.std.specs.Prelude.{◌≡◌, ℕ, List, [], ◌∷◌, Ok}
+use Rattle.std.specs.Prelude.{◌≡◌, ℕ, List, [], Ok}
 use Rattle.silq_tree.specs.declared.node.NameId.{NameId}
 use Rattle.silq_tree.specs.Syntax.{Function}
 use Rattle.silq_types.specs.declared.built_in.BuiltIn.{BuiltIn}
