@@ -111,6 +111,7 @@ pub mod BuiltInCalls
 pub mod BodyEntering
 pub mod Returning
 pub mod CallFacts
+pub mod CallWalk
 pub mod PlainValues
 pub mod LastTold
 pub mod Results
@@ -136,3 +137,9 @@ pub mod PartAssignments
 pub mod PlacesStated
 pub mod BodyStarts
 pub mod NamedWires
+pub mod CallAnswers
+pub mod CallDone
+pub mod Inputs
+pub mod CallMarks
+pub mod OwnCalls
+pub mod CallsStated

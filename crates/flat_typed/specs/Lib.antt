@@ -16,3 +16,4 @@ pub mod Bodies
 pub mod Instances
 pub mod Accepted
 pub mod PlaceLaws
+pub mod CallLaws

@@ -8,6 +8,7 @@
 
 pub mod places;
 pub mod programs;
+pub mod calls;
 pub mod statements;
 pub mod steps;
 
