@@ -122,3 +122,4 @@ pub mod LastPart
 pub mod PartSteps
 pub mod PartAssign
 pub mod PartAssignments
+pub mod BinaryEffect
