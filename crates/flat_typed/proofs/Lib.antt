@@ -123,3 +123,4 @@ pub mod PartSteps
 pub mod PartAssign
 pub mod PartAssignments
 pub mod BinaryEffect
+pub mod InTurn
