@@ -143,3 +143,5 @@ pub mod Inputs
 pub mod CallMarks
 pub mod OwnCalls
 pub mod CallsStated
+pub mod BinaryEffect
+pub mod InTurn

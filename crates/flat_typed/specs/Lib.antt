@@ -17,3 +17,4 @@ pub mod Instances
 pub mod Accepted
 pub mod PlaceLaws
 pub mod CallLaws
+pub mod OperatorLaws

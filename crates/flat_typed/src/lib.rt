@@ -9,6 +9,7 @@
 pub mod places;
 pub mod programs;
 pub mod calls;
+pub mod operators;
 pub mod statements;
 pub mod steps;
 
