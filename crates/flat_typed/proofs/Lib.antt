@@ -81,3 +81,4 @@ pub mod GateCalls
 pub mod GateWalks
 pub mod VectorCalls
 pub mod BuiltInCalls
+pub mod SeveralValues
