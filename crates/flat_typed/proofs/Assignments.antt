@@ -44,7 +44,7 @@ use Rattle.flat_typed.proofs.Leaving.{k_any}
 use Rattle.flat_typed.proofs.Turns.{Does, line_fine, gives_both}
 use Rattle.flat_typed.proofs.Inside.{fits_none}
 use Rattle.flat_typed.proofs.Naming.{variables_for}
-use Rattle.flat_typed.proofs.Handing.{HandedOver, HandedOverFine}
+use Rattle.flat_typed.proofs.Handing.{HandsOver, HandedOver, HandedOverFine}
 use Rattle.flat_typed.proofs.Assigning.{handed_done, ks, final, assigned_done}
 
 -- ---- what the walk tells
@@ -61,7 +61,7 @@ truly : (b : Bool) → not b ≡ false → b ≡ true
 truly true e = refl
 truly false e = clash e
 
-assigned_tells : (S : InstanceKey → Signature → Type 0) {P : Context → Type 0} (sc : Scope) (s : Spot) (xs : List NameId) (vs : List Value) → Ensures S P (assigned sc s xs vs) (λ u. Assigned P xs vs)
+pub assigned_tells : (S : InstanceKey → Signature → Type 0) {P : Context → Type 0} (sc : Scope) (s : Spot) (xs : List NameId) (vs : List Value) → Ensures S P (assigned sc s xs vs) (λ u. Assigned P xs vs)
 assigned_tells S sc s xs vs =
     o_bind S 0 (o_variables S 0) (λ vars. o_then S 0 (o_rules S 0 s _) (λ u.
     record {
@@ -112,15 +112,9 @@ fits_any (Shown v) = fits_none v.shape
 fits_any (Lent start size v) = fits_none v.shape
 fits_any Absent = tt
 
--- ---- the values of a tuple
+-- ---- values in turn
 
-module _ (sc : Scope) (taker : Ty → Receiver) (es : Expressions) (xs : List NameId) (c d : Context) (vs : List Value) (h : HandedOver sc taker es (variables_for xs) c vs d) (out : Outside) (low : ℕ) (W : Places) (st : Flattening) (b : StmtBegins out sc low (λ p. 0) W c st) where
-  abbrev effect : Effect
-  effect = meanings.exprs es (as_meaning taker sc) needs.Consumed [] (variables_for xs)
-
-  abbrev us_of : List Use
-  us_of = uses_by es sc c (variables_for xs)
-
+module _ (sc : Scope) (effect : Effect) (us_of : List Use) (xs : List NameId) (c d : Context) (vs : List Value) (h : HandsOver sc effect us_of (variables_for xs) c vs d) (out : Outside) (low : ℕ) (W : Places) (st : Flattening) (b : StmtBegins out sc low (λ p. 0) W c st) where
   abbrev s1 : Flattening
   s1 = flat effect st
 
@@ -147,8 +141,8 @@ module _ (sc : Scope) (taker : Ty → Receiver) (es : Expressions) (xs : List Na
   becomes : flat (effect ▸ step (assign_in_turn xs)) st ≡ final sc effect us_of xs c d vs h out low W st b
   becomes = ap₂ (λ l r. record s1 { env = bind_all s1.env xs l; values = r }) args rest
 
-  pub tuple_done : (g : Context) → length xs ≡ length vs → overwrites_linear d.vars xs vs ≡ false → g ≡ record d { vars = bind_names d.vars xs vs } → StmtDone out sc (effect ▸ step (assign_in_turn xs)) W c st g
-  tuple_done g len over left =
+  pub in_turn_done : (g : Context) → length xs ≡ length vs → overwrites_linear d.vars xs vs ≡ false → g ≡ record d { vars = bind_names d.vars xs vs } → StmtDone out sc (effect ▸ step (assign_in_turn xs)) W c st g
+  in_turn_done g len over left =
       assigned_done sc effect us_of xs c d vs h out low W st b (effect ▸ step (assign_in_turn xs)) g
       ((handed_done sc effect us_of xs c d vs h out low W st b).fine, subst (AllOf IsTaken) (sym args) (all_taken _ _ _ _ _ xs vs ls (handed_done sc effect us_of xs c d vs h out low W st b).each)) becomes len over left
 
@@ -156,7 +150,7 @@ pub spread_is_fine : (xs : List NameId) (es : Expressions) (at s : Spot) → Han
 spread_is_fine xs es at s fine sc taker c free =
     line_fine sc c (arguments es sc needs.Consumed [] >>= assigned sc s xs) effect_of s.line
     ((o_bind (Callable sc) 0 values (λ vs. o_more (Callable sc) 0 (assigned_tells (Callable sc) {P = λ d. (length vs ≡ count es) × (count es ≡ length xs → HandedOver sc taker es (variables_for xs) c vs d)} sc s xs vs)
-    (λ u g k out low W st b. tuple_done sc taker es xs c k.before vs (k.is.1 (sym k.is.0 ∙ sym k.long)) out low W st b g k.long k.over k.left))).runs c refl)
+    (λ u g k out low W st b. in_turn_done sc (meanings.exprs es (as_meaning taker sc) needs.Consumed [] (variables_for xs)) (uses_by es sc c (variables_for xs)) xs c k.before vs (k.is.1 (sym k.is.0 ∙ sym k.long)) out low W st b g k.long k.over k.left))).runs c refl)
   where
     effect_of : Effect
     effect_of = meanings.exprs es (as_meaning taker sc) needs.Consumed [] (variables_for xs) ▸ step (assign_in_turn xs)
@@ -190,7 +184,7 @@ wants_none e = go (is_tuple e)
     go false = refl
 
 -- where one value is no tuple, it is the first of a list of one
-one_handed : (S : InstanceKey → Signature → Type 0) (P : List Value × Context → Type 0) (e : Expression) (sc : Scope) (c : Context) → is_tuple e ≡ false → Gives S P (arguments (more e none) sc needs.Consumed [] c)
+pub one_handed : (S : InstanceKey → Signature → Type 0) (P : List Value × Context → Type 0) (e : Expression) (sc : Scope) (c : Context) → is_tuple e ≡ false → Gives S P (arguments (more e none) sc needs.Consumed [] c)
     → Gives S (λ r. (v : Value) → r.0 ≡ v ∷ [] → P (v ∷ [], r.1)) (expr e sc (lone_need e needs.Consumed) [] c)
 unfolding ◌>>=◌ ◌>>◌
 one_handed S P e sc c t g =

@@ -82,3 +82,4 @@ pub mod GateWalks
 pub mod VectorCalls
 pub mod BuiltInCalls
 pub mod SeveralValues
+pub mod Spreading

@@ -72,7 +72,7 @@ none_placed : (n : ℕ) (vs : List Var) → AllOf (λ v. is_part v ≡ false) vs
 none_placed n [] h = tt
 none_placed n (v ∷ vs) h = (λ e. clash (sym e ∙ h.0), none_placed n vs h.1)
 
-begins_expression : (out : Outside) (sc : Scope) (low : ℕ) (W : Places) (c : Context) (s : Flattening) (us : List Use) → StmtBegins out sc low (λ p. 0) W c s → Begins out sc low (λ p. 0) W [] us c s
+pub begins_expression : (out : Outside) (sc : Scope) (low : ℕ) (W : Places) (c : Context) (s : Flattening) (us : List Use) → StmtBegins out sc low (λ p. 0) W c s → Begins out sc low (λ p. 0) W [] us c s
 begins_expression out sc low W c s us b = record {
   good = b.good;
   unmade = b.unmade;
