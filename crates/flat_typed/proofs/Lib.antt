@@ -83,3 +83,4 @@ pub mod VectorCalls
 pub mod BuiltInCalls
 pub mod SeveralValues
 pub mod Spreading
+pub mod Spreads
