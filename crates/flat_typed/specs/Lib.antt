@@ -13,3 +13,4 @@ pub mod Steps
 pub mod Tells
 pub mod Settled
 pub mod Endings
+pub mod BuiltIns
