@@ -145,3 +145,6 @@ pub mod OwnCalls
 pub mod CallsStated
 pub mod BinaryEffect
 pub mod InTurn
+pub mod SeveralValues
+pub mod Spreading
+pub mod Spreads

@@ -18,3 +18,4 @@ pub mod Accepted
 pub mod PlaceLaws
 pub mod CallLaws
 pub mod OperatorLaws
+pub mod BuiltIns

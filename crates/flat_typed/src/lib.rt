@@ -10,6 +10,7 @@ pub mod places;
 pub mod programs;
 pub mod calls;
 pub mod operators;
+pub mod built_ins;
 pub mod statements;
 pub mod steps;
 
