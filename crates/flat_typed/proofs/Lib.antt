@@ -83,3 +83,4 @@ pub mod ChoiceLaws
 pub mod LastWalks
 pub mod Settling
 pub mod SettledLaws
+pub mod Kept

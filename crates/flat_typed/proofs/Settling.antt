@@ -32,13 +32,13 @@ pub record Moves (c d : Context) : Type 0 where
 
 pub stay_here : (vs : List Var) → AllStay vs vs
 stay_here [] = tt
-stay_here (v ∷ vs) = (record { part = refl; held = refl }, stay_here vs)
+stay_here (v ∷ vs) = (record { part = refl; held = refl; same = λ h. refl }, stay_here vs)
 
 pub stay_then : (us vs ws : List Var) → AllStay us vs → AllStay vs ws → AllStay us ws
 stay_then [] vs ws h k = tt
 stay_then (u ∷ us) [] ws h k = absurd h
 stay_then (u ∷ us) (v ∷ vs) [] h k = absurd k
-stay_then (u ∷ us) (v ∷ vs) (w ∷ ws) h k = (record { part = k.0.part ∙ h.0.part; held = k.0.held ∙ h.0.held }, stay_then us vs ws h.1 k.1)
+stay_then (u ∷ us) (v ∷ vs) (w ∷ ws) h k = (record { part = k.0.part ∙ h.0.part; held = k.0.held ∙ h.0.held; same = λ x. k.0.same (h.0.held ∙ x) ∙ h.0.same x }, stay_then us vs ws h.1 k.1)
 
 stay_taken : (vs ws : List Var) → AllStay vs ws → AllStay vs (take (length vs) ws)
 stay_taken [] ws h = tt
