@@ -148,3 +148,4 @@ pub mod InTurn
 pub mod SeveralValues
 pub mod Spreading
 pub mod Spreads
+pub mod Kept
