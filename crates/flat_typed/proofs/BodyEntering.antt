@@ -1,12 +1,11 @@
 -- Where a body is entered with the arguments of a call: the relation stands for its parameters.
-use Rattle.std.proofs.Common.{◌≡◌, ◌⊎◌, inl, inr, ℕ, zero, suc, ◌+◌, ◌≤◌, ◌<◌, Bool, true, false, cond, not, ◌&&◌, ◌||◌, List, [], ◌∷◌, ◌++◌, length, map, take, drop, refl, sym, ap, ap₂, ◌∙◌, subst, arith}
+use Rattle.std.proofs.Common.{◌≡◌, ◌⊎◌, inl, inr, ℕ, suc, ◌+◌, ◌≤◌, ◌<◌, Bool, true, false, cond, ◌||◌, List, [], ◌∷◌, ◌++◌, length, map, take, drop, refl, sym, ap, ap₂, ◌∙◌, subst, arith}
 use Rattle.std.specs.Prelude.{nat_lt, reverse}
 use Rattle.std.proofs.lemmas.Bool.{cases_lt, lt-ltb}
 use Rattle.std.proofs.lemmas.List.{length-reverse, reverse-reverse}
 use Rattle.silq_tree.specs.declared.node.NameId.{NameId}
 use Rattle.silq_tree.specs.Syntax.{Parameter, Function}
 use Rattle.silq_types.specs.declared.signature.Param.{Param}
-use Rattle.silq_types.specs.declared.types.Ty.{Ty}
 use Rattle.silq_types.specs.declared.values.Part.{Part}
 use Rattle.silq_types.specs.declared.values.Value.{Value}
 use Rattle.silq_types.specs.declared.values.Var.{Var}
@@ -15,17 +14,14 @@ use Rattle.check_scope.specs.Context.{Context}
 use Rattle.check_fun.specs.Program.{param_vars}
 use Rattle.silq_mean.specs.Meaning.{param_of, names_of}
 use Rattle.flat_core.specs.declared.step.WireId.{WireId}
-use Rattle.bit_arith.specs.declared.operand.Operand.{Operand}
-use Rattle.bit_arith.specs.declared.operand.Operand.TheVariants.{Const, Literal}
 use Rattle.bit_arith.specs.Calls.{Targets}
 use Rattle.flat_form.specs.declared.known.Known.{Known}
-use Rattle.flat_form.specs.declared.known.Known.TheVariants.{Shown, Absent}
-use Rattle.flat_form.specs.State.{Flattening, operands_of, wires_so_far, wires_in, part_start, part_shape}
+use Rattle.flat_form.specs.State.{Flattening, wires_so_far, wires_in, part_start, part_shape}
 use Rattle.flat_form.specs.Flat.{call_began, enter, paired}
 use Rattle.flat_form.specs.Fine.{IsTaken}
-use Rattle.flat_form.specs.Names.{AllOf, AllEnv, CallerOf, names}
-use Rattle.flat_typed.specs.Places.{Places, is_part, is_shared, has_wires, shown, entries, in_order, times_in, holders, linear_holders, carriers, linear_carriers, owners_of, linear_owners}
-use Rattle.flat_typed.specs.Relation.{Outside, Stands, PartsDiffer, SparesGuarded, IsTakenOver, is_carried}
+use Rattle.flat_form.specs.Names.{AllOf, AllEnv, names}
+use Rattle.flat_typed.specs.Places.{Places, is_part, times_in, holders, carriers, linear_carriers, owners_of, linear_owners}
+use Rattle.flat_typed.specs.Relation.{Outside, Stands, PartsDiffer, SparesGuarded, is_carried}
 use Rattle.flat_typed.specs.Calls.{Three, carried, SparesCarried}
 use Rattle.flat_typed.proofs.Ordered.{clash}
 use Rattle.flat_typed.proofs.Owning.{names_none, all_front, env_of_order}

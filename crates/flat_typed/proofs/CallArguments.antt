@@ -1,12 +1,11 @@
 -- One argument of a call among all, by its number.
-use Rattle.std.proofs.Common.{◌≡◌, ◌⊎◌, inl, inr, ℕ, zero, suc, ◌+◌, ◌≤◌, ◌<◌, Bool, true, false, cond, not, ◌&&◌, ◌||◌, List, [], ◌∷◌, length, map, refl, sym, ap, ap₂, ◌∙◌, subst, arith}
-use Rattle.std.specs.Prelude.{Option, Some, None, slice_get, ◌==◌, ⊤}
+use Rattle.std.proofs.Common.{◌≡◌, ℕ, zero, suc, ◌+◌, ◌≤◌, ◌<◌, Bool, true, false, cond, List, [], ◌∷◌, map, refl, sym, ap, ◌∙◌, subst, arith}
+use Rattle.std.specs.Prelude.{Some, None, slice_get}
 use Rattle.std.proofs.lemmas.Bool.{eq-eqb, ne_eqb}
 use Rattle.silq_types.specs.declared.signature.Param.{Param}
 use Rattle.silq_types.specs.declared.signature.Returned.{Returned}
 use Rattle.silq_types.specs.declared.values.Value.{Value}
 use Rattle.check_expr.specs.Owners.{at_place, consumed_weight, from_weight, returned_weight, Proper}
-use Rattle.silq_mean.specs.declared.receiver.Receiver.{Receiver}
 use Rattle.flat_core.specs.declared.step.WireId.{WireId}
 use Rattle.bit_arith.specs.Calls.{Targets}
 use Rattle.flat_form.specs.declared.known.Known.{Known}
@@ -17,7 +16,6 @@ use Rattle.flat_form.specs.Shows.{ListBoth}
 use Rattle.flat_typed.specs.Places.{Places}
 use Rattle.flat_typed.specs.Relation.{IsTakenOver}
 use Rattle.flat_typed.specs.Calls.{Three, SparesCarried, IsGivenOver}
-use Rattle.flat_typed.proofs.Ordered.{clash}
 use Rattle.flat_typed.proofs.Parts.{some_same}
 use Rattle.flat_typed.proofs.Scopes.{taken_param}
 use Rattle.flat_typed.proofs.Parameters.{operands_at}

@@ -1,40 +1,35 @@
 -- What the walk of a call tells: its static arguments, its header, the types of its arguments and its values.
-use Rattle.std.proofs.Common.{◌≡◌, ◌⊎◌, inl, inr, ℕ, zero, suc, ◌+◌, ◌≤◌, ◌<◌, Bool, true, false, cond, not, ◌&&◌, ◌||◌, List, [], ◌∷◌, ◌++◌, length, map, drop, ℤ, refl, sym, ap, ap₂, ◌∙◌, subst, arith}
-use Rattle.std.specs.Prelude.{Option, Some, None, Result, Ok, Err, slice_get, ⊤}
-use Rattle.silq_tree.specs.declared.node.NameId.{NameId}
-use Rattle.silq_tree.specs.Syntax.{Expression, Expressions, Parameter, Function, none, more}
+use Rattle.std.proofs.Common.{◌≡◌, ℕ, suc, ◌+◌, ◌≤◌, Bool, true, false, cond, not, ◌&&◌, ◌||◌, List, [], ◌∷◌, ◌++◌, length, map, ℤ, refl, sym, ap, ap₂, ◌∙◌, subst, arith}
+use Rattle.std.specs.Prelude.{Option, Some, None, Ok, slice_get, ⊤}
+use Rattle.silq_tree.specs.Syntax.{Expressions, Parameter, Function, none, more}
 use Rattle.static_num.specs.Static.{is_static, value, eval_of}
 use Rattle.silq_types.specs.declared.need.Need.{Need}
 use Rattle.silq_types.specs.declared.need.Need.TheVariants as needs
-use Rattle.silq_types.specs.declared.types.Ty.{Ty}
 use Rattle.silq_types.specs.declared.signature.InstanceKey.{InstanceKey}
 use Rattle.silq_types.specs.declared.signature.Param.{Param}
 use Rattle.silq_types.specs.declared.signature.Returned.{Returned}
 use Rattle.silq_types.specs.declared.signature.Signature.{Signature}
-use Rattle.silq_types.specs.declared.values.Origin.{Origin}
 use Rattle.silq_types.specs.declared.values.Value.{Value}
 use Rattle.silq_types.specs.declared.values.Var.{Var}
-use Rattle.silq_types.specs.Rules.{Fault, and_then}
+use Rattle.silq_types.specs.Rules.{and_then}
 use Rattle.silq_types.specs.Types.{Statics, at, count, is_lifted}
-use Rattle.silq_types.specs.Calls.{param_need, first_need, later_needs}
+use Rattle.silq_types.specs.Calls.{param_need}
 use Rattle.silq_mean.specs.Written.{header_type, written_at, param_types}
-use Rattle.check_scope.specs.Context.{Scope, Context, Check}
+use Rattle.check_scope.specs.Context.{Scope, Context, Check, ◌>>=◌}
 use Rattle.check_scope.specs.Uses.{uses, all_uses}
-use Rattle.check_expr.specs.Expression.{Asked, first_asked, later_asked, asked_by, static_arguments, suits, single, arguments, placed, argument_at, result_origin, result_values, exact_place, lone_need, lone_wants, is_tuple}
-use Rattle.check_expr.specs.Owners.{Gives, Ensures, Sole, returned_weight}
-use Rattle.check_expr.proofs.Owners.{gives-more, o_bind, o_then, o_more, o_from, o_back, o_rules, o_natural, o_results, weights}
-use Rattle.silq_mean.specs.declared.receiver.Receiver.{Receiver}
-use Rattle.silq_mean.specs.declared.receiver.Receiver.TheVariants.{Argument}
+use Rattle.check_expr.specs.Expression.{asked_by, static_arguments, arguments, placed, argument_at, result_origin, result_values, exact_place}
+use Rattle.check_expr.specs.Owners.{at_place, handed, handed_arguments, owned, Gives, Ensures, Sole, consumed_weight, returned_weight, Proper}
+use Rattle.check_expr.proofs.Owners.{gives-more, o_bind, o_then, o_back, o_rules, o_natural, o_results, sole-less, weight_of, weights}
 use Rattle.silq_mean.specs.Meaning as meanings
-use Rattle.flat_form.specs.Names.{AllOf}
 use Rattle.flat_form.specs.Shows.{ListBoth}
-use Rattle.flat_typed.specs.Places.{Places}
 use Rattle.flat_typed.specs.Relation.{need_of}
 use Rattle.flat_typed.specs.Scopes.{NoStatics}
-use Rattle.flat_typed.specs.Lemmas.{Agrees, Asking}
+use Rattle.flat_typed.specs.Lemmas.{Asking}
 use Rattle.flat_typed.proofs.Ordered.{clash}
 use Rattle.flat_typed.proofs.Leaving.{k_any}
 use Rattle.flat_typed.proofs.Scopes.{ok_same, then_ok, needed_is, taken_param}
+use Rattle.flat_typed.proofs.Turns.{gives_both}
+use Rattle.flat_typed.proofs.Reached.{gives_each}
 use Rattle.flat_typed.proofs.UsesThere.{static_of, no_uses}
 use Rattle.flat_typed.proofs.CallArguments.{IsSuited}
 use Rattle.flat_typed.proofs.CallResults.{PlacedBy, IsReturned}
@@ -108,8 +103,70 @@ all_suited S X (more e es) sc other (t ∷ ts) l =
 
 -- ---- values
 
+-- from the context d on
+abbrev pub From : Context → Context → Type 0
+From d g = (g.vars ≡ d.vars) × (d.next ≤ g.next)
+
+placed_one : (S : InstanceKey → Signature → Type 0) (lifts : Bool) (vs : List Value) (d : Context) (r : Returned) → Ensures S (From d) (placed (argument_at vs r.from) r.ty (result_origin lifts r.ty)) (λ x g. IsReturned lifts vs d.next r x × From d g)
+unfolding ◌>>=◌
+placed_one S lifts vs d r = go (argument_at vs r.from) refl
+  where
+    go : (o : Option Value) → argument_at vs r.from ≡ o → Ensures S (From d) (placed o r.ty (result_origin lifts r.ty)) (λ x g. IsReturned lifts vs d.next r x × From d g)
+    go None e = record { runs = λ c h. (record { ty = refl; origin = refl; place = subst (λ z. PlacedBy d.next z c.next) (sym e) h.1 }, (h.0, (let a = h.1 in omega (arith, a)))) }
+    go (Some v) e = record { runs = λ c h. (record { ty = refl; origin = refl; place = subst (λ z. PlacedBy d.next z v.place) (sym e) refl }, h) }
+
+results_from : (S : InstanceKey → Signature → Type 0) (lifts : Bool) (vs : List Value) (d : Context) (X : Type 0) (rs : List Returned) → Ensures S (λ c. X × From d c) (result_values lifts vs rs) (λ xs g. (X × ListBoth (IsReturned lifts vs d.next) rs xs) × From d g)
+results_from S lifts vs d X [] = o_back S 0 [] (λ c h. ((h.0, tt), h.1))
+results_from S lifts vs d X (r ∷ rs) = record {
+  runs = λ c h.
+      (o_bind S 0 (placed_one S lifts vs d r) (λ x. record {
+        runs = λ g q.
+            (o_bind S 0 (results_from S lifts vs d (X × IsReturned lifts vs d.next r x) rs) (λ xs. o_back S 0 (x ∷ xs) {Q = λ ys g. (X × ListBoth (IsReturned lifts vs d.next) (r ∷ rs) ys) × From d g} (λ f t. ((t.0.0.0, (t.0.0.1, t.0.1)), t.1)))).runs g ((h.0, q.0), q.1);
+      })).runs c h.1;
+}
+
+-- a consumed argument hands its place over
+handed_if : (b : Bool) (p n : ℕ) (v : Value) → n ≡ at_place p v.place → cond b 0 n ≤ handed (cond b needs.Held needs.Consumed) p (v ∷ [])
+handed_if true p n v e = omega arith
+handed_if false p n v e = omega (arith, e)
+
+none_if : (b : Bool) (n : ℕ) → n ≡ 0 → cond b 0 n ≡ 0
+none_if true n e = refl
+none_if false n e = e
+
+handed_weight : (S : InstanceKey → Signature → Type 0) (p : ℕ) (w : ℕ → ℕ) (i : ℕ) (ps : List Param) (vs : List Value) → ((j k : ℕ) → k ≡ i + j → w k ≡ weight_of S 0 p (slice_get vs j)) → consumed_weight w i ps ≤ handed_arguments needs.Held (map asked_by ps) p vs
+handed_weight S p w i [] vs h = omega arith
+handed_weight S p w i (q ∷ qs) [] h =
+    let rest = handed_weight S p w (suc i) qs [] (λ j k e. h (suc j) k (omega (arith, e))) in
+    let z = none_if q.held (w i) (h 0 i (omega arith)) in
+    omega (arith, rest, z)
+handed_weight S p w i (q ∷ qs) (v ∷ vs) h =
+    let rest = handed_weight S p w (suc i) qs vs (λ j k e. h (suc j) k (omega (arith, e))) in
+    let first = handed_if q.held p (w i) v (h 0 i (omega arith)) in
+    omega (arith, rest, first)
+
 -- all that the walk makes of some results, from the context d
-pub record Made (lifts : Bool) (vs : List Value) (d : Context) (rs : List Returned) (xs : List Value) (g : Context) : Type 0 where
+pub record Made (lifts : Bool) (ps : List Param) (vs : List Value) (d : Context) (rs : List Returned) (xs : List Value) (g : Context) : Type 0 where
   pub each : ListBoth (IsReturned lifts vs d.next) rs xs
   pub vars : g.vars ≡ d.vars
   pub up : d.next ≤ g.next
+  pub sole : (low : ℕ) (others : ℕ → ℕ) → Sole low (λ p. others p + handed_arguments needs.Held (map asked_by ps) p vs) d → Sole low (λ p. others p + owned p xs) g
+
+pub results_made : (S : InstanceKey → Signature → Type 0) (lifts : Bool) (ps : List Param) (vs : List Value) (d : Context) (rs : List Returned) → Proper ps rs → Gives S (λ r. Made lifts ps vs d rs r.0 r.1) (result_values lifts vs rs d)
+results_made S lifts ps vs d rs proper =
+    gives-more S 0 (λ r. ((⊤ × ListBoth (IsReturned lifts vs d.next) rs r.0) × From d r.1) × ((b : Given) → Sole b.0 (λ p. b.1 p + owned p r.0) r.1)) (λ r. Made lifts ps vs d rs r.0 r.1) (result_values lifts vs rs d)
+    (gives_both S (λ r. (⊤ × ListBoth (IsReturned lifts vs d.next) rs r.0) × From d r.1) (λ r. (b : Given) → Sole b.0 (λ p. b.1 p + owned p r.0) r.1) (result_values lifts vs rs d)
+    ((results_from S lifts vs d ⊤ rs).runs d (tt, (refl, omega arith)))
+    (gives_each S (λ b r. Sole b.0 (λ p. b.1 p + owned p r.0) r.1) (result_values lifts vs rs d) (λ b. (o_results S b.0 b.1 lifts vs rs).runs d (less b))))
+    (λ r h. record { each = h.0.0.1; vars = h.0.1.0; up = h.0.1.1; sole = λ low others s. h.1 (low, others, s) })
+  where
+    Given : Type 0
+    Given = (low : ℕ) × (others : ℕ → ℕ) × Sole low (λ p. others p + handed_arguments needs.Held (map asked_by ps) p vs) d
+
+    less : (b : Given) → Sole b.0 (λ p. b.1 p + returned_weight (weights S b.0 vs p) rs) d
+    less b =
+        sole-less S b.0 (λ p. b.1 p + handed_arguments needs.Held (map asked_by ps) p vs) (λ p. b.1 p + returned_weight (weights S b.0 vs p) rs) d b.2
+        (λ p.
+        let a = proper (weights S b.0 vs p) in
+        let e = handed_weight S p (weights S 0 vs p) 0 ps vs (λ j k e. ap (weights S 0 vs p) (e ∙ (let z : 0 + j ≡ j = omega arith in z))) in
+        omega (arith, a, e))

@@ -1,22 +1,22 @@
 -- The values of a call in turn: who owns their wires, and which places show them.
-use Rattle.std.proofs.Common.{◌≡◌, ◌⊎◌, inl, inr, ℕ, zero, suc, ◌+◌, ◌≤◌, ◌<◌, Bool, true, false, cond, not, ◌&&◌, ◌||◌, List, [], ◌∷◌, length, map, refl, sym, ap, ap₂, ◌∙◌, subst, arith}
-use Rattle.std.specs.Prelude.{Option, Some, None, ◌==◌, ⊤}
+use Rattle.std.proofs.Common.{◌≡◌, ◌⊎◌, inl, inr, ℕ, ◌+◌, ◌≤◌, ◌<◌, Bool, true, false, cond, not, ◌&&◌, ◌||◌, List, [], ◌∷◌, map, refl, sym, ap, ap₂, ◌∙◌, arith}
+use Rattle.std.specs.Prelude.{Some, ◌==◌}
 use Rattle.std.proofs.lemmas.Bool.{eqb-true, eq-eqb, cases_lt}
 use Rattle.silq_types.specs.declared.need.Need.TheVariants as needs
-use Rattle.silq_types.specs.declared.values.Origin.TheVariants.{Lifted, Linear, Classical}
+use Rattle.silq_types.specs.declared.values.Origin.TheVariants.{Linear, Classical}
 use Rattle.silq_types.specs.declared.signature.Param.{Param}
 use Rattle.silq_types.specs.declared.signature.Returned.{Returned}
 use Rattle.silq_types.specs.declared.values.Value.{Value}
 use Rattle.silq_types.specs.declared.values.Var.{Var}
 use Rattle.silq_types.specs.Types.{is_linear}
 use Rattle.silq_types.specs.Calls.{is_consumed}
-use Rattle.check_expr.specs.Expression.{all_lifted, result_origin}
+use Rattle.check_expr.specs.Expression.{all_lifted}
 use Rattle.check_expr.specs.Owners.{at_place, owns, owners, owned, consumed_weight}
 use Rattle.flat_core.specs.declared.step.WireId.{WireId}
 use Rattle.bit_arith.specs.Calls.{Targets}
 use Rattle.flat_form.specs.declared.known.Known.{Known}
 use Rattle.flat_form.specs.State.{operands_of, wires_in}
-use Rattle.flat_form.specs.Names.{AllOf, named_by}
+use Rattle.flat_form.specs.Names.{AllOf}
 use Rattle.flat_form.specs.Shows.{ListBoth}
 use Rattle.flat_typed.specs.Places.{Places, with_place, times_in, carriers, linear_carriers}
 use Rattle.flat_typed.specs.Relation.{is_carried}

@@ -1,5 +1,5 @@
 -- The values of a call: which wires and places they have, by what its body and its arguments tell.
-use Rattle.std.proofs.Common.{◌≡◌, ◌⊎◌, inl, inr, ℕ, zero, suc, ◌+◌, ◌≤◌, ◌<◌, Bool, true, false, cond, not, ◌&&◌, ◌||◌, List, [], ◌∷◌, length, refl, sym, ap, ap₂, ◌∙◌, subst, arith}
+use Rattle.std.proofs.Common.{◌≡◌, ◌⊎◌, inl, inr, ℕ, suc, ◌≤◌, ◌<◌, Bool, true, false, cond, not, ◌&&◌, ◌||◌, List, [], ◌∷◌, refl, sym, ap, ◌∙◌, subst, arith}
 use Rattle.std.specs.Prelude.{Option, Some, None, slice_get}
 use Rattle.std.specs.List.{list_any}
 use Rattle.silq_types.specs.declared.need.Need.TheVariants as needs
@@ -13,19 +13,16 @@ use Rattle.silq_types.specs.Calls.{is_consumed}
 use Rattle.check_expr.specs.Expression.{result_origin, argument_at}
 use Rattle.check_expr.specs.Owners.{at_place, consumed_weight}
 use Rattle.flat_core.specs.declared.step.WireId.{WireId}
-use Rattle.flat_core.specs.Label.{same_wire}
 use Rattle.bit_arith.specs.declared.operand.Operand.{Operand}
-use Rattle.bit_arith.specs.declared.operand.Operand.TheVariants.{Const, Literal}
 use Rattle.bit_arith.specs.Calls.{Targets}
 use Rattle.flat_form.specs.declared.known.Known.{Known}
 use Rattle.flat_form.specs.declared.known.Known.TheVariants.{Shown}
 use Rattle.flat_form.specs.State.{operands_of}
-use Rattle.flat_form.specs.Names.{AllOf, named_by, names}
-use Rattle.flat_form.specs.Shows.{ListBoth}
+use Rattle.flat_form.specs.Names.{named_by, names}
 use Rattle.flat_typed.specs.Places.{Places, times_in, carriers}
 use Rattle.flat_typed.specs.Footprint.{Within}
 use Rattle.flat_typed.specs.Relation.{AllNew, began_of, is_carried}
-use Rattle.flat_typed.specs.Calls.{Three, FromParam, IsResult, named_times}
+use Rattle.flat_typed.specs.Calls.{Three, FromParam, IsResult}
 use Rattle.flat_typed.proofs.Ordered.{clash}
 use Rattle.flat_typed.proofs.Scopes.{taken_param}
 use Rattle.flat_typed.proofs.Parameters.{operands_at}

@@ -57,7 +57,7 @@ or_both : (a b : Bool) → (a || b) ≡ false → (a ≡ false) × (b ≡ false)
 or_both true b e = clash e
 or_both false b e = (refl, e)
 
-truly : (b : Bool) → not b ≡ false → b ≡ true
+pub truly : (b : Bool) → not b ≡ false → b ≡ true
 truly true e = refl
 truly false e = clash e
 

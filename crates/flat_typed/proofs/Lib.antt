@@ -111,6 +111,7 @@ pub mod BuiltInCalls
 pub mod BodyEntering
 pub mod Returning
 pub mod CallFacts
+pub mod CallWalk
 pub mod PlainValues
 pub mod LastTold
 pub mod Results
@@ -122,3 +123,9 @@ pub mod LastPart
 pub mod PartSteps
 pub mod PartAssign
 pub mod PartAssignments
+pub mod CallAnswers
+pub mod CallDone
+pub mod Inputs
+pub mod CallMarks
+pub mod OwnCalls
+pub mod CallsStated

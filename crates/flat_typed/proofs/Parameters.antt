@@ -1,33 +1,30 @@
 -- A body's first variables, its parameters: what they show and own where arguments stand at their places.
-use Rattle.std.proofs.Common.{◌≡◌, ◌⊎◌, inl, inr, ℕ, zero, suc, ◌+◌, ◌≤◌, ◌<◌, Bool, true, false, cond, not, ◌&&◌, ◌||◌, List, [], ◌∷◌, ◌++◌, length, map, refl, sym, ap, ap₂, ◌∙◌, subst, arith}
+use Rattle.std.proofs.Common.{◌≡◌, ◌⊎◌, inl, inr, ℕ, zero, suc, ◌+◌, ◌≤◌, ◌<◌, Bool, true, false, cond, not, ◌&&◌, ◌||◌, List, [], ◌∷◌, length, map, refl, sym, ap, ap₂, ◌∙◌, arith}
 use Rattle.std.specs.Prelude.{◌==◌}
 use Rattle.std.specs.List.{list_any}
 use Rattle.std.proofs.lemmas.Bool.Decides.{eqb_tells}
-use Rattle.silq_tree.specs.declared.node.NameId.{NameId}
 use Rattle.silq_tree.specs.Syntax.{Parameter, Function}
 use Rattle.silq_types.specs.declared.need.Need.TheVariants as needs
 use Rattle.silq_types.specs.declared.signature.Param.{Param}
 use Rattle.silq_types.specs.declared.values.Origin.TheVariants.{Held, Linear, Classical}
 use Rattle.silq_types.specs.declared.values.Value.{Value}
 use Rattle.silq_types.specs.declared.values.Var.{Var}
-use Rattle.silq_types.specs.Types.{Statics, is_linear, is_held, shape_bits}
+use Rattle.silq_types.specs.Types.{Statics, is_linear, is_held}
 use Rattle.silq_types.specs.Calls.{is_consumed}
 use Rattle.check_scope.specs.Context.{variable}
-use Rattle.check_expr.specs.Owners.{at_place, owns, owners, Sole}
+use Rattle.check_expr.specs.Owners.{at_place, owners, Sole}
 use Rattle.check_fun.specs.Program.{param_vars, param_origin}
-use Rattle.silq_mean.specs.declared.receiver.Receiver.{Receiver}
 use Rattle.silq_mean.specs.Meaning.{param_of, names_of}
 use Rattle.flat_core.specs.declared.step.WireId.{WireId}
-use Rattle.bit_arith.specs.declared.operand.Operand.{Operand}
 use Rattle.bit_arith.specs.Calls.{Targets}
 use Rattle.flat_form.specs.declared.known.Known.{Known}
-use Rattle.flat_form.specs.declared.known.Known.TheVariants.{Shown, Absent}
-use Rattle.flat_form.specs.State.{operands_of, wires_in, part_start, part_shape}
+use Rattle.flat_form.specs.declared.known.Known.TheVariants.{Shown}
+use Rattle.flat_form.specs.State.{operands_of}
 use Rattle.flat_form.specs.Flat.{as_variable, paired}
 use Rattle.flat_form.specs.Names.{AllOf, operands_in, named_by, names}
-use Rattle.flat_typed.specs.Places.{Places, is_part, is_shared, has_wires, part_out, less_part, bits_for, shown, entries, times_in, holds, holders, linear_holders, carriers}
-use Rattle.flat_typed.specs.Relation.{SparesGuarded, FitsPart, IsTakenOver, is_carried}
-use Rattle.flat_typed.specs.Calls.{Three, carried, SparesCarried, first_context}
+use Rattle.flat_typed.specs.Places.{Places, is_part, is_shared, has_wires, less_part, bits_for, shown, entries, times_in, holds, holders, linear_holders, carriers}
+use Rattle.flat_typed.specs.Relation.{FitsPart, IsTakenOver, is_carried}
+use Rattle.flat_typed.specs.Calls.{Three, carried, SparesCarried}
 use Rattle.flat_typed.proofs.Ordered.{clash}
 use Rattle.flat_typed.proofs.Binding.{none_out}
 use Rattle.flat_typed.proofs.Scopes.{taken_param}

@@ -1,10 +1,8 @@
 -- Behind a call: the relation stands for the caller again, with the call's values under way.
-use Rattle.std.proofs.Common.{◌≡◌, ◌⊎◌, inl, inr, ℕ, ◌+◌, ◌≤◌, ◌<◌, Bool, true, false, cond, not, ◌&&◌, ◌||◌, List, [], ◌∷◌, ◌++◌, length, map, refl, sym, ap, ap₂, ◌∙◌, subst, arith}
+use Rattle.std.proofs.Common.{◌≡◌, ◌⊎◌, inl, inr, ℕ, ◌+◌, ◌≤◌, ◌<◌, Bool, true, false, cond, not, ◌&&◌, ◌||◌, List, [], ◌∷◌, ◌++◌, length, map, refl, sym, ap, ◌∙◌, subst, arith}
 use Rattle.std.specs.Prelude.{nat_lt, ⊤}
 use Rattle.std.proofs.lemmas.Bool.{cases_lt, ltb-true}
-use Rattle.silq_tree.specs.declared.node.NameId.{NameId}
 use Rattle.silq_tree.specs.Syntax.{Function}
-use Rattle.silq_types.specs.declared.signature.Param.{Param}
 use Rattle.silq_types.specs.declared.signature.Returned.{Returned}
 use Rattle.silq_types.specs.declared.values.Part.{Part}
 use Rattle.silq_types.specs.declared.values.Value.{Value}
@@ -13,27 +11,25 @@ use Rattle.silq_types.specs.Types.{Statics, is_linear}
 use Rattle.silq_mean.specs.Written.{Header}
 use Rattle.silq_mean.specs.Effect.{Effect}
 use Rattle.check_scope.specs.Context.{Context, indices, variable}
-use Rattle.check_expr.specs.Expression.{is_qfree}
 use Rattle.check_expr.specs.Owners.{owners, owned}
 use Rattle.check_fun.specs.Program.{param_vars}
 use Rattle.flat_core.specs.declared.step.WireId.{WireId}
 use Rattle.flat_core.specs.declared.step.End.TheVariants.{Dropped}
 use Rattle.flat_core.specs.Form.{WireForm}
 use Rattle.flat_core.specs.Label.{wire_in}
-use Rattle.bit_arith.specs.declared.operand.Operand.{Operand}
 use Rattle.bit_arith.specs.Built.{Setting}
 use Rattle.bit_arith.specs.Calls.{Targets, IsTarget}
 use Rattle.flat_form.specs.declared.known.Known.{Known}
-use Rattle.flat_form.specs.State.{Flattening, Caller, operands_of, wires_so_far, wires_in, part_of}
+use Rattle.flat_form.specs.State.{Flattening, operands_of, wires_so_far, wires_in, part_of}
 use Rattle.flat_form.specs.Flat.{flat}
-use Rattle.flat_form.specs.Names.{AllOf, CallerOf, named_by, names}
+use Rattle.flat_form.specs.Names.{AllOf, CallerOf, names}
 use Rattle.flat_form.specs.Good.{Good}
 use Rattle.flat_form.specs.Shows.{ListBoth}
-use Rattle.flat_typed.specs.Places.{Places, is_part, is_shared, shown, entries, times_in, holds, holders, linear_holders, carriers, linear_carriers, owners_of, linear_owners}
+use Rattle.flat_typed.specs.Places.{Places, is_part, is_shared, shown, holds, holders, linear_holders, carriers, linear_carriers, owners_of, linear_owners}
 use Rattle.flat_typed.specs.Footprint.{Owed, StaysPlain, is_mixed}
 use Rattle.flat_typed.specs.Relation.{Outside, Stands, FitsPart, Guards}
 use Rattle.flat_typed.specs.Done.{Counted, changeable}
-use Rattle.flat_typed.specs.Calls.{Three, carried, BodyDone, named_times, quantum_times}
+use Rattle.flat_typed.specs.Calls.{carried, BodyDone, named_times, quantum_times}
 use Rattle.flat_typed.proofs.Ordered.{clash}
 use Rattle.flat_typed.proofs.Uses.{all_join}
 use Rattle.flat_typed.proofs.Owning.{all_back}
@@ -45,7 +41,7 @@ use Rattle.flat_typed.proofs.Handing.{with_all, each_shows}
 use Rattle.flat_typed.proofs.Scopes.{taken_param}
 use Rattle.flat_typed.proofs.Surrounding.{shows_before, none_shares, callers_unnamed}
 use Rattle.flat_typed.proofs.Parameters.{operands_at, AllEntered}
-use Rattle.flat_typed.proofs.BodyEntering.{inside, begun_body, carriers_sum, linear_sum, linear_few, body_owns, caller_owns, body_begin, first_vars, own}
+use Rattle.flat_typed.proofs.BodyEntering.{inside, carriers_sum, linear_sum, linear_few, body_owns, caller_owns, body_begin}
 use Rattle.flat_typed.proofs.CallResults.{IsReturned, IsHanded}
 use Rattle.flat_typed.proofs.CallLists.{carriers_named, quantum_few, quantum_linear, old_stays, vars_stay, values_stay, values_each}
 
@@ -158,7 +154,7 @@ module _ (out : Outside) (held : List (List Part)) (after : Places) (h : Header)
     pub vars_same : AllOf (SameFor U after) d.vars
     vars_same = vars_stay after xs b.answers (λ p. others p + owned p xs) d.vars sole (λ p. omega arith)
 
-    under_same : AllOf (λ (v : Value). U v.place ≡ after v.place) under
+    pub under_same : AllOf (λ (v : Value). U v.place ≡ after v.place) under
     under_same = values_stay after xs b.answers under (λ p. let a = counted p in let e = sole p in omega (arith, a, e))
 
     pub shows_each : ListBoth (λ (x : Value) (k : Known). U x.place ≡ operands_of k) xs b.answers

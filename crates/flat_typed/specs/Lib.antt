@@ -13,3 +13,4 @@ pub mod Steps
 pub mod Settled
 pub mod Endings
 pub mod Bodies
+pub mod CallLaws

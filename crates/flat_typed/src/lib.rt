@@ -6,6 +6,7 @@
 //! lead to the theorem that each accepted program is one that flattening can take; most of these are not proved yet. What is proved is a law
 //! below: each function has an empty body, and its contract is the law.
 
+pub mod calls;
 pub mod statements;
 pub mod steps;
 
