@@ -54,7 +54,6 @@ pub mod Stated
 pub mod Variables
 pub mod Quiet
 pub mod Unchanged
-pub mod OneValue
 pub mod Calling
 pub mod UpdateWalk
 pub mod Behind
@@ -129,3 +128,5 @@ pub mod Inputs
 pub mod CallMarks
 pub mod OwnCalls
 pub mod CallsStated
+pub mod TakenUses
+pub mod HandedValues
