@@ -130,3 +130,6 @@ pub mod OwnCalls
 pub mod CallsStated
 pub mod TakenUses
 pub mod HandedValues
+pub mod SeveralValues
+pub mod Spreading
+pub mod Spreads

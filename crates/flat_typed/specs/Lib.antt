@@ -14,3 +14,4 @@ pub mod Settled
 pub mod Endings
 pub mod Bodies
 pub mod CallLaws
+pub mod BuiltIns

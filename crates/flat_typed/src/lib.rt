@@ -7,6 +7,7 @@
 //! below: each function has an empty body, and its contract is the law.
 
 pub mod calls;
+pub mod built_ins;
 pub mod statements;
 pub mod steps;
 
