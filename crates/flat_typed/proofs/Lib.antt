@@ -133,3 +133,5 @@ pub mod HandedValues
 pub mod SeveralValues
 pub mod Spreading
 pub mod Spreads
+pub mod BinaryEffect
+pub mod InTurn

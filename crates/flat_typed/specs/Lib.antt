@@ -15,3 +15,4 @@ pub mod Endings
 pub mod Bodies
 pub mod CallLaws
 pub mod BuiltIns
+pub mod OperatorLaws

@@ -8,6 +8,7 @@
 
 pub mod calls;
 pub mod built_ins;
+pub mod operators;
 pub mod statements;
 pub mod steps;
 

@@ -1,0 +1,8 @@
+-- Laws on operators that are proved.
+use Rattle.silq_tree.specs.declared.node.Spot.{Spot}
+use Rattle.silq_tree.specs.declared.node.UnaryOp.{UnaryOp}
+use Rattle.silq_tree.specs.Syntax.{Expression, unary}
+use Rattle.flat_typed.specs.Lemmas.{ExpressionIsFine}
+
+abbrev pub UnaryIsFine : Type 0
+UnaryIsFine = (op : UnaryOp) (e : Expression) (s : Spot) → ExpressionIsFine e → ExpressionIsFine (unary op e s)

@@ -1,0 +1,8 @@
+//! What typing gives for operators, where it gives the like for their operands.
+
+ghost use Rattle.flat_typed.specs.OperatorLaws.{UnaryIsFine};
+
+/// An operator on one value keeps the relation where its operand does.
+pub fn unary_is_fine()
+    ensures { UnaryIsFine }
+{}
