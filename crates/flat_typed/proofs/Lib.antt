@@ -135,3 +135,4 @@ pub mod Spreading
 pub mod Spreads
 pub mod BinaryEffect
 pub mod InTurn
+pub mod PlacesStated

@@ -16,3 +16,4 @@ pub mod Bodies
 pub mod CallLaws
 pub mod BuiltIns
 pub mod OperatorLaws
+pub mod PlaceLaws

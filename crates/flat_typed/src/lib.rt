@@ -9,6 +9,7 @@
 pub mod calls;
 pub mod built_ins;
 pub mod operators;
+pub mod places;
 pub mod statements;
 pub mod steps;
 
