@@ -2,8 +2,7 @@
 use Rattle.std.proofs.Common.{◌≡◌, inl, ℕ, suc, ◌+◌, ◌≤◌, true, false, not, List, [], ◌∷◌, ◌++◌, length, map, refl, sym, ap, ◌∙◌, subst, arith}
 use Rattle.std.proofs.lemmas.List.{append-nil}
 use Rattle.silq_tree.specs.declared.node.NameId.{NameId}
-use Rattle.silq_tree.specs.declared.node.Spot.{Spot}
-use Rattle.silq_tree.specs.Syntax.{Expression, Expressions, none, more, tuple, whole, assign, spread}
+use Rattle.silq_tree.specs.Syntax.{Expressions, none, more}
 use Rattle.silq_types.specs.declared.types.Ty.{Ty}
 use Rattle.silq_types.specs.declared.need.Need.TheVariants as needs
 use Rattle.silq_types.specs.declared.values.Value.{Value}
@@ -27,13 +26,15 @@ use Rattle.flat_typed.specs.Relation.{Outside, is_argument}
 use Rattle.flat_typed.specs.Done.{Begins, StmtBegins}
 use Rattle.flat_typed.specs.Calls.{Three, carried, IsGivenOver, ArgsTells}
 use Rattle.flat_typed.specs.Scopes.{as_meaning, NoStatics}
-use Rattle.flat_typed.specs.Lemmas.{Callable, Asking, uses_by, ArgumentsAreFine, StatementIsFine}
+use Rattle.flat_typed.specs.Lemmas.{Callable, Asking, uses_by, ArgumentsAreFine}
+use Rattle.flat_typed.specs.AssignmentLaws.{AssignNameIsFine, SpreadTupleIsFine, SpreadValueIsFine}
 use Rattle.flat_typed.proofs.Turns.{gives_later, gives_both}
 use Rattle.flat_typed.proofs.Reached.{begins_expression}
 use Rattle.flat_typed.proofs.Naming.{variables_for}
 use Rattle.flat_typed.proofs.TakenUses.{AllTold, arguments_tell}
 use Rattle.flat_typed.proofs.Handing.{IsGiven, HandedOver, HandedOverFine}
 use Rattle.flat_typed.proofs.Assignments.{assign_is_fine, spread_is_fine}
+use Rattle.flat_typed.proofs.Spreads as by_value
 
 -- ---- names take values over
 
@@ -106,8 +107,11 @@ handed_over es fine sc taker xs c long free =
 
 -- ---- statements
 
-pub assign_name_is_fine : (x : NameId) (e : Expression) (s : Spot) → ArgumentsAreFine (more e none) → StatementIsFine (assign (whole x) e s)
+pub assign_name_is_fine : AssignNameIsFine
 assign_name_is_fine x e s fine = assign_is_fine x e s (handed_over (more e none) fine)
 
-pub spread_tuple_is_fine : (xs : List NameId) (es : Expressions) (at s : Spot) → ArgumentsAreFine es → StatementIsFine (spread xs (tuple es at) s)
+pub spread_tuple_is_fine : SpreadTupleIsFine
 spread_tuple_is_fine xs es at s fine = spread_is_fine xs es at s (handed_over es fine)
+
+pub spread_value_is_fine : SpreadValueIsFine
+spread_value_is_fine xs e s t fine one = by_value.spread_value_is_fine xs e s t fine (handed_over (more e none) one)

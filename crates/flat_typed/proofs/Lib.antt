@@ -129,10 +129,10 @@ pub mod CallMarks
 pub mod OwnCalls
 pub mod CallsStated
 pub mod TakenUses
-pub mod HandedValues
 pub mod SeveralValues
 pub mod Spreading
 pub mod Spreads
 pub mod BinaryEffect
 pub mod InTurn
 pub mod PlacesStated
+pub mod HandedValues

@@ -17,3 +17,4 @@ pub mod CallLaws
 pub mod BuiltIns
 pub mod OperatorLaws
 pub mod PlaceLaws
+pub mod AssignmentLaws
