@@ -136,3 +136,6 @@ pub mod BinaryEffect
 pub mod InTurn
 pub mod PlacesStated
 pub mod HandedValues
+pub mod StaticWalks
+pub mod StaticFirst
+pub mod Binary
