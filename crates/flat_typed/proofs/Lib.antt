@@ -54,7 +54,6 @@ pub mod Stated
 pub mod Variables
 pub mod Quiet
 pub mod Unchanged
-pub mod OneValue
 pub mod Calling
 pub mod UpdateWalk
 pub mod Behind
@@ -149,3 +148,9 @@ pub mod SeveralValues
 pub mod Spreading
 pub mod Spreads
 pub mod Kept
+pub mod TakenUses
+pub mod PlacesStated
+pub mod HandedValues
+pub mod StaticWalks
+pub mod StaticFirst
+pub mod Binary
