@@ -149,7 +149,6 @@ pub mod Spreading
 pub mod Spreads
 pub mod Kept
 pub mod TakenUses
-pub mod PlacesStated
 pub mod HandedValues
 pub mod StaticWalks
 pub mod StaticFirst
