@@ -1,27 +1,23 @@
 -- Bodies: their statements one after another, then what is returned, and nothing Linear is left.
-use Rattle.std.proofs.Common.{◌≡◌, ◌⊎◌, inl, inr, ℕ, suc, ◌≤◌, ◌<◌, Bool, true, false, cond, not, ◌||◌, List, [], ◌∷◌, length, map, refl, sym, ap, ◌∙◌, subst, arith}
-use Rattle.std.specs.Prelude.{⊤, Option, Some, None, is_some, ◌==◌, ℤ}
+use Rattle.std.proofs.Common.{◌≡◌, ℕ, Bool, true, false, not, List, [], ◌∷◌, length, map, refl, sym, ap, ◌∙◌, subst, arith}
+use Rattle.std.specs.Prelude.{⊤, Option, Some, None, ◌==◌, ℤ}
 use Rattle.std.proofs.lemmas.Bool.{eqb-true, eq-eqb}
 use Rattle.silq_tree.specs.declared.node.NameId.{NameId}
 use Rattle.silq_tree.specs.declared.node.Spot.{Spot}
-use Rattle.silq_tree.specs.Syntax.{Expression, Expressions, none, Parameter, Function, Statements, Block, block}
-use Rattle.static_num.specs.Static.{value_of_name}
+use Rattle.silq_tree.specs.Syntax.{Expressions, none, Function, Statements, Block, block}
 use Rattle.silq_types.specs.declared.types.Ty.{Ty}
 use Rattle.silq_types.specs.declared.need.Need.TheVariants as needs
 use Rattle.silq_types.specs.declared.built_in.BuiltIn.{BuiltIn}
-use Rattle.silq_types.specs.declared.signature.Param.{Param}
 use Rattle.silq_types.specs.declared.values.Value.{Value}
-use Rattle.silq_types.specs.declared.values.Var.{Var}
-use Rattle.silq_types.specs.Types.{same_name, count}
-use Rattle.silq_types.specs.Programs.{paired}
-use Rattle.silq_mean.specs.Written.{Header, value_of}
+use Rattle.silq_types.specs.Types.{count}
+use Rattle.silq_mean.specs.Written.{Header}
 use Rattle.check_scope.specs.Walk.{answer}
-use Rattle.check_scope.specs.Context.{Scope, Context, Check, ◌>>=◌, ◌>>◌, give_back, find_var, variable, same_part}
+use Rattle.check_scope.specs.Context.{Scope, Context, Check, ◌>>=◌, ◌>>◌}
 use Rattle.check_expr.specs.Expression.{asked_of_items, arguments}
 use Rattle.check_expr.specs.Owners.{Gives, Ensures}
-use Rattle.check_expr.proofs.Owners.{gives-bind, gives-more, o_bind, o_then, o_back, o_fail, o_rules}
-use Rattle.check_fun.specs.Statement.{any_name, is_live_linear, returned, ended_with, body, stmts, end_from, results_or_fault, whole_body}
-use Rattle.check_fun.specs.Program.{shares_name, param_vars, param_origin, returned_as, instance_walk}
+use Rattle.check_expr.proofs.Owners.{gives-bind, gives-more, o_then, o_back, o_rules}
+use Rattle.check_fun.specs.Statement.{is_live_linear, returned, ended_with, body, stmts, end_from, results_or_fault, whole_body}
+use Rattle.check_fun.specs.Program.{returned_as, instance_walk}
 use Rattle.silq_mean.specs.declared.receiver.Receiver.{Receiver}
 use Rattle.silq_mean.specs.Effect.{Effect, nothing, statement, ◌>>◌ as ◌▸◌}
 use Rattle.silq_mean.specs.Meaning as meanings
@@ -36,53 +32,19 @@ use Rattle.flat_typed.specs.Done.{StmtBegins, StmtDone}
 use Rattle.flat_typed.specs.Calls.{ArgsDone, first_context, BodyDone, BodyFine}
 use Rattle.flat_typed.specs.Scopes.{as_meaning, scope_for, NoStatics}
 use Rattle.flat_typed.specs.Lemmas.{Callable, StmtFine, ArgumentsAreFine, uses_by}
-use Rattle.flat_typed.specs.Stay.{Stayed, Goes}
+use Rattle.flat_typed.specs.Stay.{Stayed}
+use Rattle.flat_typed.specs.Settled.{Settles}
 use Rattle.flat_typed.specs.Endings.{Last, none_last, nothing_last, value_last, front, last_of, last_walk, last_effect, returned_items, last_items, statements_of}
-use Rattle.flat_typed.specs.Bodies.{TakesResults, HasFineParts, BodyIsFine}
-use Rattle.flat_typed.proofs.Ordered.{clash, same_is_equal, or_left, or_right}
-use Rattle.flat_typed.proofs.Parts.{whole_same}
+use Rattle.flat_typed.specs.Bodies.{TakesResults, HasFineParts, ShowsConsts, ConstsStay, BodyIsFine}
+use Rattle.flat_typed.proofs.Ordered.{clash}
 use Rattle.flat_typed.proofs.Blocks.{ClosedFrom, closed_from}
 use Rattle.flat_typed.proofs.Leaving.{k_any}
-use Rattle.flat_typed.proofs.Turns.{Does, gives_both, begins_next, begins_on_line, sole_now}
+use Rattle.flat_typed.proofs.Turns.{Does, gives_both, begins_next, begins_on_line}
 use Rattle.flat_typed.proofs.Assignments.{arguments_long}
 use Rattle.flat_typed.proofs.LastWalks.{SplitsAt, body_splits, effect_splits, items_are, returned_as_items}
 use Rattle.flat_typed.proofs.LastTold.{LastTold, last_told}
-use Rattle.flat_typed.proofs.BodyEnds.{body_done}
-
--- ---- names of parameters
-
-static_name : (xs : List NameId) (zs : List ℤ) (x : NameId) (o : Option ℤ) → is_some (value_of_name (paired xs zs) x o) ≡ true → (any_name (λ y. same_name y x) xs ≡ true) ⊎ (is_some o ≡ true)
-static_name [] zs x o e = inr e
-static_name (y ∷ ys) [] x o e = inr e
-static_name (y ∷ ys) (z ∷ zs) x o e = go (same_name y x) refl (static_name ys zs x (cond (y.number == x.number) (Some z) o) e)
-  where
-    or_true : (a : Bool) → (a || true) ≡ true
-    or_true true = refl
-    or_true false = refl
-
-    go : (b : Bool) → same_name y x ≡ b → (any_name (λ y. same_name y x) ys ≡ true) ⊎ (is_some (cond b (Some z) o) ≡ true) → ((b || any_name (λ y. same_name y x) ys) ≡ true) ⊎ (is_some o ≡ true)
-    go true s h = inl refl
-    go false s (inl h) = inl h
-    go false s (inr h) = inr h
-
-none_named : (xs : List NameId) (x : NameId) (i : ℕ) (ns : List Parameter) (ps : List Param) → any_name (λ y. same_name y x) xs ≡ true → shares_name xs ns ≡ false → find_var (param_vars i ns ps) (variable x) ≡ None
-none_named xs x i [] ps a e = refl
-none_named xs x i (n ∷ ns) [] a e = refl
-none_named xs x i (n ∷ ns) (p ∷ ps) a e = go (same_name n.name x) refl (none_named xs x (suc i) ns ps a (or_right (any_name (λ y. same_name y n.name) xs) (shares_name xs ns) e))
-  where
-    first : Var
-    first = record { part = variable n.name; ty = p.ty; origin = param_origin p; place = i; consumed = false }
-
-    go : (b : Bool) → same_name n.name x ≡ b → find_var (param_vars (suc i) ns ps) (variable x) ≡ None → cond (same_part (variable n.name) (variable x)) (Some first) (find_var (param_vars (suc i) ns ps) (variable x)) ≡ None
-    go true s h = clash (sym (ap (λ z. any_name (λ y. same_name y z) xs) (same_is_equal n.name x s) ∙ a) ∙ or_left (any_name (λ y. same_name y n.name) xs) (shares_name xs ns) e)
-    go false s h = ap (λ b. cond b (Some first) (find_var (param_vars (suc i) ns ps) (variable x))) (whole_same n.name x ∙ s) ∙ h
-
-pub params_free : (words : List (NameId × BuiltIn)) (before : List Function) (f : Function) (statics : List ℤ) (h : Header) → shares_name f.statics f.params ≡ false → NoStatics (scope_for words before f statics h) (first_context f h).vars
-params_free words before f statics h e x q = go (static_name f.statics statics x None q)
-  where
-    go : (any_name (λ y. same_name y x) f.statics ≡ true) ⊎ (false ≡ true) → find_var (param_vars 0 f.params h.params) (variable x) ≡ None
-    go (inl a) = none_named f.statics x 0 f.params h.params a e
-    go (inr z) = clash (sym z)
+use Rattle.flat_typed.proofs.BodyEnds.{body_done, consts_stay}
+use Rattle.flat_typed.proofs.BodyStarts.{params_placed, params_live, held_of, starts_settled}
 
 -- ---- one body
 
@@ -98,7 +60,8 @@ module _ (words : List (NameId × BuiltIn)) (before : List Function) (taker : Ty
 
   -- what the statements of a body are to do, where it returns these values
   abbrev EndsAs : Statements → List Value → Type 0
-  EndsAs ss vs = (out : Outside) (W : Places) (s : Flattening) → StmtBegins out sc (length h.params) (λ p. 0) W start s → BodyDone out f h (meanings.stmts ss m) W s (returned_as h.params h.results vs)
+  EndsAs ss vs = (out : Outside) (W : Places) (s : Flattening) → StmtBegins out sc (length h.params) (λ p. 0) W start s
+      → BodyDone out f h (meanings.stmts ss m) W s (returned_as h.params h.results vs) × ShowsConsts f h W (flat (meanings.stmts ss m) s)
 
   module _ (ss : Statements) where
     abbrev e1 : Effect
@@ -106,24 +69,27 @@ module _ (words : List (NameId × BuiltIn)) (before : List Function) (taker : Ty
 
     -- behind the statements but the last
     abbrev Front : Context → Type 0
-    Front c = Does sc start e1 c × Goes (NoStatics sc) start c
+    Front c = Does sc start e1 c × Settles sc start c
 
     module _ (c1 : Context) (reached : Front c1) (es : Expressions) (vs : List Value) (d : Context) (told : LastTold sc taker es c1 vs d) (closed : AllOf (λ v. is_live_linear v ≡ false) d.vars) where
       abbrev E : Effect
       E = meanings.exprs es m needs.Consumed [] (map taker h.results)
 
       with_line : (l : ℕ) (i : Effect) → last_effect (last_of ss) m ≡ (statement l i ▸ nothing) → ((s : Flattening) → flat i s ≡ flat E s) → ((s : Flattening) → Fine E s → Fine i s) → EndsAs ss vs
-      with_line l i is same finely out W s b0 =
-          body_done words before taker takes f statics h es out W s b0 e1 c1 F G (length h.params) s2 b2 refl refl vs d told closed (meanings.stmts ss m) u
-          (splits.fine F.fine (subst (λ e. Fine e s1) (sym is) (finely s2 done.fine, tt)))
-          (splits.becomes ∙ (ap (λ e. flat e s1) is ∙ ap (on_line s1.setting.line) (same s2)))
-          refl refl (ap (λ (t : Setting). record t { line = s1.setting.line }) done.leaves.setting ∙ F.leaves.setting) refl
+      with_line l i is same finely out W s b0 = (
+        body_done words before taker takes f statics h es out W s b0 e1 c1 F G (length h.params) s2 b2 refl refl vs d told closed (meanings.stmts ss m) u
+            (splits.fine F.fine (subst (λ e. Fine e s1) (sym is) (finely s2 done.fine, tt)))
+            becomes
+            refl refl (ap (λ (t : Setting). record t { line = s1.setting.line }) done.leaves.setting ∙ F.leaves.setting) refl,
+        consts_stay words before taker takes f statics h es out W s b0 e1 c1 F G (length h.params) s2 b2 refl refl vs d told closed (meanings.stmts ss m) u becomes refl
+            (held_of start.vars c1.vars reached.1.there) (params_placed (length h.params) 0 f.params h.params (omega arith)) (params_live 0 f.params h.params),
+      )
         where
           F : StmtDone out sc e1 W start s c1
           F = reached.0 out (length h.params) W s b0
 
           G : Stayed start c1
-          G = reached.1.stayed (sole_now (length h.params) start b0.sole)
+          G = record { sole = record { grown = reached.1.grown; one = reached.1.settled.sole.one; ahead = reached.1.settled.sole.ahead }; owners = reached.1.owners }
 
           s1 : Flattening
           s1 = flat e1 s
@@ -140,22 +106,28 @@ module _ (words : List (NameId × BuiltIn)) (before : List Function) (taker : Ty
           splits : SplitsAt m ss s
           splits = effect_splits m ss s
 
+          becomes : flat (meanings.stmts ss m) s ≡ u
+          becomes = splits.becomes ∙ (ap (λ e. flat e s1) is ∙ ap (on_line s1.setting.line) (same s2))
+
           done : ArgsDone out sc (map taker h.results) E F.after [] (uses_by es sc c1 (map taker h.results)) c1 s2 vs d
           done = (told.does out (length h.params) F.after s2 b2).done
 
       -- where the body ends without a return
       without : last_effect (last_of ss) m ≡ nothing → E ≡ nothing → EndsAs ss vs
-      without is bare out W s b0 =
-          body_done words before taker takes f statics h es out W s b0 e1 c1 F G (length h.params) s1 b1 refl refl vs d told closed (meanings.stmts ss m) (flat E s1)
-          (splits.fine F.fine (subst (λ e. Fine e s1) (sym is) tt))
-          (splits.becomes ∙ ap (λ e. flat e s1) (is ∙ sym bare))
-          refl refl ((told.does out (length h.params) F.after s1 b1).done.leaves.setting ∙ F.leaves.setting) refl
+      without is bare out W s b0 = (
+        body_done words before taker takes f statics h es out W s b0 e1 c1 F G (length h.params) s1 b1 refl refl vs d told closed (meanings.stmts ss m) (flat E s1)
+            (splits.fine F.fine (subst (λ e. Fine e s1) (sym is) tt))
+            becomes
+            refl refl ((told.does out (length h.params) F.after s1 b1).done.leaves.setting ∙ F.leaves.setting) refl,
+        consts_stay words before taker takes f statics h es out W s b0 e1 c1 F G (length h.params) s1 b1 refl refl vs d told closed (meanings.stmts ss m) (flat E s1) becomes refl
+            (held_of start.vars c1.vars reached.1.there) (params_placed (length h.params) 0 f.params h.params (omega arith)) (params_live 0 f.params h.params),
+      )
         where
           F : StmtDone out sc e1 W start s c1
           F = reached.0 out (length h.params) W s b0
 
           G : Stayed start c1
-          G = reached.1.stayed (sole_now (length h.params) start b0.sole)
+          G = record { sole = record { grown = reached.1.grown; one = reached.1.settled.sole.one; ahead = reached.1.settled.sole.ahead }; owners = reached.1.owners }
 
           s1 : Flattening
           s1 = flat e1 s
@@ -165,6 +137,9 @@ module _ (words : List (NameId × BuiltIn)) (before : List Function) (taker : Ty
 
           splits : SplitsAt m ss s
           splits = effect_splits m ss s
+
+          becomes : flat (meanings.stmts ss m) s ≡ flat E s1
+          becomes = splits.becomes ∙ ap (λ e. flat e s1) (is ∙ sym bare)
 
     -- ---- the walk
 
@@ -220,10 +195,10 @@ module _ (words : List (NameId × BuiltIn)) (before : List Function) (taker : Ty
 
     body_ends : HasFineParts f → ss ≡ statements_of f.body → Gives (Callable sc) Finds (body ss sc start)
     body_ends parts is =
-        body_splits (Callable sc) sc Front Finds (last_of ss) (λ c1 reached. last_ends c1 reached reached.1.holds (last_of ss) refl (subst (λ l. ArgumentsAreFine (last_items (last_of l))) (sym is) parts.returned)) ss refl start
-        (gives_both (Callable sc) (λ (r : Unit {0} × Context). Does sc start e1 r.1) (λ (r : Unit {0} × Context). Goes (NoStatics sc) start r.1) (stmts (front ss) sc start)
-        (subst (λ l. StmtFine sc start (stmts (front l) sc) (meanings.stmts (front l) m)) (sym is) (parts.statements sc taker start (params_free words before f statics h parts.names)))
-        (subst (λ l. Gives (Callable sc) (λ (r : Unit {0} × Context). Goes (NoStatics sc) start r.1) (stmts (front l) sc start)) (sym is) (parts.keeps sc start (params_free words before f statics h parts.names))))
+        body_splits (Callable sc) sc Front Finds (last_of ss) (λ c1 reached. last_ends c1 reached reached.1.settled.free (last_of ss) refl (subst (λ l. ArgumentsAreFine (last_items (last_of l))) (sym is) parts.returned)) ss refl start
+        (gives_both (Callable sc) (λ (r : Unit {0} × Context). Does sc start e1 r.1) (λ (r : Unit {0} × Context). Settles sc start r.1) (stmts (front ss) sc start)
+        (subst (λ l. StmtFine sc start (stmts (front l) sc) (meanings.stmts (front l) m)) (sym is) (parts.statements sc taker start (starts_settled words before f statics h parts.names)))
+        (subst (λ l. Gives (Callable sc) (λ (r : Unit {0} × Context). Settles sc start r.1) (stmts (front l) sc start)) (sym is) (parts.settling sc start (starts_settled words before f statics h parts.names))))
 
     -- the results are what was found
     abbrev Answers : Option (List Value) → List Value → Type 0
@@ -253,10 +228,13 @@ module _ (words : List (NameId × BuiltIn)) (before : List Function) (taker : Ty
   effect_is : (b : Block) → meanings.body_of b m ≡ meanings.stmts (statements_of b) m
   effect_is (block ss end) = refl
 
-  pub body_fine : HasFineParts f → Gives (Callable sc) (λ vs. BodyFine words before taker f statics h (returned_as h.params h.results vs)) (instance_walk words before f statics h)
+  pub body_fine : HasFineParts f → Gives (Callable sc) (λ vs. BodyFine words before taker f statics h (returned_as h.params h.results vs) × ConstsStay words before taker f statics h) (instance_walk words before f statics h)
   body_fine parts =
-      gives-bind (Callable sc) 0 (λ r. EndsAs (statements_of f.body) r.0) (λ vs. BodyFine words before taker f statics h (returned_as h.params h.results vs)) (whole_body f.body sc start) (λ r. answer r.0) (ends_by f.body parts refl)
-      (λ r q out W s b. subst (λ e. BodyDone out f h e W s (returned_as h.params h.results r.0)) (sym (effect_is f.body)) (q out W s b))
+      gives-bind (Callable sc) 0 (λ r. EndsAs (statements_of f.body) r.0) (λ vs. BodyFine words before taker f statics h (returned_as h.params h.results vs) × ConstsStay words before taker f statics h) (whole_body f.body sc start) (λ r. answer r.0) (ends_by f.body parts refl)
+      (λ r q. (
+        λ out W s b. subst (λ e. BodyDone out f h e W s (returned_as h.params h.results r.0)) (sym (effect_is f.body)) (q out W s b).0,
+        λ out W s b. subst (λ e. ShowsConsts f h W (flat e s)) (sym (effect_is f.body)) (q out W s b).1,
+      ))
 
 pub body_is_fine : BodyIsFine
 body_is_fine words before taker f statics h takes parts = body_fine words before taker takes f statics h parts

@@ -1,6 +1,6 @@
 -- The end of a body: behind its last statement, where nothing Linear is left, it has done what a call relies on.
-use Rattle.std.proofs.Common.{◌≡◌, ◌⊎◌, inl, inr, ℕ, suc, ◌+◌, ◌≤◌, ◌<◌, Bool, true, false, cond, not, ◌&&◌, List, [], ◌∷◌, ◌++◌, length, map, reverse, refl, sym, ap, ap₂, ◌∙◌, subst, arith, nat_lt}
-use Rattle.std.specs.Prelude.{ℤ}
+use Rattle.std.proofs.Common.{◌≡◌, ◌⊎◌, inl, inr, ℕ, ◌+◌, ◌≤◌, ◌<◌, Bool, true, false, cond, not, ◌&&◌, List, [], ◌∷◌, ◌++◌, length, map, reverse, refl, sym, ap, ◌∙◌, subst, arith, nat_lt}
+use Rattle.std.specs.Prelude.{ℤ, Some}
 use Rattle.std.proofs.lemmas.List.{append-nil}
 use Rattle.std.proofs.lemmas.Bool.{cases_lt, lt-ltb}
 use Rattle.silq_tree.specs.declared.node.NameId.{NameId}
@@ -10,12 +10,12 @@ use Rattle.silq_types.specs.declared.need.Need.TheVariants as needs
 use Rattle.silq_types.specs.declared.built_in.BuiltIn.{BuiltIn}
 use Rattle.silq_types.specs.declared.values.Value.{Value}
 use Rattle.silq_types.specs.declared.values.Var.{Var}
+use Rattle.silq_types.specs.Types.{is_held}
 use Rattle.silq_mean.specs.Written.{Header}
-use Rattle.check_scope.specs.Context.{Scope, Context}
+use Rattle.check_scope.specs.Context.{Scope, Context, find_var}
 use Rattle.check_scope.specs.declared.uses.Use.{Use}
-use Rattle.check_expr.specs.Expression.{is_qfree}
 use Rattle.check_fun.specs.Statement.{is_live_linear}
-use Rattle.check_fun.specs.Program.{given_on, returned_as}
+use Rattle.check_fun.specs.Program.{returned_as}
 use Rattle.silq_mean.specs.declared.receiver.Receiver.{Receiver}
 use Rattle.silq_mean.specs.Effect.{Effect}
 use Rattle.silq_mean.specs.Meaning as meanings
@@ -23,34 +23,38 @@ use Rattle.flat_core.specs.declared.step.WireId.{WireId}
 use Rattle.flat_core.specs.declared.step.End.TheVariants.{Dropped}
 use Rattle.flat_core.specs.Form.{DraftForm}
 use Rattle.flat_core.specs.Label.{wire_in}
-use Rattle.bit_arith.specs.Calls.{Targets, IsTarget}
+use Rattle.bit_arith.specs.Calls.{IsTarget}
 use Rattle.flat_form.specs.declared.known.Known.{Known}
-use Rattle.flat_form.specs.State.{Caller, Flattening, wires_so_far, operands_of, began_or}
-use Rattle.flat_form.specs.Flat.{flat}
+use Rattle.flat_form.specs.declared.known.Known.TheVariants.{Shown, Absent}
+use Rattle.flat_form.specs.State.{Caller, Flattening, wires_so_far, began_or}
+use Rattle.flat_form.specs.Flat.{flat, known_in}
 use Rattle.flat_form.specs.Fine.{Fine}
 use Rattle.flat_form.specs.Names.{AllOf, names}
-use Rattle.flat_form.specs.Shows.{ListBoth}
-use Rattle.flat_typed.specs.Places.{Places, is_part, is_shared, shown, carriers, linear_carriers, owners_of, linear_owners}
+use Rattle.flat_typed.specs.Places.{Places, is_part, is_shared, part_out, less_part, bits_for, in_order, shown, carriers, owners_of, linear_owners}
 use Rattle.flat_typed.specs.Footprint.{used_wires, consumed_wires, Owed, Touches, StaysPlain, Unmade}
 use Rattle.flat_typed.specs.Relation.{Outside, Stands, IsTakenOver}
 use Rattle.flat_typed.specs.Done.{MadeSince, StmtBegins, StmtDone, changeable}
-use Rattle.flat_typed.specs.Calls.{Three, carried, ArgsDone, ArgsTells, first_context, named_times, quantum_times, BodyDone}
+use Rattle.flat_typed.specs.Calls.{Three, carried, ArgsTells, first_context, named_times, quantum_times, BodyDone}
 use Rattle.flat_typed.specs.Scopes.{as_meaning, scope_for}
 use Rattle.flat_typed.specs.Stay.{HadOwner, Stayed}
 use Rattle.flat_typed.specs.Lemmas.{uses_by}
-use Rattle.flat_typed.specs.Bodies.{TakesResults}
+use Rattle.flat_typed.specs.Bodies.{TakesResults, ShowsConsts}
 use Rattle.flat_typed.proofs.Ordered.{clash}
 use Rattle.flat_typed.proofs.Growing.{touches_then}
 use Rattle.flat_typed.proofs.Closing.{no_linear}
 use Rattle.flat_typed.proofs.Footprints.{consumed_may_change}
 use Rattle.flat_typed.proofs.Turns.{older, sole_now}
-use Rattle.flat_typed.proofs.Reached.{consumed_touches}
-use Rattle.flat_typed.proofs.LastTold.{HadPlace, PlainFor, LastTold}
+use Rattle.flat_typed.proofs.Reached.{whole_left, consumed_touches}
+use Rattle.flat_typed.proofs.Lone.{each_found}
+use Rattle.flat_typed.proofs.Parts.{shows_its_place, whole_part}
+use Rattle.flat_typed.proofs.Binding.{none_out}
+use Rattle.flat_typed.proofs.HeldStay.{HeldFirst}
+use Rattle.flat_typed.proofs.LastTold.{LastTold}
 use Rattle.flat_typed.proofs.Results.{Before, is_new}
 use Rattle.flat_typed.proofs.ReturnedValues.{all_carried, named_are, named_moved, linear_are, results_are, unguarded_values}
 
 -- what may change is owned, and not guarded
-changeable_owned : (out : Outside) (W : Places) (vars : List Var) (w : WireId) → changeable out W vars [] w ≡ true → 1 ≤ owners_of W vars [] w
+pub changeable_owned : (out : Outside) (W : Places) (vars : List Var) (w : WireId) → changeable out W vars [] w ≡ true → 1 ≤ owners_of W vars [] w
 changeable_owned out W vars w e = go (cases_lt 0 (owners_of W vars [] w))
   where
     and_right : (a b : Bool) → (a && b) ≡ true → b ≡ true
@@ -194,3 +198,35 @@ module _ (words : List (NameId × BuiltIn)) (before : List Function) (taker : Ty
       where
         its : (flat e s0).built.draft ≡ s3.built.draft
         its = ap (λ (x : Flattening). x.built.draft) becomes ∙ draft
+
+    -- ---- const parameters
+
+    whole3 : AllOf (λ v. is_part v ≡ false) d.vars
+    whole3 = whole_left c1.vars d.vars (told.left V b2.stands.parts) F.whole
+
+    shown_in : (u : Flattening) → u.env ≡ s3.env → AllOf (λ (v : Var). (v.consumed ≡ false) → known_in u v.part.name ≡ Shown (bits_for U v)) d.vars
+    shown_in u e = each d.vars (each_found d.vars stands3.differ) whole3
+      where
+        each : (vs : List Var) → AllOf (λ (v : Var). find_var d.vars v.part ≡ Some v) vs → AllOf (λ v. is_part v ≡ false) vs → AllOf (λ (v : Var). (v.consumed ≡ false) → known_in u v.part.name ≡ Shown (bits_for U v)) vs
+        each [] a b = tt
+        each (v ∷ vs) a b = (
+          λ live.
+              shows_its_place U d.vars u v.part.name v (ap in_order e ∙ stands3.env) stands3.differ (ap (find_var d.vars) (sym (whole_part v b.0)) ∙ a.0)
+              ∙ (ap (λ t. cond t Absent (less_part (part_out d.vars v.part.name) (bits_for U v))) live ∙ ap (λ o. less_part o (bits_for U v)) (none_out d.vars v.part.name whole3)),
+          each vs a.1 b.1,
+        )
+
+    pub consts_stay : (e : Effect) (u : Flattening) → flat e s0 ≡ u → u.env ≡ s3.env → HeldFirst start.vars c1.vars → AllOf (λ v. v.place < length h.params) start.vars → AllOf (λ v. v.consumed ≡ false) start.vars → ShowsConsts f h W (flat e s0)
+    consts_stay e u becomes env held below live = subst (ShowsConsts f h W) (sym becomes) (each start.vars d.vars (told.held start.vars held) below live (shown_in u env))
+      where
+        same_bits : (v : Var) → v.place < length h.params → bits_for U v ≡ bits_for W v
+        same_bits v lt = ap (λ ps. record { classical = v.ty.classical; shape = v.ty.shape; operands = ps; own = true; began = 0 }) (tells.done.agree v.place (let g = G.sole.grown in omega (arith, g, lt)) ∙ F.agree v.place lt)
+
+        each : (vs ws : List Var) → HeldFirst vs ws → AllOf (λ v. v.place < length h.params) vs → AllOf (λ v. v.consumed ≡ false) vs → AllOf (λ (v : Var). (v.consumed ≡ false) → known_in u v.part.name ≡ Shown (bits_for U v)) ws
+            → AllOf (λ v. is_held v.origin ≡ true → known_in u v.part.name ≡ Shown (bits_for W v)) vs
+        each [] ws k b l a = tt
+        each (v ∷ vs) [] k b l a = absurd k
+        each (v ∷ vs) (w ∷ ws) k b l a = (
+          λ q. subst (λ (x : Var). (x.consumed ≡ false) → known_in u x.part.name ≡ Shown (bits_for U x)) (k.0 q) a.0 l.0 ∙ ap Shown (same_bits v b.0),
+          each vs ws k.1 b.1 l.1 a.1,
+        )

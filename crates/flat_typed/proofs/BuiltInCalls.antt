@@ -20,6 +20,7 @@ use Rattle.silq_mean.specs.Effect.{◌>>◌ as ◌▸◌}
 use Rattle.silq_mean.specs.Meaning as meanings
 use Rattle.flat_typed.specs.Scopes.{as_meaning, NoStatics}
 use Rattle.flat_typed.specs.Lemmas.{Callable, ExprFine, EachIsFine}
+use Rattle.flat_typed.specs.BuiltIns.{BuiltInIsFine}
 use Rattle.flat_typed.proofs.GateWalks.{Allowed, allowed, CallTells, no_more_statics, x_call, y_call, z_call, h_call, measure_call, dup_call}
 use Rattle.flat_typed.proofs.VectorCalls.{vector_walk}
 
@@ -46,12 +47,6 @@ module _ (sc : Scope) (taker : Ty → Receiver) (need : Need) (wants : List Ty) 
   built_in_call RotateX ss args fine = o_fail (Callable sc) 0 _
   built_in_call RotateY ss args fine = o_fail (Callable sc) 0 _
   built_in_call RotateZ ss args fine = o_fail (Callable sc) 0 _
-
--- where the name is that of a built-in function
-abbrev pub BuiltInIsFine : Type 0
-BuiltInIsFine =
-    (f : NameId) (ss args : Expressions) (s : Spot) → EachIsFine args → (sc : Scope) (taker : Ty → Receiver) (need : Need) (wants : List Ty) (c : Context) → NoStatics sc c.vars → (b : BuiltIn) → built_in sc.words f ≡ Some b →
-    ExprFine sc need wants c (expr (called f ss args s) sc need wants) (meanings.expr (called f ss args s) (as_meaning taker sc) need) (uses (called f ss args s) sc c.vars need)
 
 pub built_in_is_fine : BuiltInIsFine
 built_in_is_fine f ss args s fine sc taker need wants c free b e =

@@ -4,7 +4,6 @@ use Rattle.std.specs.Prelude.{⊤, ◌==◌}
 use Rattle.std.proofs.lemmas.Bool.{cases_lt, lt-ltb, le-ltb, eq-eqb, eqb-true}
 use Rattle.silq_tree.specs.Syntax.{Expression, Expressions, none, more}
 use Rattle.silq_types.specs.declared.types.Ty.{Ty}
-use Rattle.silq_types.specs.declared.need.Need.{Need}
 use Rattle.silq_types.specs.declared.need.Need.TheVariants as needs
 use Rattle.silq_types.specs.declared.signature.InstanceKey.{InstanceKey}
 use Rattle.silq_types.specs.declared.signature.Signature.{Signature}
@@ -14,7 +13,7 @@ use Rattle.silq_types.specs.Types.{is_linear, count, at}
 use Rattle.check_scope.specs.Context.{Scope, Context, Check}
 use Rattle.check_scope.specs.declared.uses.Use.{Use}
 use Rattle.check_scope.specs.Uses.{uses, all_uses}
-use Rattle.check_expr.specs.Expression.{asked_of_items, expr, arguments, lone_need, lone_wants, is_tuple, single, suits}
+use Rattle.check_expr.specs.Expression.{asked_of_items, expr, arguments, lone_need, lone_wants, is_tuple}
 use Rattle.check_expr.specs.Owners.{at_place, owners, owned, handed_arguments, Sole, Gives, Ensures}
 use Rattle.check_expr.proofs.Owners.{gives-more, o_bind, o_then, o_more, o_from, o_back, o_rules, o_suits, o_arguments}
 use Rattle.silq_mean.specs.declared.receiver.Receiver.{Receiver}
@@ -30,7 +29,7 @@ use Rattle.flat_typed.specs.Calls.{ArgsTells}
 use Rattle.flat_typed.specs.Scopes.{as_meaning, NoStatics}
 use Rattle.flat_typed.specs.Uses.{IsThere}
 use Rattle.flat_typed.specs.Bodies.{TakesResults}
-use Rattle.flat_typed.specs.Lemmas.{Callable, Agrees, Asking, Untangled, uses_by, ArgumentsAreFine}
+use Rattle.flat_typed.specs.Lemmas.{Callable, Agrees, Asking, uses_by, ArgumentsAreFine}
 use Rattle.flat_typed.proofs.Ordered.{clash}
 use Rattle.flat_typed.proofs.Uses.{all_join}
 use Rattle.flat_typed.proofs.Tame.{AllLeft, left_same}
@@ -39,7 +38,8 @@ use Rattle.flat_typed.proofs.Turns.{gives_later, gives_both}
 use Rattle.flat_typed.proofs.UsesThere.{There, Inv}
 use Rattle.flat_typed.proofs.WalkThere.{first_by, gives_all, u_expr}
 use Rattle.flat_typed.proofs.Reached.{one_of, begins_expression}
-use Rattle.flat_typed.proofs.PlainValues.{IsPlain, Any, n_expr}
+use Rattle.flat_typed.proofs.HeldStay.{HeldFirst, held_spends, h_arguments}
+use Rattle.flat_typed.proofs.PlainValues.{IsPlain, n_expr}
 
 -- ---- what is used is there
 
@@ -149,6 +149,7 @@ pub record LastTold (sc : Scope) (taker : Ty → Receiver) (es : Expressions) (c
   pub left : (W : Places) → AllOf (FitsPart W c.vars) c.vars → AllLeft c.vars d.vars
   pub places : Sole c.next (λ p. 0) c → AllOf (HadPlace c) vs
   pub plain : ListBoth PlainFor sc.results vs
+  pub held : (us : List Var) → HeldFirst us c.vars → HeldFirst us d.vars
   pub does : (out : Outside) (low : ℕ) (W : Places) (s : Flattening) → StmtBegins out sc low (λ p. 0) W c s
       → ArgsTells out sc (map taker sc.results) (meanings.exprs es (as_meaning taker sc) needs.Consumed [] (map taker sc.results)) W [] (uses_by es sc c (map taker sc.results)) c s vs d
 
@@ -202,17 +203,30 @@ module _ (taker : Ty → Receiver) (takes : TakesResults taker) where
         ((o_arguments (Callable sc) c.next es (dead c) sc (λ k g q. q.1) needs.Consumed (asked_of_items needs.Consumed sc.results)).runs c (dead_sole c s))
         (λ r q. had_places c r.0 (λ p. let a = q.one p in let b = all_handed p sc.results r.0 in omega (arith, a, b))))
 
+    abbrev Holding : Type 0
+    Holding = (us : List Var) × HeldFirst us c.vars
+
+    abbrev Holds_on : List Value × Context → Type 0
+    Holds_on r = (b : Holding) → HeldFirst b.0 r.1.vars
+
+    told_held : Gives (Callable sc) Holds_on (walk c)
+    told_held =
+        gives_all (Callable sc) (λ (b : Holding) (r : List Value × Context). HeldFirst b.0 r.1.vars) (walk c)
+        (λ b. (h_arguments (Callable sc) 0 (HeldFirst b.0) (held_spends b.0) es sc needs.Consumed (asked_of_items needs.Consumed sc.results)).runs c b.1)
+
     pub last_told : Gives (Callable sc) (λ r. LastTold sc taker es c r.0 r.1) (walk c)
     last_told =
-        gives-more (Callable sc) 0 (λ r. (Uses r × Places_had r) × (ListBoth PlainFor sc.results r.0 × Does r)) (λ r. LastTold sc taker es c r.0 r.1) (walk c)
-        (gives_both (Callable sc) (λ r. Uses r × Places_had r) (λ r. ListBoth PlainFor sc.results r.0 × Does r) (walk c)
+        gives-more (Callable sc) 0 (λ r. (Uses r × Places_had r) × ((ListBoth PlainFor sc.results r.0 × Holds_on r) × Does r)) (λ r. LastTold sc taker es c r.0 r.1) (walk c)
+        (gives_both (Callable sc) (λ r. Uses r × Places_had r) (λ r. (ListBoth PlainFor sc.results r.0 × Holds_on r) × Does r) (walk c)
         (gives_both (Callable sc) Uses Places_had (walk c) told_uses told_places)
-        (gives_both (Callable sc) (λ r. ListBoth PlainFor sc.results r.0) Does (walk c) ((plain_items (Callable sc) sc es sc.results long).runs c tt)
+        (gives_both (Callable sc) (λ r. ListBoth PlainFor sc.results r.0 × Holds_on r) Does (walk c)
+        (gives_both (Callable sc) (λ r. ListBoth PlainFor sc.results r.0) Holds_on (walk c) ((plain_items (Callable sc) sc es sc.results long).runs c tt) told_held)
         (fine sc taker needs.Consumed (asked_of_items needs.Consumed sc.results) [] (map taker sc.results) c free (long ∙ as_many sc.results) (asking sc.results) (inl (none_argument sc.results)))))
         (λ r h. record {
           there = λ W fits. (h.0.0 (W, fits)).0.1;
           left = λ W fits. (h.0.0 (W, fits)).1.0;
           places = h.0.1;
-          plain = h.1.0;
+          plain = h.1.0.0;
+          held = λ us k. h.1.0.1 (us, k);
           does = λ out low W s b. h.1.1 out low (λ p. 0) W [] s (begins_expression out sc low W c s (uses_by es sc c (map taker sc.results)) b);
         })

@@ -1,21 +1,18 @@
 -- The walk and the effect of a body: its statements, and then its last one.
-use Rattle.std.proofs.Common.{◌≡◌, ℕ, Bool, true, false, cond, List, [], ◌∷◌, refl, sym, ap, ◌∙◌, subst}
-use Rattle.std.specs.Prelude.{Option, Some, None}
-use Rattle.silq_tree.specs.declared.node.Spot.{Spot}
+use Rattle.std.proofs.Common.{◌≡◌, false, cond, List, [], ◌∷◌, refl, sym, ap, subst}
+use Rattle.std.specs.Prelude.{Option}
 use Rattle.silq_tree.specs.Syntax.{Expression, number, typed_number, truth, pi, place, called, tuple, unary, binary, none, more, Statement, Statements, assign, spread, update, forget, forget_value, phase, choice, loop, return_nothing, return_value, call, done, next}
 use Rattle.silq_types.specs.declared.types.Ty.{Ty}
 use Rattle.silq_types.specs.declared.need.Need.TheVariants as needs
 use Rattle.silq_types.specs.declared.signature.InstanceKey.{InstanceKey}
 use Rattle.silq_types.specs.declared.signature.Signature.{Signature}
 use Rattle.silq_types.specs.declared.values.Value.{Value}
-use Rattle.check_scope.specs.Walk.{Walk, answer, broken, counted, asked, bind}
-use Rattle.check_scope.specs.Context.{Scope, Context, Check, ◌>>=◌, ◌>>◌, give_back}
+use Rattle.check_scope.specs.Context.{Scope, Context, ◌>>=◌, ◌>>◌, give_back}
 use Rattle.check_expr.specs.Expression.{expr, arguments, asked_of_items, is_tuple, single, suits}
 use Rattle.check_expr.specs.Owners.{Gives}
 use Rattle.check_expr.proofs.Owners.{gives-bind}
 use Rattle.check_fun.specs.Statement.{first_type, returned, body, stmt, stmts}
 use Rattle.silq_mean.specs.declared.receiver.Receiver.{Receiver}
-use Rattle.silq_mean.specs.Effect.{Effect}
 use Rattle.silq_mean.specs.Meaning as meanings
 use Rattle.flat_form.specs.State.{Flattening}
 use Rattle.flat_form.specs.Flat.{flat}

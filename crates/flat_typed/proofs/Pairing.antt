@@ -226,7 +226,8 @@ module _ (out : Outside) (sc : Scope) (low : ℕ) (others : ℕ → ℕ) (W : Pl
         unmade = q.done.unmade;
       }
 
-      pub pair_stands : Stands out sc.held Ub under d2 s2
+      pub pair_stands : Stands out sc.held pair_done.after under d2 s2
+      unfolding pair_done
       pair_stands = alone_stands out sc low others Eb Ua under vs d1 s1 y d2 q
 
       -- each value's wires are used by both or new
@@ -245,8 +246,13 @@ module _ (out : Outside) (sc : Scope) (low : ℕ) (others : ℕ → ℕ) (W : Pl
 
       -- ---- what is told of both values behind the second
 
-      pub first_shares : OnePart d1.vars → Begins out sc low others Ua under vs d1 s1 → x.ty.classical ≡ true → (w : WireId) → 1 ≤ owners_of Ub d2.vars under w → names p.known w ≡ false
+      pub first_shares : OnePart d1.vars → Begins out sc low others Ua under vs d1 s1 → x.ty.classical ≡ true → (w : WireId) → 1 ≤ owners_of pair_done.after d2.vars under w → names p.known w ≡ false
+      unfolding pair_done
       first_shares one b2 e w le = let a = owners_next out sc low others Ua under vs d1 s1 b2 needs.Held Eb (y ∷ []) d2 q.done q.left one w in p.shares e w (omega (arith, a, le))
+
+      pub second_shares : y.ty.classical ≡ true → (w : WireId) → 1 ≤ owners_of pair_done.after d2.vars under w → names q.known w ≡ false
+      unfolding pair_done
+      second_shares e w le = q.shares e w le
 
       -- the second one leaves what the first one made
       pub first_untold : EndsDropped (wires_so_far s) s2.built.draft p.known

@@ -1,7 +1,6 @@
 -- A classical value that an expression hands on is not Linear.
-use Rattle.std.proofs.Common.{◌≡◌, ◌⊎◌, inl, inr, ℕ, suc, ◌+◌, ◌≤◌, ◌<◌, Bool, true, false, cond, not, ◌&&◌, ◌||◌, List, [], ◌∷◌, length, refl, sym, ap, ◌∙◌, subst, arith, nat_lt}
-use Rattle.std.specs.Prelude.{⊤, Option, Some, None, ◌==◌, ℤ}
-use Rattle.std.proofs.lemmas.Bool.{cases_lt, lt-ltb, eq-eqb, eqb-true}
+use Rattle.std.proofs.Common.{◌≡◌, Bool, true, false, cond, not, ◌&&◌, List, [], ◌∷◌, refl, sym, ap, ◌∙◌}
+use Rattle.std.specs.Prelude.{⊤, Option, Some, None, ℤ}
 use Rattle.silq_tree.specs.declared.node.Spot.{Spot}
 use Rattle.silq_tree.specs.Syntax.{Expression, Expressions, Place, number, typed_number, truth, pi, place, called, tuple, unary, binary, none, more}
 use Rattle.static_num.specs.Static.{is_static}
@@ -19,23 +18,16 @@ use Rattle.silq_types.specs.declared.values.Origin.TheVariants.{Lifted, Linear, 
 use Rattle.silq_types.specs.declared.values.Value.{Value}
 use Rattle.silq_types.specs.declared.values.Part.{Part}
 use Rattle.silq_types.specs.declared.values.Var.{Var}
-use Rattle.silq_types.specs.Types.{is_linear, quantum, single_shape, count, at, place_name}
-use Rattle.silq_types.specs.Calls.{Found, is_consumed, built_in, find_fun, first_need, later_needs}
-use Rattle.silq_types.specs.Programs.{paired}
-use Rattle.silq_mean.specs.Written.{Header, header_of}
-use Rattle.check_scope.specs.Walk.{answer}
-use Rattle.check_scope.specs.Context.{Scope, Context, Check, ◌>>=◌, ◌>>◌, give_back, find_var, part_type, part_at, indices, variable}
+use Rattle.silq_types.specs.Types.{is_linear, place_name}
+use Rattle.silq_types.specs.Calls.{Found, is_consumed, built_in, find_fun}
+use Rattle.check_scope.specs.Context.{Scope, Context, Check, ◌>>=◌, ◌>>◌, part_type, part_at, indices}
 use Rattle.check_scope.specs.Places.{new_value, move, unmoved, is_moved, use_part, use_found, use_place}
-use Rattle.check_scope.specs.Uses.{uses, all_uses}
-use Rattle.check_expr.specs.Expression.{Asked, Arguments, first_asked, later_asked, asked_of_items, origin_of, one_value, static_value, unless_static, typed_value, expr, arguments, later_arguments, lone_need, lone_wants, is_tuple, single, suits, typed_by, unary_value, binary_value, flip_value, gate_value, gate_values, gate_origin, many, placed, argument_at, result_values, result_origin, call_gate, call_built_in, call_own, call_found, vector_value, unnamed_rule, lone_linear, exact_place, operands}
-use Rattle.check_expr.specs.Owners.{at_place, owns, owners, owned, handed_arguments, Sole, Gives, Ensures}
-use Rattle.check_expr.proofs.Owners.{gives-more, sole-less, o_bind, o_then, o_more, o_from, o_back, o_fail, o_if, o_rules, o_result, o_variables, o_suits, o_arguments, o_use_rules}
+use Rattle.check_expr.specs.Expression.{Arguments, origin_of, one_value, static_value, unless_static, expr, arguments, later_arguments, is_tuple, typed_by, flip_value, gate_value, gate_values, many, placed, argument_at, result_values, result_origin, call_gate, call_built_in, call_own, call_found, vector_value}
+use Rattle.check_expr.specs.Owners.{Ensures}
+use Rattle.check_expr.proofs.Owners.{gives-more, o_bind, o_then, o_back, o_fail, o_if, o_rules}
 use Rattle.flat_form.specs.Names.{AllOf}
-use Rattle.flat_form.specs.Shows.{ListBoth}
-use Rattle.flat_typed.specs.Lemmas.{Callable}
 use Rattle.flat_typed.proofs.Ordered.{clash}
 use Rattle.flat_typed.proofs.Leaving.{k_any}
-use Rattle.flat_typed.proofs.Turns.{gives_later}
 
 -- ---- a classical value that is handed on is not Linear
 

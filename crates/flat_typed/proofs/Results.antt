@@ -1,42 +1,37 @@
 -- Results of a body: each has the wires of the consumed parameter of its place, or new ones.
-use Rattle.std.proofs.Common.{◌≡◌, ◌⊎◌, inl, inr, ℕ, suc, ◌+◌, ◌≤◌, ◌<◌, Bool, true, false, cond, not, ◌&&◌, ◌||◌, List, [], ◌∷◌, length, map, refl, sym, ap, ap₂, ◌∙◌, subst, arith, nat_lt}
-use Rattle.std.specs.Prelude.{⊤, Option, Some, None, ◌==◌}
+use Rattle.std.proofs.Common.{◌≡◌, ◌⊎◌, inl, inr, ℕ, suc, ◌+◌, ◌≤◌, ◌<◌, Bool, true, false, cond, not, ◌||◌, List, [], ◌∷◌, length, refl, sym, ap, ap₂, ◌∙◌, subst, arith}
+use Rattle.std.specs.Prelude.{Some, None, ◌==◌}
 use Rattle.std.specs.List.{list_any}
 use Rattle.std.proofs.lemmas.Bool.{cases_lt, eqb-true, eq-eqb}
 use Rattle.silq_tree.specs.Syntax.{Parameter}
 use Rattle.silq_types.specs.declared.types.Shape.{Shape}
 use Rattle.silq_types.specs.declared.types.Ty.{Ty}
 use Rattle.silq_types.specs.declared.signature.Param.{Param}
-use Rattle.silq_types.specs.declared.signature.Returned.{Returned}
 use Rattle.silq_types.specs.declared.values.Origin.TheVariants.{Held, Linear, Classical}
-use Rattle.silq_types.specs.declared.values.Part.{Part}
 use Rattle.silq_types.specs.declared.values.Value.{Value}
 use Rattle.silq_types.specs.declared.values.Var.{Var}
-use Rattle.silq_types.specs.Types.{is_linear, is_held}
+use Rattle.silq_types.specs.Types.{is_held}
 use Rattle.check_scope.specs.Context.{Context}
-use Rattle.check_scope.specs.declared.uses.Use.{Use}
 use Rattle.check_expr.specs.Owners.{at_place, owns, owners}
-use Rattle.check_fun.specs.Program.{param_vars, param_origin, given_on, returned_as}
+use Rattle.check_fun.specs.Program.{param_vars, given_on}
 use Rattle.silq_mean.specs.declared.receiver.Receiver.{Receiver}
 use Rattle.flat_core.specs.declared.step.WireId.{WireId}
 use Rattle.bit_arith.specs.declared.operand.Operand.{Operand}
-use Rattle.bit_arith.specs.Calls.{Targets, among}
+use Rattle.bit_arith.specs.Calls.{Targets}
 use Rattle.flat_form.specs.declared.known.Known.{Known}
 use Rattle.flat_form.specs.declared.known.Known.TheVariants.{Shown, Absent}
-use Rattle.flat_form.specs.State.{Flattening, wires_so_far, wires_in, operands_of}
-use Rattle.flat_form.specs.Names.{AllOf, operands_in, named_by, names}
-use Rattle.flat_form.specs.Shows.{ListBoth}
-use Rattle.flat_typed.specs.Places.{Places, is_part, is_shared, has_wires, part_out, less_part, bits_for, shown, times_in, carriers, linear_carriers, owners_of}
-use Rattle.flat_typed.specs.Relation.{Outside, Stands, AllNew, IsTakenOver, taken_type, is_carried, began_of}
-use Rattle.flat_typed.specs.Done.{MadeSince, changeable}
-use Rattle.flat_typed.specs.Calls.{Three, carried, FromParam, IsResult, named_times, quantum_times}
+use Rattle.flat_form.specs.State.{wires_in, operands_of}
+use Rattle.flat_form.specs.Names.{AllOf, named_by, names}
+use Rattle.flat_typed.specs.Places.{Places, is_part, is_shared, has_wires, part_out, less_part, bits_for, shown, times_in, owners_of}
+use Rattle.flat_typed.specs.Relation.{AllNew, IsTakenOver, taken_type, is_carried, began_of}
+use Rattle.flat_typed.specs.Done.{MadeSince}
 use Rattle.flat_typed.specs.Stay.{SomeOf, IsOwner, HadOwner}
 use Rattle.flat_typed.specs.Bodies.{TakesResults}
 use Rattle.flat_typed.proofs.Ordered.{clash}
 use Rattle.flat_typed.proofs.Owning.{no_times, spares_guarded}
 use Rattle.flat_typed.proofs.Ending.{times_are_among}
 use Rattle.flat_typed.proofs.Binding.{none_out}
-use Rattle.flat_typed.proofs.LastTold.{HadPlace, PlainFor, for_taker}
+use Rattle.flat_typed.proofs.LastTold.{HadPlace, for_taker}
 
 -- ---- operands and wires
 

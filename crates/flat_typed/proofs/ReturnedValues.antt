@@ -1,6 +1,6 @@
 -- Returned values, counted: how often they name a wire.
-use Rattle.std.proofs.Common.{◌≡◌, ◌⊎◌, inl, inr, ℕ, suc, ◌+◌, ◌≤◌, ◌<◌, Bool, true, false, cond, List, [], ◌∷◌, length, map, refl, sym, ap, ap₂, ◌∙◌, subst, arith}
-use Rattle.std.specs.Prelude.{⊤, Option, Some, None}
+use Rattle.std.proofs.Common.{◌≡◌, ◌⊎◌, inl, inr, ℕ, ◌+◌, ◌≤◌, ◌<◌, Bool, true, false, cond, List, [], ◌∷◌, length, map, refl, sym, ap, ap₂, ◌∙◌, arith}
+use Rattle.std.specs.Prelude.{Option, Some, None}
 use Rattle.std.proofs.lemmas.Bool.{cases_lt}
 use Rattle.silq_tree.specs.Syntax.{Parameter}
 use Rattle.silq_types.specs.declared.types.Ty.{Ty}
@@ -23,7 +23,7 @@ use Rattle.flat_typed.specs.Calls.{Three, carried, IsGivenOver, FromParam, IsRes
 use Rattle.flat_typed.specs.Bodies.{TakesResults}
 use Rattle.flat_typed.proofs.Ordered.{clash}
 use Rattle.flat_typed.proofs.LastTold.{HadPlace, PlainFor, for_taker}
-use Rattle.flat_typed.proofs.Results.{carried_so, shows_it, GivenOn, given_is, unguarded_wire}
+use Rattle.flat_typed.proofs.Results.{carried_so, shows_it, given_is, unguarded_wire}
 
 module _ (ns : List Parameter) (ps : List Param) (taker : Ty → Receiver) (takes : TakesResults taker) (W V U : Places) (used consumed : Targets) (n m : ℕ) (c1 : Context) where
   abbrev pub TakesAll : List Ty → List Value → List Known → Type 0

@@ -79,7 +79,7 @@ module _ (out : Outside) (sc : Scope) (x : NameId) (z : ℤ) (W : Places) (c : C
     unmade = h.unmade;
   }
 
-static_fine : (sc : Scope) (x : NameId) (z : ℤ) (c : Context) (m : Check (Unit {0})) (e : Effect) → StmtFine (walks.with_static sc x z) c m e → StmtFine sc c m e
+pub static_fine : (sc : Scope) (x : NameId) (z : ℤ) (c : Context) (m : Check (Unit {0})) (e : Effect) → StmtFine (walks.with_static sc x z) c m e → StmtFine sc c m e
 static_fine sc x z c m e h =
     gives-more (Callable sc) 0
     (λ r. (out : Outside) (low : ℕ) (W : Places) (s : Flattening) → StmtBegins out (walks.with_static sc x z) low (λ p. 0) W c s → StmtDone out (walks.with_static sc x z) e W c s r.1)
@@ -95,14 +95,14 @@ last_value (q ∷ qs) p y o = last_value qs p y (cond (q.0.number == y.number) (
 abbrev pub FreeOf : Scope → NameId → List Var → Type 0
 FreeOf sc x vs = NoStatics sc vs × (find_var vs (variable x) ≡ None)
 
-free_with : (sc : Scope) (x : NameId) (z : ℤ) (vs : List Var) → FreeOf sc x vs → NoStatics (walks.with_static sc x z) vs
+pub free_with : (sc : Scope) (x : NameId) (z : ℤ) (vs : List Var) → FreeOf sc x vs → NoStatics (walks.with_static sc x z) vs
 free_with sc x z vs h y e = go (same_name x y) refl (ap is_some (sym (last_value sc.statics (x, z) y None)) ∙ e)
   where
     go : (t : Bool) → same_name x y ≡ t → is_some (cond t (Some z) (value_of sc.statics y)) ≡ true → find_var vs (variable y) ≡ None
     go true q k = subst (λ u. find_var vs (variable u) ≡ None) (same_is_equal x y q) h.1
     go false q k = h.0 y k
 
-free_without : (sc : Scope) (x : NameId) (z : ℤ) (vs : List Var) → NoStatics (walks.with_static sc x z) vs → FreeOf sc x vs
+pub free_without : (sc : Scope) (x : NameId) (z : ℤ) (vs : List Var) → NoStatics (walks.with_static sc x z) vs → FreeOf sc x vs
 free_without sc x z vs h =
     (λ y e. h y (ap is_some (last_value sc.statics (x, z) y None) ∙ some (same_name x y) y e), h x (ap is_some (last_value sc.statics (x, z) x None) ∙ ap (λ t. is_some (cond t (Some z) (value_of sc.statics x))) (name_refl x)))
   where

@@ -1,7 +1,7 @@
 -- The statements of a body and its last one, which may return; and what a body's last statement takes over.
-use Rattle.std.specs.Prelude.{List, [], ◌∷◌, Option, Some, None}
+use Rattle.std.specs.Prelude.{List, [], Option, None}
 use Rattle.silq_tree.specs.declared.node.Spot.{Spot}
-use Rattle.silq_tree.specs.Syntax.{Expression, Expressions, number, typed_number, truth, pi, place, called, tuple, unary, binary, none, more, Statements, assign, spread, update, forget, forget_value, phase, choice, loop, return_nothing, return_value, call, Block, block, done, next}
+use Rattle.silq_tree.specs.Syntax.{Expression, Expressions, tuple, none, more, Statements, return_nothing, return_value, Block, block, done, next}
 use Rattle.silq_types.specs.declared.values.Value.{Value}
 use Rattle.check_scope.specs.Context.{Scope, Check, ◌>>=◌, ◌>>◌, give_back, count_statement}
 use Rattle.check_fun.specs.Statement.{returned, ended_with}

@@ -33,7 +33,7 @@ use Rattle.flat_form.specs.Jobs.{FineJob, EndsWell}
 use Rattle.flat_typed.specs.Places.{Places}
 use Rattle.flat_typed.specs.Relation.{Outside, is_argument, need_of}
 use Rattle.flat_typed.specs.Scopes.{as_meaning, scope_for, NoStatics}
-use Rattle.flat_typed.specs.Done.{Begins, ExprDone, ExprTells, StmtBegins, StmtDone}
+use Rattle.flat_typed.specs.Done.{Begins, ExprTells, StmtBegins, StmtDone}
 use Rattle.flat_typed.specs.Calls.{ArgsTells, BodyFine, CallFine}
 
 -- ---- the theorem
@@ -58,14 +58,7 @@ SignaturesAreFine =
 
 -- ---- expressions
 
--- wherever the walk of this check answers, this effect is fine and leaves the relation
-abbrev pub ExprDoes : Scope → Need → Context → Check (List Value) → Effect → List Use → Type 0
-ExprDoes sc need c m e us =
-    Gives (Callable sc) (λ r.
-    (out : Outside) (low : ℕ) (others : ℕ → ℕ) (W : Places) (under : List Value) (s : Flattening) → Begins out sc low others W under us c s →
-    ExprDone out sc need e W under us c s r.0 r.1) (m c)
-
--- and does what the answer tells
+-- wherever the walk of this check answers, this effect is fine, leaves the relation, and does what the answer tells
 abbrev pub ExprFine : Scope → Need → List Ty → Context → Check (List Value) → Effect → List Use → Type 0
 ExprFine sc need wants c m e us =
     Gives (Callable sc) (λ r.

@@ -13,5 +13,11 @@ pub mod Steps
 pub mod Settled
 pub mod Endings
 pub mod Bodies
+pub mod Instances
+pub mod Accepted
+pub mod PlaceLaws
 pub mod CallLaws
 pub mod ArgumentLaws
+pub mod OperatorLaws
+pub mod BuiltIns
+pub mod AssignmentLaws

@@ -1,5 +1,5 @@
 -- What holds of a context between two statements, what statements do to it, and which statements are fine there.
-use Rattle.std.specs.Prelude.{◌≡◌, ℕ, ◌<◌, ◌≤◌, false, List, [], ◌∷◌}
+use Rattle.std.specs.Prelude.{◌≡◌, ℕ, ◌<◌, ◌≤◌, true, false, List, [], ◌∷◌}
 use Rattle.silq_tree.specs.Syntax.{Statement, Statements, Otherwise, block, else_block, else_choice}
 use Rattle.silq_types.specs.declared.types.Ty.{Ty}
 use Rattle.silq_types.specs.declared.values.Var.{Var}
@@ -24,10 +24,11 @@ pub record Settled (sc : Scope) (c : Context) : Type 0 where
 
 -- ---- variables that stay
 
--- the second variable has the name of the first, and is held where it is
+-- the second variable has the name of the first, and is held where it is; one that is held is left as it is
 pub record StaysHeld (v w : Var) : Type 0 where
   pub part : w.part ≡ v.part
   pub held : is_held w.origin ≡ is_held v.origin
+  pub same : is_held v.origin ≡ true → w ≡ v
 
 -- the first variables of the second list are those of the first
 abbrev pub AllStay : List Var → List Var → Type 0
