@@ -153,3 +153,4 @@ pub mod HandedValues
 pub mod StaticWalks
 pub mod StaticFirst
 pub mod Binary
+pub mod KeptWalks
