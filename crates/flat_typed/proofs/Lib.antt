@@ -154,3 +154,4 @@ pub mod StaticWalks
 pub mod StaticFirst
 pub mod Binary
 pub mod KeptWalks
+pub mod ChoicesSettle
