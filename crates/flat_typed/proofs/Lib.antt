@@ -155,3 +155,4 @@ pub mod StaticFirst
 pub mod Binary
 pub mod KeptWalks
 pub mod ChoicesSettle
+pub mod StatementsSettle
