@@ -156,3 +156,4 @@ pub mod Binary
 pub mod KeptWalks
 pub mod ChoicesSettle
 pub mod StatementsSettle
+pub mod BoundSettle
