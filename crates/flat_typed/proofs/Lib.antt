@@ -153,3 +153,5 @@ pub mod HandedValues
 pub mod StaticWalks
 pub mod StaticFirst
 pub mod Binary
+pub mod UnheldValues
+pub mod HandedPlaces
