@@ -157,3 +157,5 @@ pub mod KeptWalks
 pub mod ChoicesSettle
 pub mod StatementsSettle
 pub mod BoundSettle
+pub mod UnheldValues
+pub mod HandedPlaces
