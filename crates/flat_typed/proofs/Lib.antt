@@ -159,3 +159,4 @@ pub mod StatementsSettle
 pub mod BoundSettle
 pub mod UnheldValues
 pub mod HandedPlaces
+pub mod AllSettle
