@@ -155,3 +155,5 @@ pub mod StaticFirst
 pub mod Binary
 pub mod UnheldValues
 pub mod HandedPlaces
+pub mod Rebinding
+pub mod NamesSettle
