@@ -160,3 +160,5 @@ pub mod BoundSettle
 pub mod UnheldValues
 pub mod HandedPlaces
 pub mod AllSettle
+pub mod Rebinding
+pub mod NamesSettle

@@ -20,7 +20,7 @@ use Rattle.silq_types.specs.declared.values.Var.{Var}
 use Rattle.silq_types.specs.Types.{is_held, place_name}
 use Rattle.silq_types.specs.Calls.{Found, is_consumed, built_in, find_fun}
 use Rattle.check_scope.specs.Context.{Scope, Context, Check, ◌>>=◌, ◌>>◌, give_back, part_type, part_at, indices}
-use Rattle.check_scope.specs.Places.{new_value, move, unmoved, is_moved, use_part, use_found, use_place}
+use Rattle.check_scope.specs.Places.{new_value, unmoved, is_moved, use_part, use_found, use_place}
 use Rattle.check_expr.specs.Expression.{Asked, Arguments, single, suits, origin_of, one_value, static_value, unless_static, expr, arguments, later_arguments, is_tuple, lone_need, lone_wants, asked_of_items, flipped_origin, gate_origin, flip_value, gate_value, gate_values, many, placed, argument_at, result_values, result_origin, call_gate, call_built_in, call_own, call_found, vector_value}
 use Rattle.check_expr.specs.Owners.{Ensures}
 use Rattle.check_expr.proofs.Owners.{gives-more, o_bind, o_then, o_more, o_back, o_fail, o_if, o_rules, o_suits}
