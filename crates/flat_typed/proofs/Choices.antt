@@ -130,7 +130,7 @@ module _ (sc : Scope) (taker : Ty → Receiver) (e : Expression) (fine : Express
 
 -- ---- both branches
 
-both_gives : (S : InstanceKey → Signature → Type 0) (first second : Check (Unit {0})) (c : Context) (P : Context → Type 0) (R : Context → Context → Type 0) (Q : Context → Type 0) → Gives S (λ r. P r.1) (first c) → ((d : Context) → P d → Gives S (λ r. R d r.1) (second (record d { vars = c.vars })))
+pub both_gives : (S : InstanceKey → Signature → Type 0) (first second : Check (Unit {0})) (c : Context) (P : Context → Type 0) (R : Context → Context → Type 0) (Q : Context → Type 0) → Gives S (λ r. P r.1) (first c) → ((d : Context) → P d → Gives S (λ r. R d r.1) (second (record d { vars = c.vars })))
     → ((d e : Context) → P d → R d e → Q (record e { vars = walks.joined d.vars e.vars })) → Gives S (λ r. Q r.1) (walks.both first second c)
 unfolding ◌>>=◌ ◌>>◌
 both_gives S first second c P R Q h k f =

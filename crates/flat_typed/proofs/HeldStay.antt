@@ -1,5 +1,5 @@
 -- What an expression does to variables: it spends some that are live and not held, and leaves all else.
-use Rattle.std.proofs.Common.{◌≡◌, ℕ, Bool, true, false, cond, not, ◌&&◌, List, [], ◌∷◌, refl, sym, ap, ◌∙◌, subst}
+use Rattle.std.proofs.Common.{◌≡◌, ℕ, Bool, true, false, cond, not, ◌&&◌, ◌||◌, List, [], ◌∷◌, refl, sym, ap, ◌∙◌, subst}
 use Rattle.std.specs.Prelude.{Option, Some, None}
 use Rattle.silq_tree.specs.declared.node.Spot.{Spot}
 use Rattle.silq_tree.specs.Syntax.{Expression, Expressions, Place, number, typed_number, truth, pi, place, called, tuple, unary, binary, none, more}
@@ -15,7 +15,7 @@ use Rattle.silq_types.specs.declared.values.Value.{Value}
 use Rattle.silq_types.specs.declared.values.Part.{Part}
 use Rattle.silq_types.specs.declared.values.Var.{Var}
 use Rattle.silq_types.specs.Types.{is_held, at, place_name, place_indices}
-use Rattle.silq_types.specs.Calls.{Found, built_in, find_fun}
+use Rattle.silq_types.specs.Calls.{Found, built_in, find_fun, is_consumed}
 use Rattle.silq_types.specs.Programs.{paired}
 use Rattle.silq_mean.specs.Written.{needed_at, header_of}
 use Rattle.check_scope.specs.Context.{Scope, Context, Check, ◌>>=◌, find_var, replace, same_part, part_at, variable}
@@ -23,7 +23,8 @@ use Rattle.check_scope.specs.Places.{unmoved, is_moved, use_part, use_found, use
 use Rattle.check_expr.specs.Expression.{Asked, Arguments, first_asked, later_asked, expr, arguments, later_arguments, lone_need, lone_wants, single, unless_static, operands, call_gate, call_built_in, call_own, call_found, vector_value, asked_by_built_in, asked_of_items, exact_place}
 use Rattle.check_expr.specs.Owners.{Ensures}
 use Rattle.check_expr.proofs.Owners.{o_bind, o_then, o_more, o_from, o_back, o_fail, o_if, o_rules, o_result, o_variables, o_names, o_length, o_signature, o_suits, o_all_needed, o_static_arguments, found_part}
-use Rattle.flat_typed.proofs.Ordered.{clash}
+use Rattle.flat_typed.specs.Places.{is_shared}
+use Rattle.flat_typed.proofs.Ordered.{clash, or_right}
 use Rattle.flat_typed.proofs.Parts.{some_same}
 use Rattle.flat_typed.proofs.Moving.{spent}
 use Rattle.flat_typed.proofs.Leaving.{On, k_new, k_static, k_typed, k_single, k_unary, k_binary, k_gates, k_many, k_results}
@@ -32,7 +33,11 @@ use Rattle.flat_typed.proofs.Leaving.{On, k_new, k_static, k_typed, k_single, k_
 abbrev pub Spends : (List Var → Type 0) → Type 0
 Spends I = (vars : List Var) (p : Part) (v : Var) → find_var vars p ≡ Some v → v.consumed ≡ false → is_held v.origin ≡ false → I vars → I (replace vars (spent v))
 
-module _ (S : InstanceKey → Signature → Type 0) (low : ℕ) (I : List Var → Type 0) (spends : Spends I) where
+-- the same, where a variable is spent only if its wires are its own
+abbrev pub SpendsOwn : (List Var → Type 0) → Type 0
+SpendsOwn I = (vars : List Var) (p : Part) (v : Var) → find_var vars p ≡ Some v → v.consumed ≡ false → is_shared v ≡ false → I vars → I (replace vars (spent v))
+
+module _ (S : InstanceKey → Signature → Type 0) (low : ℕ) (I : List Var → Type 0) (spends : SpendsOwn I) where
   abbrev pub Holds : Context → Type 0
   Holds = On S low I
 
@@ -49,14 +54,16 @@ module _ (S : InstanceKey → Signature → Type 0) (low : ℕ) (I : List Var �
   h_part sc s need q v vars None = o_then S low (h_rules sc s need q v true) (λ u. o_fail S low _)
   h_part sc s need q v vars (Some t) = o_then S low (h_rules sc s need q v _) (λ u. o_from S low (λ c h. h.1) (h_unmoved need t v))
 
-  unheld : (a b : Bool) → a ≡ true → (a && b) ≡ false → b ≡ false
-  unheld true b e z = z
-  unheld false b e z = clash (sym e)
+  -- a variable that is moved has wires of its own
+  moved_own : (a b t : Bool) → (a && not t) ≡ true → ((a && not t) && b) ≡ false → (t || b) ≡ false
+  moved_own true b true e z = clash (sym e)
+  moved_own true b false e z = z
+  moved_own false b t e z = clash (sym e)
 
   h_found : (sc : Scope) (s : Spot) (need : Need) (q : Part) (vars : List Var) (o w : Option Var) → Ensures S (λ c. (find_var c.vars q ≡ o) × Holds c) (use_found sc s need q vars o w) (λ x. Holds)
   h_found sc s need q vars (Some v) w =
       o_then S low (h_rules sc s need q v (disturbs vars q)) (λ u. o_if S low (is_moved need v.ty)
-      (λ e. record { runs = λ c h. spends c.vars q v h.1.0 h.0.0 (unheld (is_moved need v.ty) (is_held v.origin) e h.0.1) h.1.1 })
+      (λ e. record { runs = λ c h. spends c.vars q v h.1.0 h.0.0 (moved_own (is_consumed need) (is_held v.origin) v.ty.classical e h.0.1) h.1.1 })
       (λ e. o_from S low (λ c h. h.1.1) (h_unmoved need v.ty v)))
   h_found sc s need q vars None (Some w) = o_from S low (λ c h. h.1) (h_part sc s need q w vars _)
   h_found sc s need q vars None None = o_fail S low _
@@ -125,35 +132,45 @@ module _ (S : InstanceKey → Signature → Type 0) (low : ℕ) (I : List Var �
       (λ e. o_bind S low (l []) (λ x. o_bind S low (r (x.ty ∷ [])) (λ y. o_back S low (x, y) (λ c h. h))))
 
   mutual
-    pub h_expr : (e : Expression) (sc : Scope) (need : Need) (wants : List Ty) → Ensures S Holds (expr e sc need wants) (λ vs. Holds)
-    h_expr (number n s) sc need wants = k_static S low I sc (number n s) wants
-    h_expr (typed_number n k s) sc need wants = o_bind S low (k_typed S low I I sc n k s (λ known t vars e h. h)) (λ v. o_back S low (v ∷ []) (λ c h. h))
-    h_expr (truth b s) sc need wants = k_static S low I sc (truth b s) wants
-    h_expr (pi s) sc need wants = o_fail S low _
-    h_expr (place w s) sc need wants = h_unless sc (place w s) wants (o_bind S low (h_place w sc s need) (λ v. o_back S low (v ∷ []) (λ c h. h)))
-    h_expr (called f ss args s) sc need wants =
-        h_call sc (built_in sc.words f) (find_fun sc.before f) ss args s need (λ l. arguments args sc needs.Held l) (later_arguments args sc) (λ l. h_arguments args sc needs.Held l) (h_later args sc)
-    h_expr (tuple es s) sc need wants = h_arguments es sc need (asked_of_items need wants)
-    h_expr (unary op e s) sc need wants =
-        h_unless sc (unary op e s) wants (o_bind S low (h_expr e sc needs.Held []) (λ vs. o_bind S low (h_single e vs) (λ v. k_unary S low I op s v)))
-    h_expr (binary op a b s) sc need wants =
+    pub own_expr : (e : Expression) (sc : Scope) (need : Need) (wants : List Ty) → Ensures S Holds (expr e sc need wants) (λ vs. Holds)
+    own_expr (number n s) sc need wants = k_static S low I sc (number n s) wants
+    own_expr (typed_number n k s) sc need wants = o_bind S low (k_typed S low I I sc n k s (λ known t vars e h. h)) (λ v. o_back S low (v ∷ []) (λ c h. h))
+    own_expr (truth b s) sc need wants = k_static S low I sc (truth b s) wants
+    own_expr (pi s) sc need wants = o_fail S low _
+    own_expr (place w s) sc need wants = h_unless sc (place w s) wants (o_bind S low (h_place w sc s need) (λ v. o_back S low (v ∷ []) (λ c h. h)))
+    own_expr (called f ss args s) sc need wants =
+        h_call sc (built_in sc.words f) (find_fun sc.before f) ss args s need (λ l. arguments args sc needs.Held l) (later_arguments args sc) (λ l. own_arguments args sc needs.Held l) (h_later args sc)
+    own_expr (tuple es s) sc need wants = own_arguments es sc need (asked_of_items need wants)
+    own_expr (unary op e s) sc need wants =
+        h_unless sc (unary op e s) wants (o_bind S low (own_expr e sc needs.Held []) (λ vs. o_bind S low (h_single e vs) (λ v. k_unary S low I op s v)))
+    own_expr (binary op a b s) sc need wants =
         h_unless sc (binary op a b s) wants
         (o_bind S low (h_operands sc a (λ w. expr a sc needs.Held (lone_wants a w) >>= single a) (λ w. expr b sc needs.Held (lone_wants b w) >>= single b)
-        (λ w. o_bind S low (h_expr a sc needs.Held (lone_wants a w)) (λ vs. h_single a vs)) (λ w. o_bind S low (h_expr b sc needs.Held (lone_wants b w)) (λ vs. h_single b vs)))
+        (λ w. o_bind S low (own_expr a sc needs.Held (lone_wants a w)) (λ vs. h_single a vs)) (λ w. o_bind S low (own_expr b sc needs.Held (lone_wants b w)) (λ vs. h_single b vs)))
         (λ r. k_binary S low I sc op a b s r.0 r.1))
 
-    pub h_arguments : (es : Expressions) (sc : Scope) (other : Need) (l : List Asked) → Ensures S Holds (arguments es sc other l) (λ vs. Holds)
-    h_arguments none sc other l = o_back S low [] (λ c h. h)
-    h_arguments (more e es) sc other l =
-        o_bind S low (h_expr e sc (lone_need e (first_asked other l).need) (lone_wants e (first_asked other l).wants)) (λ vs.
+    pub own_arguments : (es : Expressions) (sc : Scope) (other : Need) (l : List Asked) → Ensures S Holds (arguments es sc other l) (λ vs. Holds)
+    own_arguments none sc other l = o_back S low [] (λ c h. h)
+    own_arguments (more e es) sc other l =
+        o_bind S low (own_expr e sc (lone_need e (first_asked other l).need) (lone_wants e (first_asked other l).wants)) (λ vs.
         o_bind S low (h_single e vs) (λ v. o_then S low (o_suits S low e (first_asked other l).wants v) (λ u.
-        o_bind S low (h_arguments es sc other (later_asked l)) (λ rest. o_back S low (v ∷ rest) (λ c h. h)))))
+        o_bind S low (own_arguments es sc other (later_asked l)) (λ rest. o_back S low (v ∷ rest) (λ c h. h)))))
 
     h_later : (es : Expressions) (sc : Scope) → Ensures S Holds (later_arguments es sc) (λ vs. Holds)
     h_later none sc = o_back S low [] (λ c h. h)
-    h_later (more e es) sc = h_arguments es sc needs.Held []
+    h_later (more e es) sc = own_arguments es sc needs.Held []
 
 -- ---- held variables
+
+-- what holds where any variable is spent that is not held
+own_spends : (I : List Var → Type 0) → Spends I → SpendsOwn I
+own_spends I spends vars p v e live own h = spends vars p v e live (or_right v.ty.classical (is_held v.origin) own) h
+
+pub h_expr : (S : InstanceKey → Signature → Type 0) (low : ℕ) (I : List Var → Type 0) → Spends I → (e : Expression) (sc : Scope) (need : Need) (wants : List Ty) → Ensures S (On S low I) (expr e sc need wants) (λ vs. On S low I)
+h_expr S low I spends = own_expr S low I (own_spends I spends)
+
+pub h_arguments : (S : InstanceKey → Signature → Type 0) (low : ℕ) (I : List Var → Type 0) → Spends I → (es : Expressions) (sc : Scope) (other : Need) (l : List Asked) → Ensures S (On S low I) (arguments es sc other l) (λ vs. On S low I)
+h_arguments S low I spends = own_arguments S low I (own_spends I spends)
 
 -- the second variable is the first where that is held
 abbrev pub HeldSame : Var → Var → Type 0

@@ -162,3 +162,12 @@ pub mod HandedValues
 pub mod StaticWalks
 pub mod StaticFirst
 pub mod Binary
+pub mod KeptWalks
+pub mod ChoicesSettle
+pub mod StatementsSettle
+pub mod BoundSettle
+pub mod UnheldValues
+pub mod HandedPlaces
+pub mod AllSettle
+pub mod Rebinding
+pub mod NamesSettle

@@ -40,7 +40,7 @@ stay_then (u ∷ us) [] ws h k = absurd h
 stay_then (u ∷ us) (v ∷ vs) [] h k = absurd k
 stay_then (u ∷ us) (v ∷ vs) (w ∷ ws) h k = (record { part = k.0.part ∙ h.0.part; held = k.0.held ∙ h.0.held; same = λ x. k.0.same (h.0.held ∙ x) ∙ h.0.same x }, stay_then us vs ws h.1 k.1)
 
-stay_taken : (vs ws : List Var) → AllStay vs ws → AllStay vs (take (length vs) ws)
+pub stay_taken : (vs ws : List Var) → AllStay vs ws → AllStay vs (take (length vs) ws)
 stay_taken [] ws h = tt
 stay_taken (v ∷ vs) [] h = absurd h
 stay_taken (v ∷ vs) (w ∷ ws) h = (h.0, stay_taken vs ws h.1)
