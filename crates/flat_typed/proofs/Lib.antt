@@ -54,7 +54,6 @@ pub mod Stated
 pub mod Variables
 pub mod Quiet
 pub mod Unchanged
-pub mod OneValue
 pub mod Calling
 pub mod UpdateWalk
 pub mod Behind
@@ -148,3 +147,6 @@ pub mod InTurn
 pub mod SeveralValues
 pub mod Spreading
 pub mod Spreads
+pub mod TakenUses
+pub mod PlacesStated
+pub mod HandedValues

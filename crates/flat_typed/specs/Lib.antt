@@ -19,3 +19,4 @@ pub mod PlaceLaws
 pub mod CallLaws
 pub mod OperatorLaws
 pub mod BuiltIns
+pub mod AssignmentLaws

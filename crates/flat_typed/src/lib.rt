@@ -11,6 +11,7 @@ pub mod programs;
 pub mod calls;
 pub mod operators;
 pub mod built_ins;
+pub mod handed;
 pub mod statements;
 pub mod steps;
 
