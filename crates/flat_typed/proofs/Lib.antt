@@ -148,5 +148,5 @@ pub mod SeveralValues
 pub mod Spreading
 pub mod Spreads
 pub mod TakenUses
-pub mod PlacesStated
 pub mod HandedValues
+pub mod Every

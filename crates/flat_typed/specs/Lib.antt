@@ -20,3 +20,4 @@ pub mod CallLaws
 pub mod OperatorLaws
 pub mod BuiltIns
 pub mod AssignmentLaws
+pub mod Remaining

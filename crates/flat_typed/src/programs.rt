@@ -3,6 +3,7 @@
 ghost use Rattle.flat_typed.specs.Bodies.{BodyIsFine};
 ghost use Rattle.flat_typed.specs.Instances.{InstancesTell};
 ghost use Rattle.flat_typed.specs.Accepted.{AcceptedWhereFine};
+ghost use Rattle.flat_typed.specs.Remaining.{AcceptedFromRemaining};
 
 /// A body is fine, and keeps its const parameters, where its statements and what it returns are fine.
 pub fn body_is_fine()
@@ -18,4 +19,10 @@ pub fn instances_tell()
 /// that flattening can take: its effect is fine, and each wire that must not be dropped is returned, measured or forgotten.
 pub fn accepted_where_fine()
     ensures { AcceptedWhereFine }
+{}
+
+/// The same from three lemmas, by induction over expressions and statements: operators on two operands are fine, values that are taken over in turn
+/// are fine where each of their expressions is, and each statement leaves a settled context.
+pub fn accepted_from_remaining()
+    ensures { AcceptedFromRemaining }
 {}
