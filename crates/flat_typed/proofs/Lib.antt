@@ -150,3 +150,4 @@ pub mod Spreads
 pub mod TakenUses
 pub mod HandedValues
 pub mod Every
+pub mod Kept
