@@ -27,6 +27,7 @@ use Rattle.flat_typed.proofs.Leaving.{k_any}
 use Rattle.flat_typed.proofs.Numbers.{number_is_fine, typed_number_is_fine, truth_is_fine, pi_is_fine}
 use Rattle.flat_typed.proofs.UsedPlaces.{place_is_fine}
 use Rattle.flat_typed.proofs.Unary.{unary_is_fine}
+use Rattle.flat_typed.proofs.Binary.{binary_is_fine}
 use Rattle.flat_typed.proofs.BuiltInCalls.{built_in_is_fine}
 use Rattle.flat_typed.proofs.OwnCalls.{own_call_is_fine}
 use Rattle.flat_typed.proofs.Forgetting.{forget_is_fine}
@@ -73,7 +74,7 @@ module _ (left : Remaining) where
     expression_is_fine (called f ss args s) = called_is_fine f ss args s (each_is_fine args)
     expression_is_fine (tuple es s) = λ sc taker need wants c t free. clash t
     expression_is_fine (unary op e s) = unary_is_fine op e s (expression_is_fine e)
-    expression_is_fine (binary op a b s) = left.operators op a b s (expression_is_fine a) (expression_is_fine b)
+    expression_is_fine (binary op a b s) = binary_is_fine op a b s (expression_is_fine a) (expression_is_fine b)
 
     pub each_is_fine : (es : Expressions) → EachIsFine es
     each_is_fine none = tt

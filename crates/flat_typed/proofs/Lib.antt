@@ -151,3 +151,6 @@ pub mod TakenUses
 pub mod HandedValues
 pub mod Every
 pub mod Kept
+pub mod StaticWalks
+pub mod StaticFirst
+pub mod Binary

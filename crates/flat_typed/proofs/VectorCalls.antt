@@ -46,7 +46,7 @@ use Rattle.flat_typed.proofs.GateWalks.{NewOne, one_new}
 
 -- ---- the effect of a static expression
 
-static_effect : (a : Expression) (sc : meanings.Scope) (need : Need) → is_static sc.statics a ≡ true → meanings.expr a sc need ≡ step (give_static (meanings.static_value sc.statics a))
+pub static_effect : (a : Expression) (sc : meanings.Scope) (need : Need) → is_static sc.statics a ≡ true → meanings.expr a sc need ≡ step (give_static (meanings.static_value sc.statics a))
 unfolding is_static value
 static_effect (number n s) sc need e = refl
 static_effect (truth b s) sc need e = refl

@@ -21,8 +21,8 @@ pub fn accepted_where_fine()
     ensures { AcceptedWhereFine }
 {}
 
-/// The same from three lemmas, by induction over expressions and statements: operators on two operands are fine, values that are taken over in turn
-/// are fine where each of their expressions is, and each statement leaves a settled context.
+/// The same from two lemmas, by induction over expressions and statements: values that are taken over in turn are fine where each of their
+/// expressions is, and each statement leaves a settled context.
 pub fn accepted_from_remaining()
     ensures { AcceptedFromRemaining }
 {}
