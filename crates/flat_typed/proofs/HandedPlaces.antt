@@ -35,7 +35,7 @@ use Rattle.flat_typed.proofs.Kept.{Kept, AllKept, FindKept, kept_then, kept_refl
 
 -- ---- origins that are not held
 
-origin_unheld : (t : Bool) → is_held (origin_of t) ≡ false
+pub origin_unheld : (t : Bool) → is_held (origin_of t) ≡ false
 origin_unheld true = refl
 origin_unheld false = refl
 

@@ -154,3 +154,5 @@ pub mod Kept
 pub mod StaticWalks
 pub mod StaticFirst
 pub mod Binary
+pub mod HandedPlaces
+pub mod HandedWalks
