@@ -112,7 +112,7 @@ facts_here e fine sc taker need wants c free = go (is_tuple e) refl
 
 -- ---- variables that are left
 
-below_left : (n : ℕ) (vs ws : List Var) → AllLeft vs ws → AllOf (Below n) vs → AllOf (Below n) ws
+pub below_left : (n : ℕ) (vs ws : List Var) → AllLeft vs ws → AllOf (Below n) vs → AllOf (Below n) ws
 below_left n [] [] l h = tt
 below_left n [] (w ∷ ws) l h = absurd l
 below_left n (v ∷ vs) [] l h = absurd l
@@ -121,13 +121,13 @@ below_left n (v ∷ vs) (w ∷ ws) l h = (λ e. let a = h.0 (l.0.live e) in let 
 abbrev PartBelow : ℕ → Var → Type 0
 PartBelow n v = is_part v ≡ true → v.place < n
 
-placed_left : (n : ℕ) (vs ws : List Var) → AllLeft vs ws → AllOf (PartBelow n) vs → AllOf (PartBelow n) ws
+pub placed_left : (n : ℕ) (vs ws : List Var) → AllLeft vs ws → AllOf (PartBelow n) vs → AllOf (PartBelow n) ws
 placed_left n [] [] l h = tt
 placed_left n [] (w ∷ ws) l h = absurd l
 placed_left n (v ∷ vs) [] l h = absurd l
 placed_left n (v ∷ vs) (w ∷ ws) l h = (λ e. let a = h.0 (ap (λ (p : Part). not (is_empty (indices p))) (sym l.0.part) ∙ e) in let q = l.0.place in omega (arith, a, q), placed_left n vs ws l.1 h.1)
 
-placed_more : (n m : ℕ) (vs : List Var) → n ≤ m → AllOf (PartBelow n) vs → AllOf (PartBelow m) vs
+pub placed_more : (n m : ℕ) (vs : List Var) → n ≤ m → AllOf (PartBelow n) vs → AllOf (PartBelow m) vs
 placed_more n m [] le h = tt
 placed_more n m (v ∷ vs) le h = (λ e. let a = h.0 e in omega (arith, a, le), placed_more n m vs le h.1)
 

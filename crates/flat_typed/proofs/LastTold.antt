@@ -72,7 +72,7 @@ module _ (S : InstanceKey → Signature → Type 0) (W : Places) (vs0 : List Var
 abbrev pub dead : Context → ℕ → ℕ
 dead c p = cond ((owners p c.vars == 0) && nat_lt p c.next) 1 0
 
-dead_sole : (c : Context) → Sole c.next (λ p. 0) c → Sole c.next (dead c) c
+pub dead_sole : (c : Context) → Sole c.next (λ p. 0) c → Sole c.next (dead c) c
 dead_sole c s = record {
   grown = omega arith;
   one = λ p. go p (owners p c.vars == 0) refl (nat_lt p c.next);

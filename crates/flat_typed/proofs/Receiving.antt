@@ -195,7 +195,7 @@ typed_shown m (Array k w) u = refl
 pub record IsSuited (low : ℕ) (r : Receiver) (v : Value) (k : Known) : Type 0 where
   pub shape : (taken_type r v).shape ≡ v.ty.shape
   pub class : (taken_type r v).classical ≡ true → v.ty.classical ≡ true
-  pub lifted : v.ty.classical ≡ true → is_linear v.origin ≡ false
+  pub lifted : is_consumed (need_of r) ≡ true → v.ty.classical ≡ true → is_linear v.origin ≡ false
   pub placed : (t : Ty) → r ≡ EntryOutput t → v.ty.classical ≡ true → low ≤ v.place
   pub known : (z : ℤ) → k ≡ Static z → r ≡ Variable → ⊥
 
@@ -212,8 +212,8 @@ and_not true b e h = not_false b e
 and_not false b e h = clash (sym h)
 
 uncarried : (low : ℕ) (r : Receiver) (v : Value) (k : Known) → IsSuited low r v k → is_consumed (need_of r) ≡ true → is_carried r v ≡ false → is_linear v.origin ≡ false
-uncarried low Variable v k f q e = f.lifted (not_false v.ty.classical e)
-uncarried low (Argument need t) v k f q e = f.lifted (f.class (and_not (is_consumed need) t.classical e q))
+uncarried low Variable v k f q e = f.lifted refl (not_false v.ty.classical e)
+uncarried low (Argument need t) v k f q e = f.lifted q (f.class (and_not (is_consumed need) t.classical e q))
 uncarried low (CallResult t) v k f q e = clash e
 uncarried low (EntryOutput t) v k f q e = clash e
 
@@ -224,7 +224,7 @@ suits_with low r v k u f class under = record {
   lifted = λ q e. uncarried low r v k f q e;
   copies = λ t e q.
       let h : v.ty.classical ≡ true = or_true t.classical u.classical v.ty.classical q (λ a. f.class (ap (λ (x : Receiver). (taken_type x v).classical) e ∙ a)) under in
-      (f.placed t e h, f.lifted h);
+      (f.placed t e h, f.lifted (ap (λ (x : Receiver). is_consumed (need_of x)) e) h);
 }
 
 module _ (out : Outside) (held : List (List Part)) (W : Places) (used consumed : Targets) (n low : ℕ) (under : List Value) (c : Context) (s : Flattening) (v : Value) (r : Receiver) where
