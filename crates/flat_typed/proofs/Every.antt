@@ -19,8 +19,8 @@ use Rattle.silq_mean.specs.Effect.{nothing}
 use Rattle.silq_mean.specs.Meaning as meanings
 use Rattle.flat_typed.specs.Scopes.{as_meaning, NoStatics}
 use Rattle.flat_typed.specs.Lemmas.{Callable, ExprFine, ExpressionIsFine, EachIsFine, ArgumentsAreFine, StatementIsFine, AcceptedIsFlattenable}
-use Rattle.flat_typed.specs.Settled.{Settling, FineStatement, FineStatements, FineOtherwise}
-use Rattle.flat_typed.specs.Remaining.{Remaining, AcceptedFromRemaining}
+use Rattle.flat_typed.specs.Settled.{Settling, StatementsSettle, FineStatement, FineStatements, FineOtherwise}
+use Rattle.flat_typed.specs.Remaining.{AcceptedWhereSettled}
 use Rattle.flat_typed.proofs.Ordered.{clash}
 use Rattle.flat_typed.proofs.Turns.{Does, line_fine}
 use Rattle.flat_typed.proofs.Leaving.{k_any}
@@ -28,6 +28,7 @@ use Rattle.flat_typed.proofs.Numbers.{number_is_fine, typed_number_is_fine, trut
 use Rattle.flat_typed.proofs.UsedPlaces.{place_is_fine}
 use Rattle.flat_typed.proofs.Unary.{unary_is_fine}
 use Rattle.flat_typed.proofs.Binary.{binary_is_fine}
+use Rattle.flat_typed.proofs.Arguments.{arguments_are_fine as taken_over}
 use Rattle.flat_typed.proofs.BuiltInCalls.{built_in_is_fine}
 use Rattle.flat_typed.proofs.OwnCalls.{own_call_is_fine}
 use Rattle.flat_typed.proofs.Forgetting.{forget_is_fine}
@@ -54,7 +55,7 @@ return_value_is_fine e s sc taker c k =
     line_fine sc c (walks.returned e sc >> fail (rule bad_return s)) (meanings.items e (as_meaning taker sc) (map taker sc.results)) s.line
     ((o_then (Callable sc) 0 (k_any (Callable sc) 0 {P = λ d. ⊤} (walks.returned e sc)) (λ vs. o_fail (Callable sc) 0 _)).runs c tt)
 
-module _ (left : Remaining) where
+module _ (settle : StatementsSettle) where
   -- ---- expressions
 
   called_is_fine : (f : NameId) (ss args : Expressions) (s : Spot) → EachIsFine args → ExpressionIsFine (called f ss args s)
@@ -62,7 +63,7 @@ module _ (left : Remaining) where
     where
       go : (o : Option BuiltIn) → built_in sc.words f ≡ o → ExprFine sc need wants c (expr (called f ss args s) sc need wants) (meanings.expr (called f ss args s) (as_meaning taker sc) need) (uses (called f ss args s) sc c.vars need)
       go (Some b) q = built_in_is_fine f ss args s each sc taker need wants c free b q
-      go None q = own_call_is_fine f ss args s (left.taken_over args each) sc taker need wants c free q
+      go None q = own_call_is_fine f ss args s (taken_over args each) sc taker need wants c free q
 
   mutual
     pub expression_is_fine : (e : Expression) → ExpressionIsFine e
@@ -81,7 +82,7 @@ module _ (left : Remaining) where
     each_is_fine (more e es) = (expression_is_fine e, each_is_fine es)
 
   arguments_are_fine : (es : Expressions) → ArgumentsAreFine es
-  arguments_are_fine es = left.taken_over es (each_is_fine es)
+  arguments_are_fine es = taken_over es (each_is_fine es)
 
   -- ---- statements
 
@@ -106,11 +107,11 @@ module _ (left : Remaining) where
 
   statements_settle : (ss : Statements) (sc : Scope) → Settling sc (walks.stmts ss sc)
   statements_settle done sc = no_more_settle sc
-  statements_settle (next st rest) sc = next_settles st rest sc (left.settle st sc) (statements_settle rest sc)
+  statements_settle (next st rest) sc = next_settles st rest sc (settle st sc) (statements_settle rest sc)
 
   otherwise_settles : (other : Otherwise) (sc : Scope) → Settling sc (walks.otherwise other sc)
   otherwise_settles (else_block (block ss end)) sc = statements_settle ss sc
-  otherwise_settles (else_choice st) sc = left.settle st sc
+  otherwise_settles (else_choice st) sc = settle st sc
 
   mutual
     pub statement_is_fine : (st : Statement) → FineStatement st
@@ -129,11 +130,11 @@ module _ (left : Remaining) where
 
     pub statements_are_fine : (ss : Statements) → FineStatements ss
     statements_are_fine done = no_more_fine
-    statements_are_fine (next st rest) = next_fine st rest (statement_is_fine st) (statements_are_fine rest) (left.settle st) (statements_settle rest)
+    statements_are_fine (next st rest) = next_fine st rest (statement_is_fine st) (statements_are_fine rest) (settle st) (statements_settle rest)
 
     pub otherwise_is_fine : (other : Otherwise) → FineOtherwise other
     otherwise_is_fine (else_block (block ss end)) = statements_are_fine ss
     otherwise_is_fine (else_choice st) = statement_is_fine st
 
-pub accepted_from_remaining : AcceptedFromRemaining
-accepted_from_remaining left = accepted_where_fine (record { statements = statement_is_fine left; settle = left.settle; arguments = arguments_are_fine left })
+pub accepted_where_settled : AcceptedWhereSettled
+accepted_where_settled settle = accepted_where_fine (record { statements = statement_is_fine settle; settle = settle; arguments = arguments_are_fine settle })

@@ -156,11 +156,6 @@ pub mod StaticFirst
 pub mod Binary
 pub mod HandedPlaces
 pub mod HandedWalks
-pub mod TwoOperands
-pub mod LastPart
-pub mod PartSteps
-pub mod PartAssign
-pub mod PartAssignments
 pub mod Received
 pub mod UnderWay
 pub mod TakenOver
@@ -169,3 +164,4 @@ pub mod ArgumentList
 pub mod ArgumentsDone
 pub mod ArgumentWalk
 pub mod Arguments
+pub mod KeptWalks

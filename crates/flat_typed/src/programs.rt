@@ -3,7 +3,7 @@
 ghost use Rattle.flat_typed.specs.Bodies.{BodyIsFine};
 ghost use Rattle.flat_typed.specs.Instances.{InstancesTell};
 ghost use Rattle.flat_typed.specs.Accepted.{AcceptedWhereFine};
-ghost use Rattle.flat_typed.specs.Remaining.{AcceptedFromRemaining};
+ghost use Rattle.flat_typed.specs.Remaining.{AcceptedWhereSettled};
 
 /// A body is fine, and keeps its const parameters, where its statements and what it returns are fine.
 pub fn body_is_fine()
@@ -21,8 +21,7 @@ pub fn accepted_where_fine()
     ensures { AcceptedWhereFine }
 {}
 
-/// The same from two lemmas, by induction over expressions and statements: values that are taken over in turn are fine where each of their
-/// expressions is, and each statement leaves a settled context.
-pub fn accepted_from_remaining()
-    ensures { AcceptedFromRemaining }
+/// The same where each statement leaves a settled context.
+pub fn accepted_where_settled()
+    ensures { AcceptedWhereSettled }
 {}
