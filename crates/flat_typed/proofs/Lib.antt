@@ -165,3 +165,4 @@ pub mod ArgumentsDone
 pub mod ArgumentWalk
 pub mod Arguments
 pub mod KeptWalks
+pub mod BoundNames
