@@ -50,14 +50,14 @@ pub record Numbered (Q : Param → Value → Known → Type 0) (j i : ℕ) (ps :
   pub shows : operands_at ks m ≡ operands_of known
   pub light : param.held ≡ true → consumed_weight (at_place j) i ps ≡ 0
 
-no_weight : (j i : ℕ) → (j ≡ i → ⊥) → at_place j i ≡ 0
+pub no_weight : (j i : ℕ) → (j ≡ i → ⊥) → at_place j i ≡ 0
 no_weight j i ne = ap (λ b. cond b 1 0) (ne_eqb i j (λ e. ne (sym e)))
 
-if_zero : (b : Bool) (n : ℕ) → n ≡ 0 → cond b 0 n ≡ 0
+pub if_zero : (b : Bool) (n : ℕ) → n ≡ 0 → cond b 0 n ≡ 0
 if_zero true n e = refl
 if_zero false n e = e
 
-light_behind : (j i : ℕ) (ps : List Param) → j < i → consumed_weight (at_place j) i ps ≡ 0
+pub light_behind : (j i : ℕ) (ps : List Param) → j < i → consumed_weight (at_place j) i ps ≡ 0
 light_behind j i [] lt = refl
 light_behind j i (p ∷ ps) lt =
     let a = if_zero p.held (at_place j i) (no_weight j i (λ e. omega (arith, e, lt))) in

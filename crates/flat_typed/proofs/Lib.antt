@@ -159,15 +159,14 @@ pub mod Spreads
 pub mod Kept
 pub mod TakenUses
 pub mod HandedValues
+pub mod Every
 pub mod StaticWalks
 pub mod StaticFirst
 pub mod Binary
 pub mod KeptWalks
 pub mod ChoicesSettle
 pub mod StatementsSettle
-pub mod BoundSettle
 pub mod UnheldValues
 pub mod HandedPlaces
-pub mod AllSettle
 pub mod Rebinding
 pub mod NamesSettle

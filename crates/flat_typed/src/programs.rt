@@ -2,7 +2,7 @@
 
 ghost use Rattle.flat_typed.specs.Bodies.{BodyIsFine};
 ghost use Rattle.flat_typed.specs.Instances.{InstancesTell};
-ghost use Rattle.flat_typed.specs.Accepted.{AcceptedWhereFine};
+ghost use Rattle.flat_typed.specs.Lemmas.{AcceptedIsFlattenable};
 
 /// A body is fine, and keeps its const parameters, where its statements and what it returns are fine.
 pub fn body_is_fine()
@@ -14,8 +14,8 @@ pub fn instances_tell()
     ensures { InstancesTell }
 {}
 
-/// Where each statement is fine and leaves a settled context, and values that are taken over are fine, each program that typing accepts is one
-/// that flattening can take: its effect is fine, and each wire that must not be dropped is returned, measured or forgotten.
-pub fn accepted_where_fine()
-    ensures { AcceptedWhereFine }
+/// Each program that typing accepts is one that flattening can take: its effect is fine, and each wire that must not be dropped is returned,
+/// measured or forgotten.
+pub fn accepted_is_flattenable()
+    ensures { AcceptedIsFlattenable }
 {}
