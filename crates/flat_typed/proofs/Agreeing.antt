@@ -26,27 +26,27 @@ shown_agree U W all v (inr e) = ap (λ ps. cond v.consumed Absent (less_part (pa
 holds_agree : (U W : Places) (all : List Var) (w : WireId) (v : Var) → SameFor U W v → holds U all w v ≡ holds W all w v
 holds_agree U W all w v h = ap (λ k. cond (has_wires v) (times_in w (operands_in k)) 0) (shown_agree U W all v h)
 
-holders_agree : (U W : Places) (all vs : List Var) (w : WireId) → AllOf (SameFor U W) vs → holders U all w vs ≡ holders W all w vs
+pub holders_agree : (U W : Places) (all vs : List Var) (w : WireId) → AllOf (SameFor U W) vs → holders U all w vs ≡ holders W all w vs
 holders_agree U W all [] w h = refl
 holders_agree U W all (v ∷ vs) w h = ap₂ (λ a b. a + b) (holds_agree U W all w v h.0) (holders_agree U W all vs w h.1)
 
-linear_agree : (U W : Places) (all vs : List Var) (w : WireId) → AllOf (SameFor U W) vs → linear_holders U all w vs ≡ linear_holders W all w vs
+pub linear_agree : (U W : Places) (all vs : List Var) (w : WireId) → AllOf (SameFor U W) vs → linear_holders U all w vs ≡ linear_holders W all w vs
 linear_agree U W all [] w h = refl
 linear_agree U W all (v ∷ vs) w h = ap₂ (λ a b. a + b) (ap (λ n. cond (is_linear v.origin) n 0) (holds_agree U W all w v h.0)) (linear_agree U W all vs w h.1)
 
-carriers_agree : (U W : Places) (w : WireId) (vs : List Value) → AllOf (λ v. U v.place ≡ W v.place) vs → carriers U w vs ≡ carriers W w vs
+pub carriers_agree : (U W : Places) (w : WireId) (vs : List Value) → AllOf (λ v. U v.place ≡ W v.place) vs → carriers U w vs ≡ carriers W w vs
 carriers_agree U W w [] h = refl
 carriers_agree U W w (v ∷ vs) h = ap₂ (λ a b. a + b) (ap (times_in w) h.0) (carriers_agree U W w vs h.1)
 
-linear_carried : (U W : Places) (w : WireId) (vs : List Value) → AllOf (λ v. U v.place ≡ W v.place) vs → linear_carriers U w vs ≡ linear_carriers W w vs
+pub linear_carried : (U W : Places) (w : WireId) (vs : List Value) → AllOf (λ v. U v.place ≡ W v.place) vs → linear_carriers U w vs ≡ linear_carriers W w vs
 linear_carried U W w [] h = refl
 linear_carried U W w (v ∷ vs) h = ap₂ (λ a b. a + b) (ap (λ ps. cond (is_linear v.origin) (times_in w ps) 0) h.0) (linear_carried U W w vs h.1)
 
-shares_agree : (U W : Places) (all vs : List Var) (w : WireId) → AllOf (SameFor U W) vs → AllOf (λ v. is_shared v ≡ true → names (shown W all v) w ≡ false) vs → AllOf (λ v. is_shared v ≡ true → names (shown U all v) w ≡ false) vs
+pub shares_agree : (U W : Places) (all vs : List Var) (w : WireId) → AllOf (SameFor U W) vs → AllOf (λ v. is_shared v ≡ true → names (shown W all v) w ≡ false) vs → AllOf (λ v. is_shared v ≡ true → names (shown U all v) w ≡ false) vs
 shares_agree U W all [] w h q = tt
 shares_agree U W all (v ∷ vs) w h q = (λ s. ap (λ k. names k w) (shown_agree U W all v h.0) ∙ q.0 s, shares_agree U W all vs w h.1 q.1)
 
-spares_agree : (U W : Places) (G : Targets) (held : List (List Part)) (vs : List Var) → AllOf (SameFor U W) vs → AllOf (SparesGuarded G held W) vs → AllOf (SparesGuarded G held U) vs
+pub spares_agree : (U W : Places) (G : Targets) (held : List (List Part)) (vs : List Var) → AllOf (SameFor U W) vs → AllOf (SparesGuarded G held W) vs → AllOf (SparesGuarded G held U) vs
 spares_agree U W G held [] h q = tt
 spares_agree U W G held (v ∷ vs) h q = (one h.0, spares_agree U W G held vs h.1 q.1)
   where
@@ -54,7 +54,7 @@ spares_agree U W G held (v ∷ vs) h q = (one h.0, spares_agree U W G held vs h.
     one (inl e) = λ b. clash (sym b ∙ ap (λ t. not ((t || is_part v) || is_shared v)) e)
     one (inr e) = λ b is t k z. subst (λ ps. AllOf (λ w. G w ≡ false) (wires_in (part_of v.ty.shape is ps))) (sym e) (q.0 b is t k z)
 
-carried_agree : (U W : Places) (G : Targets) (vs : List Value) → AllOf (λ v. U v.place ≡ W v.place) vs → AllOf (λ v. AllOf (λ w. G w ≡ false) (wires_in (W v.place))) vs → AllOf (λ v. AllOf (λ w. G w ≡ false) (wires_in (U v.place))) vs
+pub carried_agree : (U W : Places) (G : Targets) (vs : List Value) → AllOf (λ v. U v.place ≡ W v.place) vs → AllOf (λ v. AllOf (λ w. G w ≡ false) (wires_in (W v.place))) vs → AllOf (λ v. AllOf (λ w. G w ≡ false) (wires_in (U v.place))) vs
 carried_agree U W G [] h q = tt
 carried_agree U W G (v ∷ vs) h q = (subst (λ ps. AllOf (λ w. G w ≡ false) (wires_in ps)) (sym h.0) q.0, carried_agree U W G vs h.1 q.1)
 

@@ -3,18 +3,13 @@ use Rattle.std.proofs.Common.{◌≡◌, inl, inr, ℕ, ◌+◌, ◌≤◌, Bool
 use Rattle.std.proofs.lemmas.List.{append-nil}
 use Rattle.std.proofs.lemmas.Bool.{eq-eqb}
 use Rattle.silq_tree.specs.declared.node.NameId.{NameId}
-use Rattle.silq_tree.specs.Syntax.{Expressions}
-use Rattle.silq_types.specs.declared.types.Ty.{Ty}
-use Rattle.silq_types.specs.declared.need.Need.TheVariants as needs
 use Rattle.silq_types.specs.declared.values.Value.{Value}
 use Rattle.silq_types.specs.declared.values.Var.{Var}
 use Rattle.check_scope.specs.declared.uses.Use.{Use}
 use Rattle.check_scope.specs.Context.{Scope, Context}
 use Rattle.check_expr.specs.Owners.{at_place, owns, owners, owned, Sole}
 use Rattle.check_fun.specs.Statement.{bind_names, overwrites_linear}
-use Rattle.silq_mean.specs.declared.receiver.Receiver.{Receiver}
 use Rattle.silq_mean.specs.Effect.{Effect}
-use Rattle.silq_mean.specs.Meaning as meanings
 use Rattle.flat_core.specs.declared.step.WireId.{WireId}
 use Rattle.flat_form.specs.declared.known.Known.{Known}
 use Rattle.flat_form.specs.State.{Flattening, wires_so_far, operands_of}
@@ -27,8 +22,6 @@ use Rattle.flat_typed.specs.Footprint.{used_wires, consumed_wires, Touches, Stay
 use Rattle.flat_typed.specs.Relation.{Outside, Stands, FitsPart, IsTakenOver}
 use Rattle.flat_typed.specs.Done.{Leaves, StmtBegins, StmtDone, changeable}
 use Rattle.flat_typed.specs.Calls.{carried, ArgsDone}
-use Rattle.flat_typed.specs.Scopes.{as_meaning}
-use Rattle.flat_typed.specs.Lemmas.{uses_by}
 use Rattle.flat_typed.proofs.Ordered.{clash}
 use Rattle.flat_typed.proofs.Moving.{all_more}
 use Rattle.flat_typed.proofs.Agreeing.{SameFor, stands_agree}
@@ -36,7 +29,7 @@ use Rattle.flat_typed.proofs.Forgetting.{stands_at}
 use Rattle.flat_typed.proofs.Turns.{sole_now}
 use Rattle.flat_typed.proofs.Reached.{whole_left, made_left, consumed_touches}
 use Rattle.flat_typed.proofs.Naming.{variables_for, IsNamed, SameNames, all_left, in_turn, all_whole, all_named}
-use Rattle.flat_typed.proofs.Handing.{HandedOver, with_all, unowned_stays, each_shows, holders_agree, carriers_agree, carried_same, named_all, low_stays, both_long}
+use Rattle.flat_typed.proofs.Handing.{HandsOver, with_all, unowned_stays, each_shows, holders_agree, carriers_agree, carried_same, named_all, low_stays, both_long}
 
 -- places of live variables are none of values under way
 vars_stay : (U : Places) (vs : List Value) (ks : List Known) (vars : List Var) → ((p : ℕ) → owners p vars + owned p vs ≤ 1) → AllOf (SameFor (with_all U vs ks) U) vars
@@ -50,13 +43,7 @@ vars_stay U vs ks (u ∷ us) h = (go u.consumed refl, vars_stay U vs ks us (λ p
         let c : owns u.place u ≡ 1 = ap (λ t. cond t 0 (at_place u.place u.place)) e ∙ ap (λ t. cond t 1 0) (eq-eqb u.place u.place refl) in
         inr (unowned_stays U vs ks u.place (omega (arith, a, c)))
 
-module _ (sc : Scope) (taker : Ty → Receiver) (es : Expressions) (xs : List NameId) (c d : Context) (vs : List Value) (h : HandedOver sc taker es (variables_for xs) c vs d) (out : Outside) (low : ℕ) (W : Places) (st : Flattening) (b : StmtBegins out sc low (λ p. 0) W c st) where
-  abbrev pub E0 : Effect
-  E0 = meanings.exprs es (as_meaning taker sc) needs.Consumed [] (variables_for xs)
-
-  abbrev us : List Use
-  us = uses_by es sc c (variables_for xs)
-
+module _ (sc : Scope) (E0 : Effect) (us : List Use) (xs : List NameId) (c d : Context) (vs : List Value) (h : HandsOver sc E0 us (variables_for xs) c vs d) (out : Outside) (low : ℕ) (W : Places) (st : Flattening) (b : StmtBegins out sc low (λ p. 0) W c st) where
   abbrev pub handed_done : ArgsDone out sc (variables_for xs) E0 W [] us c st vs d
   handed_done = h.does out low W st b
 

@@ -15,6 +15,7 @@ use Rattle.silq_types.specs.declared.values.Value.{Value}
 use Rattle.silq_types.specs.Types.{at, count}
 use Rattle.silq_types.specs.Rules.{rule, wrong_type}
 use Rattle.check_scope.specs.Walk.{Walk, answer, broken, counted, asked, bind}
+use Rattle.check_scope.specs.declared.uses.Use.{Use}
 use Rattle.check_scope.specs.Context.{Scope, Context, Check, ◌>>=◌, ◌>>◌, fail, give_back}
 use Rattle.check_expr.specs.Owners.{Gives, Ensures}
 use Rattle.check_expr.specs.Expression.{Asked, is_tuple, lone_need, lone_wants, expr, arguments, single, suits}
@@ -37,14 +38,13 @@ use Rattle.flat_typed.specs.Relation.{Outside, IsTakenOver}
 use Rattle.flat_typed.specs.Done.{StmtBegins, StmtDone}
 use Rattle.flat_typed.specs.Calls.{Three}
 use Rattle.flat_typed.specs.Scopes.{as_meaning}
-use Rattle.flat_typed.specs.Lemmas.{Callable}
-use Rattle.flat_typed.specs.Stay.{FreeStatementIsFine}
+use Rattle.flat_typed.specs.Lemmas.{Callable, uses_by, StatementIsFine}
 use Rattle.flat_typed.proofs.Ordered.{clash}
 use Rattle.flat_typed.proofs.Leaving.{k_any}
 use Rattle.flat_typed.proofs.Turns.{Does, line_fine, gives_both}
 use Rattle.flat_typed.proofs.Inside.{fits_none}
 use Rattle.flat_typed.proofs.Naming.{variables_for}
-use Rattle.flat_typed.proofs.Handing.{HandedOver, HandedOverFine}
+use Rattle.flat_typed.proofs.Handing.{HandsOver, HandedOver, HandedOverFine}
 use Rattle.flat_typed.proofs.Assigning.{handed_done, ks, final, assigned_done}
 
 -- ---- what the walk tells
@@ -61,7 +61,7 @@ truly : (b : Bool) → not b ≡ false → b ≡ true
 truly true e = refl
 truly false e = clash e
 
-assigned_tells : (S : InstanceKey → Signature → Type 0) {P : Context → Type 0} (sc : Scope) (s : Spot) (xs : List NameId) (vs : List Value) → Ensures S P (assigned sc s xs vs) (λ u. Assigned P xs vs)
+pub assigned_tells : (S : InstanceKey → Signature → Type 0) {P : Context → Type 0} (sc : Scope) (s : Spot) (xs : List NameId) (vs : List Value) → Ensures S P (assigned sc s xs vs) (λ u. Assigned P xs vs)
 assigned_tells S sc s xs vs =
     o_bind S 0 (o_variables S 0) (λ vars. o_then S 0 (o_rules S 0 s _) (λ u.
     record {
@@ -81,11 +81,11 @@ arguments_long S (more e es) sc other l =
 
 -- ---- lists
 
-take_own : {A : Type 0} (xs : List A) → take (length xs) xs ≡ xs
+pub take_own : {A : Type 0} (xs : List A) → take (length xs) xs ≡ xs
 take_own [] = refl
 take_own (x ∷ xs) = ap (λ l. x ∷ l) (take_own xs)
 
-drop_own : {A : Type 0} (xs : List A) → drop (length xs) xs ≡ []
+pub drop_own : {A : Type 0} (xs : List A) → drop (length xs) xs ≡ []
 drop_own [] = refl
 drop_own (x ∷ xs) = drop_own xs
 
@@ -112,23 +112,20 @@ fits_any (Shown v) = fits_none v.shape
 fits_any (Lent start size v) = fits_none v.shape
 fits_any Absent = tt
 
--- ---- the values of a tuple
+-- ---- values in turn
 
-module _ (sc : Scope) (taker : Ty → Receiver) (es : Expressions) (xs : List NameId) (c d : Context) (vs : List Value) (h : HandedOver sc taker es (variables_for xs) c vs d) (out : Outside) (low : ℕ) (W : Places) (st : Flattening) (b : StmtBegins out sc low (λ p. 0) W c st) where
-  abbrev effect : Effect
-  effect = meanings.exprs es (as_meaning taker sc) needs.Consumed [] (variables_for xs)
-
+module _ (sc : Scope) (effect : Effect) (us_of : List Use) (xs : List NameId) (c d : Context) (vs : List Value) (h : HandsOver sc effect us_of (variables_for xs) c vs d) (out : Outside) (low : ℕ) (W : Places) (st : Flattening) (b : StmtBegins out sc low (λ p. 0) W c st) where
   abbrev s1 : Flattening
   s1 = flat effect st
 
   abbrev ls : List Known
-  ls = ks sc taker es xs c d vs h out low W st b
+  ls = ks sc effect us_of xs c d vs h out low W st b
 
   its_values : s1.values ≡ reverse ls
-  its_values = (handed_done sc taker es xs c d vs h out low W st b).values ∙ (ap (λ l. reverse ls ++ l) b.none ∙ append-nil (reverse ls))
+  its_values = (handed_done sc effect us_of xs c d vs h out low W st b).values ∙ (ap (λ l. reverse ls ++ l) b.none ∙ append-nil (reverse ls))
 
   long : length xs ≡ length ls
-  long = as_long _ _ _ _ _ xs vs ls (handed_done sc taker es xs c d vs h out low W st b).each
+  long = as_long _ _ _ _ _ xs vs ls (handed_done sc effect us_of xs c d vs h out low W st b).each
 
   counted_so : length xs ≡ length (reverse ls)
   counted_so = long ∙ sym (length-reverse ls)
@@ -141,19 +138,19 @@ module _ (sc : Scope) (taker : Ty → Receiver) (es : Expressions) (xs : List Na
   rest : drop (length xs) s1.values ≡ []
   rest = ap (λ l. drop (length xs) l) its_values ∙ (ap (λ n. drop n (reverse ls)) counted_so ∙ drop_own (reverse ls))
 
-  becomes : flat (effect ▸ step (assign_in_turn xs)) st ≡ final sc taker es xs c d vs h out low W st b
+  becomes : flat (effect ▸ step (assign_in_turn xs)) st ≡ final sc effect us_of xs c d vs h out low W st b
   becomes = ap₂ (λ l r. record s1 { env = bind_all s1.env xs l; values = r }) args rest
 
-  pub tuple_done : (g : Context) → length xs ≡ length vs → overwrites_linear d.vars xs vs ≡ false → g ≡ record d { vars = bind_names d.vars xs vs } → StmtDone out sc (effect ▸ step (assign_in_turn xs)) W c st g
-  tuple_done g len over left =
-      assigned_done sc taker es xs c d vs h out low W st b (effect ▸ step (assign_in_turn xs)) g
-      ((handed_done sc taker es xs c d vs h out low W st b).fine, subst (AllOf IsTaken) (sym args) (all_taken _ _ _ _ _ xs vs ls (handed_done sc taker es xs c d vs h out low W st b).each)) becomes len over left
+  pub in_turn_done : (g : Context) → length xs ≡ length vs → overwrites_linear d.vars xs vs ≡ false → g ≡ record d { vars = bind_names d.vars xs vs } → StmtDone out sc (effect ▸ step (assign_in_turn xs)) W c st g
+  in_turn_done g len over left =
+      assigned_done sc effect us_of xs c d vs h out low W st b (effect ▸ step (assign_in_turn xs)) g
+      ((handed_done sc effect us_of xs c d vs h out low W st b).fine, subst (AllOf IsTaken) (sym args) (all_taken _ _ _ _ _ xs vs ls (handed_done sc effect us_of xs c d vs h out low W st b).each)) becomes len over left
 
-pub spread_is_fine : (xs : List NameId) (es : Expressions) (at s : Spot) → HandedOverFine es → FreeStatementIsFine (spread xs (tuple es at) s)
+pub spread_is_fine : (xs : List NameId) (es : Expressions) (at s : Spot) → HandedOverFine es → StatementIsFine (spread xs (tuple es at) s)
 spread_is_fine xs es at s fine sc taker c free =
     line_fine sc c (arguments es sc needs.Consumed [] >>= assigned sc s xs) effect_of s.line
     ((o_bind (Callable sc) 0 values (λ vs. o_more (Callable sc) 0 (assigned_tells (Callable sc) {P = λ d. (length vs ≡ count es) × (count es ≡ length xs → HandedOver sc taker es (variables_for xs) c vs d)} sc s xs vs)
-    (λ u g k out low W st b. tuple_done sc taker es xs c k.before vs (k.is.1 (sym k.is.0 ∙ sym k.long)) out low W st b g k.long k.over k.left))).runs c refl)
+    (λ u g k out low W st b. in_turn_done sc (meanings.exprs es (as_meaning taker sc) needs.Consumed [] (variables_for xs)) (uses_by es sc c (variables_for xs)) xs c k.before vs (k.is.1 (sym k.is.0 ∙ sym k.long)) out low W st b g k.long k.over k.left))).runs c refl)
   where
     effect_of : Effect
     effect_of = meanings.exprs es (as_meaning taker sc) needs.Consumed [] (variables_for xs) ▸ step (assign_in_turn xs)
@@ -173,7 +170,7 @@ spread_is_fine xs es at s fine sc taker c free =
 -- ---- one value
 
 -- what goes on behind a walk tells what it gives
-gives_front : {A B : Type 0} (S : InstanceKey → Signature → Type 0) (P : B → Type 0) (w : Walk A) (f : A → Walk B) → Gives S P (bind w f) → Gives S (λ a. Gives S P (f a)) w
+pub gives_front : {A B : Type 0} (S : InstanceKey → Signature → Type 0) (P : B → Type 0) (w : Walk A) (f : A → Walk B) → Gives S P (bind w f) → Gives S (λ a. Gives S P (f a)) w
 gives_front S P (answer a) f g = g
 gives_front S P (broken e) f g = tt
 gives_front S P (counted w) f g = gives_front S P w f g
@@ -187,7 +184,7 @@ wants_none e = go (is_tuple e)
     go false = refl
 
 -- where one value is no tuple, it is the first of a list of one
-one_handed : (S : InstanceKey → Signature → Type 0) (P : List Value × Context → Type 0) (e : Expression) (sc : Scope) (c : Context) → is_tuple e ≡ false → Gives S P (arguments (more e none) sc needs.Consumed [] c)
+pub one_handed : (S : InstanceKey → Signature → Type 0) (P : List Value × Context → Type 0) (e : Expression) (sc : Scope) (c : Context) → is_tuple e ≡ false → Gives S P (arguments (more e none) sc needs.Consumed [] c)
     → Gives S (λ r. (v : Value) → r.0 ≡ v ∷ [] → P (v ∷ [], r.1)) (expr e sc (lone_need e needs.Consumed) [] c)
 unfolding ◌>>=◌ ◌>>◌
 one_handed S P e sc c t g =
@@ -216,30 +213,36 @@ module _ (sc : Scope) (taker : Ty → Receiver) (e : Expression) (x : NameId) (c
   abbrev one_effect : Effect
   one_effect = meanings.expr e (as_meaning taker sc) needs.Consumed ▸ step (receive Variable)
 
+  abbrev listed_effect : Effect
+  listed_effect = meanings.exprs (more e none) (as_meaning taker sc) needs.Consumed [] (variables_for (x ∷ []))
+
+  abbrev listed_uses : List Use
+  listed_uses = uses_by (more e none) sc c (variables_for (x ∷ []))
+
   abbrev t1 : Flattening
   t1 = flat one_effect st
 
   abbrev ms : List Known
-  ms = ks sc taker (more e none) (x ∷ []) c d (v ∷ []) h out low W st b
+  ms = ks sc listed_effect listed_uses (x ∷ []) c d (v ∷ []) h out low W st b
 
   only : OneKnown ms
-  only = one_known _ _ _ _ _ x v ms (handed_done sc taker (more e none) (x ∷ []) c d (v ∷ []) h out low W st b).each
+  only = one_known _ _ _ _ _ x v ms (handed_done sc listed_effect listed_uses (x ∷ []) c d (v ∷ []) h out low W st b).each
 
   one_value : t1.values ≡ only.known ∷ []
-  one_value = (handed_done sc taker (more e none) (x ∷ []) c d (v ∷ []) h out low W st b).values ∙ (ap (λ l. reverse l ++ st.values) only.all ∙ ap (λ l. only.known ∷ l) b.none)
+  one_value = (handed_done sc listed_effect listed_uses (x ∷ []) c d (v ∷ []) h out low W st b).values ∙ (ap (λ l. reverse l ++ st.values) only.all ∙ ap (λ l. only.known ∷ l) b.none)
 
   abbrev bound_to : List Known → Flattening
   bound_to l = record t1 { env = bound t1.env x (as_variable (first l)); values = drop 1 l }
 
-  name_becomes : flat (one_effect ▸ step (assign_to x [])) st ≡ final sc taker (more e none) (x ∷ []) c d (v ∷ []) h out low W st b
+  name_becomes : flat (one_effect ▸ step (assign_to x [])) st ≡ final sc listed_effect listed_uses (x ∷ []) c d (v ∷ []) h out low W st b
   name_becomes = ap bound_to one_value ∙ ap (λ q. record t1 { env = bind_all t1.env (x ∷ []) q; values = [] }) (sym only.all)
 
   pub name_done : (g : Context) → overwrites_linear d.vars (x ∷ []) (v ∷ []) ≡ false → g ≡ record d { vars = bind_names d.vars (x ∷ []) (v ∷ []) } → StmtDone out sc (one_effect ▸ step (assign_to x [])) W c st g
   name_done g over left =
-      assigned_done sc taker (more e none) (x ∷ []) c d (v ∷ []) h out low W st b (one_effect ▸ step (assign_to x [])) g
-      ((handed_done sc taker (more e none) (x ∷ []) c d (v ∷ []) h out low W st b).fine.0, (subst (λ l. IsTaken (first l)) (sym one_value) only.taken, fits_any (known_in t1 x))) name_becomes refl over left
+      assigned_done sc listed_effect listed_uses (x ∷ []) c d (v ∷ []) h out low W st b (one_effect ▸ step (assign_to x [])) g
+      ((handed_done sc listed_effect listed_uses (x ∷ []) c d (v ∷ []) h out low W st b).fine.0, (subst (λ l. IsTaken (first l)) (sym one_value) only.taken, fits_any (known_in t1 x))) name_becomes refl over left
 
-pub assign_is_fine : (x : NameId) (e : Expression) (s : Spot) → HandedOverFine (more e none) → FreeStatementIsFine (assign (whole x) e s)
+pub assign_is_fine : (x : NameId) (e : Expression) (s : Spot) → HandedOverFine (more e none) → StatementIsFine (assign (whole x) e s)
 assign_is_fine x e s fine sc taker c free =
     line_fine sc c (assign_name sc x e s) its_effect s.line
     ((o_bind (Callable sc) 0 (values (is_tuple e) refl) (λ vs. o_then (Callable sc) 0 (o_rules (Callable sc) 0 (at e) _) (λ u. o_more (Callable sc) 0 (o_from (Callable sc) 0 (λ d h. (h.0.0, h.1)) (assigned_tells (Callable sc) {P = λ d. (is_tuple e ≡ false) × (is_tuple e ≡ false → Handed vs d)} sc s (x ∷ []) vs))

@@ -62,7 +62,7 @@ bound_sum f g h vs x u = go (find_var vs (variable x)) refl
 
 -- ---- lists of variables
 
-all_appended : (Q : Var → Type 0) (vs : List Var) (u : Var) → AllOf Q vs → Q u → AllOf Q (vs ++ u ∷ [])
+pub all_appended : (Q : Var → Type 0) (vs : List Var) (u : Var) → AllOf Q vs → Q u → AllOf Q (vs ++ u ∷ [])
 all_appended Q [] u h q = (q, tt)
 all_appended Q (w ∷ ws) u h q = (h.0, all_appended Q ws u h.1 q)
 
@@ -81,7 +81,7 @@ none_has (y ∷ ys) x e w h = go (same_part y.part (variable x)) refl e (λ d. n
     go true s e i = absurd (grind (arith, e))
     go false s e i = (s, i e)
 
-part_swap : (p q : Part) → same_part p q ≡ false → same_part q p ≡ false
+pub part_swap : (p q : Part) → same_part p q ≡ false → same_part q p ≡ false
 part_swap p q s = go (same_part q p) refl
   where
     go : (t : Bool) → same_part q p ≡ t → t ≡ false
@@ -116,13 +116,13 @@ none_out (v ∷ vs) y h = ap (λ t. cond (t && (v.consumed && same_name v.part.n
 
 -- ---- parts of lists of wires
 
-all_take : (Q : WireId → Type 0) (n : ℕ) (ps : List Operand) → AllOf Q (wires_in ps) → AllOf Q (wires_in (take n ps))
+pub all_take : (Q : WireId → Type 0) (n : ℕ) (ps : List Operand) → AllOf Q (wires_in ps) → AllOf Q (wires_in (take n ps))
 all_take Q zero ps h = tt
 all_take Q (suc n) [] h = tt
 all_take Q (suc n) (Const b ∷ ps) h = all_take Q n ps h
 all_take Q (suc n) (Literal l ∷ ps) h = (h.0, all_take Q n ps h.1)
 
-all_drop : (Q : WireId → Type 0) (n : ℕ) (ps : List Operand) → AllOf Q (wires_in ps) → AllOf Q (wires_in (drop n ps))
+pub all_drop : (Q : WireId → Type 0) (n : ℕ) (ps : List Operand) → AllOf Q (wires_in ps) → AllOf Q (wires_in (drop n ps))
 all_drop Q zero ps h = h
 all_drop Q (suc n) [] h = tt
 all_drop Q (suc n) (Const b ∷ ps) h = all_drop Q n ps h

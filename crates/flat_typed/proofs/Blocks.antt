@@ -24,7 +24,7 @@ use Rattle.flat_typed.specs.Relation.{Outside, Stands}
 use Rattle.flat_typed.specs.Done.{StmtBegins, StmtDone, MadeSince}
 use Rattle.flat_typed.specs.Lemmas.{Callable, StmtFine, BlocksAreFine}
 use Rattle.flat_typed.specs.Stay.{HadOwner, Stayed, Goes, Keeps}
-use Rattle.flat_typed.specs.Uses.{NoStatics}
+use Rattle.flat_typed.specs.Scopes.{NoStatics}
 use Rattle.flat_typed.proofs.Using.{all_names, drop_map, length_map}
 use Rattle.flat_typed.proofs.Closing.{stands_closed, all_of_take}
 use Rattle.flat_typed.proofs.Turns.{Does}
@@ -64,7 +64,7 @@ stands_opened out sc W c s r = record {
   owed = λ w o. r.owed w (record { there = o.there; untold = o.untold; why = o.why });
 }
 
-begins_opened : (out : Outside) (sc : Scope) (low : ℕ) (W : Places) (c : Context) (s : Flattening) → StmtBegins out sc low (λ p. 0) W c s → StmtBegins out sc low (λ p. 0) W c (record s { env = [] ∷ s.env })
+pub begins_opened : (out : Outside) (sc : Scope) (low : ℕ) (W : Places) (c : Context) (s : Flattening) → StmtBegins out sc low (λ p. 0) W c s → StmtBegins out sc low (λ p. 0) W c (record s { env = [] ∷ s.env })
 begins_opened out sc low W c s b = record {
   good = good_opened s b.good;
   unmade = b.unmade;

@@ -48,7 +48,7 @@ use Rattle.flat_typed.proofs.Giving.{Beyond, GivesValue}
 
 -- ---- a variable that stays
 
-replace_same : (vs : List Var) (p : Part) (v : Var) → find_var vs p ≡ Some v → v.part ≡ p → replace vs v ≡ vs
+pub replace_same : (vs : List Var) (p : Part) (v : Var) → find_var vs p ≡ Some v → v.part ≡ p → replace vs v ≡ vs
 replace_same [] p v e q = refl
 replace_same (w ∷ ws) p v e q = go (same_part w.part p) refl e (λ d. replace_same ws p v d q)
   where
@@ -79,7 +79,7 @@ stands_seen out held W under c s x k l e r = record {
 }
 
 -- operands whose wires are there
-times_there : (n : ℕ) (w : WireId) (ps : List Operand) → AllSafe n no_target ps → 1 ≤ times_in w ps → w.number < n
+pub times_there : (n : ℕ) (w : WireId) (ps : List Operand) → AllSafe n no_target ps → 1 ≤ times_in w ps → w.number < n
 times_there n w [] h le = absurd (omega (arith, le))
 times_there n w (Const b ∷ ps) h le = times_there n w ps h.1 le
 times_there n w (Literal l ∷ ps) h le = go (same_wire l.wire w) refl le (times_there n w ps h.1)
@@ -94,13 +94,13 @@ any_among w (Const b ∷ ps) = any_among w ps
 any_among w (Literal l ∷ ps) = ap₂ (λ a b. a || b) (same_swap l.wire w) (any_among w ps)
 
 module _ (out : Outside) (held : List (List Part)) (W : Places) (under : List Value) (c : Context) (s : Flattening) (st : Stands out held W under c s) (good : Good s) (u : Use) (h : IsThere held c.vars u) where
-  abbrev bits : TypedBits
+  abbrev pub bits : TypedBits
   bits = bits_for W h.owner
 
-  abbrev is : List ℤ
+  abbrev pub is : List ℤ
   is = indices u.part
 
-  abbrev x : NameId
+  abbrev pub x : NameId
   x = u.part.name
 
   known_less : (r : Option Var) → part_out c.vars x ≡ r → known_in s x ≡ less_part r bits
@@ -139,10 +139,10 @@ module _ (out : Outside) (held : List (List Part)) (W : Places) (under : List Va
       go (Some p) e = subst (λ k. MayUse is k × FitsIndex is k) (sym (known_less (Some p) e)) (beside p e, index)
 
   module _ (need : Need) (still : (is_consumed need && not h.owner.ty.classical) ≡ false) where
-    abbrev given : Known
+    abbrev pub given : Known
     given = part_used (wires_so_far s) need is bits
 
-    given_is : use_part (wires_so_far s) need is (known_in s x) ≡ given
+    pub given_is : use_part (wires_so_far s) need is (known_in s x) ≡ given
     given_is = go (part_out c.vars x) refl
       where
         go : (r : Option Var) → part_out c.vars x ≡ r → use_part (wires_so_far s) need is (known_in s x) ≡ given

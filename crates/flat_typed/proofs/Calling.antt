@@ -13,21 +13,20 @@ use Rattle.silq_mean.specs.Written.{is_empty}
 use Rattle.silq_mean.specs.Effect.{nothing}
 use Rattle.silq_mean.specs.Meaning as meanings
 use Rattle.flat_typed.specs.Scopes.{as_meaning}
-use Rattle.flat_typed.specs.Lemmas.{Callable, ExpressionIsFine}
-use Rattle.flat_typed.specs.Stay.{FreeStatementIsFine}
+use Rattle.flat_typed.specs.Lemmas.{Callable, ExpressionIsFine, StatementIsFine}
 use Rattle.flat_typed.proofs.Ordered.{clash}
 use Rattle.flat_typed.proofs.Turns.{Does, line_fine, done_nothing}
 use Rattle.flat_typed.proofs.Phases.{call_is_fine}
 use Rattle.flat_typed.proofs.Assignments.{arguments_long}
 
 -- a tuple gives no value where it has no item, and else it is refused
-no_items : (at s : Spot) → FreeStatementIsFine (call (tuple none at) s)
+no_items : (at s : Spot) → StatementIsFine (call (tuple none at) s)
 no_items at s sc taker c free =
     line_fine sc c (arguments none sc needs.Consumed [] >>= (λ vs. rules s ((not (is_empty vs), result_count) ∷ []))) nothing s.line
     ((o_bind (Callable sc) 0 (o_back (Callable sc) 0 [] {Q = λ vs d. d ≡ c} (λ d h. h)) (λ vs. o_more (Callable sc) 0 (o_rules (Callable sc) 0 s _) (λ u d h.
     subst (Does sc c nothing) (sym h.1) (λ out low W st b. done_nothing out sc low W c st b)))).runs c refl)
 
-some_items : (e : Expression) (es : Expressions) (at s : Spot) → FreeStatementIsFine (call (tuple (more e es) at) s)
+some_items : (e : Expression) (es : Expressions) (at s : Spot) → StatementIsFine (call (tuple (more e es) at) s)
 some_items e es at s sc taker c free =
     line_fine sc c (arguments (more e es) sc needs.Consumed [] >>= (λ vs. rules s ((not (is_empty vs), result_count) ∷ []))) (meanings.expr (tuple (more e es) at) (as_meaning taker sc) needs.Consumed) s.line
     ((o_bind (Callable sc) 0 (arguments_long (Callable sc) (more e es) sc needs.Consumed []) (λ vs. o_more (Callable sc) 0 (o_rules (Callable sc) 0 s _) (λ u d h. none_left vs d h.0.0 h.1))).runs c tt)
@@ -36,7 +35,7 @@ some_items e es at s sc taker c free =
     none_left [] d n l = absurd (omega (arith, l))
     none_left (v ∷ vs) d n l = clash n
 
-pub every_call_is_fine : (e : Expression) (s : Spot) → ExpressionIsFine e → FreeStatementIsFine (call e s)
+pub every_call_is_fine : (e : Expression) (s : Spot) → ExpressionIsFine e → StatementIsFine (call e s)
 every_call_is_fine (number n t) s fine = call_is_fine (number n t) s fine refl
 every_call_is_fine (typed_number n k t) s fine = call_is_fine (typed_number n k t) s fine refl
 every_call_is_fine (truth b t) s fine = call_is_fine (truth b t) s fine refl

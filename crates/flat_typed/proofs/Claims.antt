@@ -22,7 +22,7 @@ use Rattle.silq_mean.specs.Env.{Env, Block, is_in_block, block_with, in_its_bloc
 use Rattle.flat_form.specs.declared.known.Known.{Known}
 use Rattle.flat_form.specs.Names.{AllOf}
 use Rattle.flat_form.specs.Shows.{ListBoth}
-use Rattle.flat_typed.specs.Uses.{NoStatics}
+use Rattle.flat_typed.specs.Scopes.{NoStatics}
 use Rattle.flat_typed.specs.Lemmas.{Callable, ExpressionIsFine}
 use Rattle.flat_typed.proofs.Ordered.{clash}
 use Rattle.flat_typed.proofs.Parts.{name_refl, found_there}
@@ -57,7 +57,7 @@ or_both : (a b : Bool) → (a || b) ≡ false → (a ≡ false) × (b ≡ false)
 or_both true b e = clash e
 or_both false b e = (refl, e)
 
-truly : (b : Bool) → not b ≡ false → b ≡ true
+pub truly : (b : Bool) → not b ≡ false → b ≡ true
 truly true e = refl
 truly false e = clash e
 

@@ -58,7 +58,7 @@ none_linear W all w v h = go (is_linear v.origin) v.consumed refl h
     go true true e h = ap (λ t. cond (not ((t || is_part v) || is_shared v)) (times_in w (operands_in (shown W all v))) 0) e
     go true false e h = clash h
 
-no_linear : (W : Places) (all : List Var) (w : WireId) (vs : List Var) → AllOf (λ v. is_live_linear v ≡ false) vs → linear_holders W all w vs ≡ 0
+pub no_linear : (W : Places) (all : List Var) (w : WireId) (vs : List Var) → AllOf (λ v. is_live_linear v ≡ false) vs → linear_holders W all w vs ≡ 0
 no_linear W all w [] h = refl
 no_linear W all w (v ∷ vs) h = let a = none_linear W all w v h.0 in let b = no_linear W all w vs h.1 in omega (arith, a, b)
 

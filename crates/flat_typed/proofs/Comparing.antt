@@ -34,8 +34,7 @@ use Rattle.flat_typed.specs.Relation.{Outside, Stands, FitsPart, IsAnswer}
 use Rattle.flat_typed.specs.Done.{outer_names, Leaves, ExprDone, StmtBegins, StmtDone, MadeSince, carrying, changeable}
 use Rattle.flat_typed.specs.Scopes.{as_meaning}
 use Rattle.flat_typed.specs.Uses.{IsThere}
-use Rattle.flat_typed.specs.Lemmas.{Callable, ExpressionIsFine}
-use Rattle.flat_typed.specs.Stay.{FreeStatementIsFine}
+use Rattle.flat_typed.specs.Lemmas.{Callable, ExpressionIsFine, StatementIsFine}
 use Rattle.flat_typed.proofs.Ordered.{clash, reach_in_order}
 use Rattle.flat_typed.proofs.Parts.{there_entry, found_there}
 use Rattle.flat_typed.proofs.Binding.{none_out}
@@ -210,7 +209,7 @@ module _ (x : NameId) (e : Expression) (sc : Scope) (taker : Ty → Receiver) (c
   })
 
 -- forgetting by a value is fine
-pub forget_value_is_fine : (x : NameId) (e : Expression) (s : Spot) → ExpressionIsFine e → FreeStatementIsFine (forget_value x e s)
+pub forget_value_is_fine : (x : NameId) (e : Expression) (s : Spot) → ExpressionIsFine e → StatementIsFine (forget_value x e s)
 forget_value_is_fine x e s fine sc taker c free =
     line_fine sc c (forget_as sc x e s) (meanings.expr e (as_meaning taker sc) needs.Held >> claim s.line x >> step (end_compared x)) s.line
     (gives-more (Callable sc) 0 (λ r. Claimed sc taker x e c r.1) (λ r. Does sc c (meanings.expr e (as_meaning taker sc) needs.Held >> claim s.line x >> step (end_compared x)) r.1) (forget_as sc x e s c)

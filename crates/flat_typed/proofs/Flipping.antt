@@ -195,7 +195,7 @@ module _ (T : Targets) (n : ℕ) where
 
   -- ---- sums
 
-  carry_bit_f : (at : Setting) (p q c : Operand) (b : Built) → n ≤ length b.draft.wires → Flips T n b (carry_bit at (next_wire b) p q c (new_wire b))
+  pub carry_bit_f : (at : Setting) (p q c : Operand) (b : Built) → n ≤ length b.draft.wires → Flips T n b (carry_bit at (next_wire b) p q c (new_wire b))
   carry_bit_f at p q c b le = flips_then (flips_wire b) (flip_by_f at (next_wire b) ((p ∷ q ∷ []) ∷ (p ∷ c ∷ []) ∷ (q ∷ c ∷ []) ∷ []) (new_wire b) (later (flips_wire b) le) (next_may b le))
 
   carries_f : (at : Setting) (c : Operand) (ps qs : List Operand) (b : Built) → n ≤ length b.draft.wires → Flips T n b (carries at c ps qs b).built
@@ -267,10 +267,10 @@ module _ (T : Targets) (n : ℕ) where
   differ_as_f at (Literal l) (Const y) p q b le = flips_same b
   differ_as_f at (Literal l) (Literal m) p q b le = flips_then (flips_wire b) (flip_by_f at (next_wire b) (alone p ∷ alone q ∷ []) (new_wire b) (later (flips_wire b) le) (next_may b le))
 
-  differ_f : (at : Setting) (p q : Operand) (b : Built) → n ≤ length b.draft.wires → Flips T n b (differ at p q b).built
+  pub differ_f : (at : Setting) (p q : Operand) (b : Built) → n ≤ length b.draft.wires → Flips T n b (differ at p q b).built
   differ_f at p q b le = differ_as_f at (read b.draft p) (read b.draft q) p q b le
 
-  matches_f : (at : Setting) (ps qs : List Operand) (b : Built) → n ≤ length b.draft.wires → Flips T n b (matches at ps qs b).built
+  pub matches_f : (at : Setting) (ps qs : List Operand) (b : Built) → n ≤ length b.draft.wires → Flips T n b (matches at ps qs b).built
   matches_f at [] [] b le = flips_same b
   matches_f at [] (q ∷ qs) b le = flips_same b
   matches_f at (p ∷ ps) [] b le = flips_same b

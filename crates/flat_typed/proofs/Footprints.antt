@@ -33,7 +33,7 @@ use Rattle.flat_typed.proofs.Apart.{two_beside, no_prefixes, used_part, wires_ar
 
 -- ---- sums over variables
 
-one_found : (W : Places) (all vs : List Var) (w : WireId) (p : Part) (v : Var) → find_var vs p ≡ Some v → holds W all w v ≤ holders W all w vs
+pub one_found : (W : Places) (all vs : List Var) (w : WireId) (p : Part) (v : Var) → find_var vs p ≡ Some v → holds W all w v ≤ holders W all w vs
 one_found W all [] w p v e = absurd (grind (arith, e))
 one_found W all (z ∷ zs) w p v e = go (same_part z.part p) e (λ f. one_found W all zs w p v f)
   where
@@ -54,7 +54,7 @@ two_found W all (z ∷ zs) w x y v u e f n = go (same_part z.part (variable x)) 
     go false g true h e f i = let a : holds W all w z ≡ holds W all w u = ap (holds W all w) (some_same z u f) in let b = one_found W all zs w (variable x) v e in omega (arith, a, b)
     go false g false h e f i = let a = i e f in omega (arith, a)
 
-named_none : (w : WireId) (ps : List Operand) → list_any (named_by w) ps ≡ false → times_in w ps ≡ 0
+pub named_none : (w : WireId) (ps : List Operand) → list_any (named_by w) ps ≡ false → times_in w ps ≡ 0
 named_none w [] e = refl
 named_none w (p ∷ ps) e = go (named_by w p) e (named_none w ps)
   where
@@ -150,7 +150,7 @@ module _ (out : Outside) (held : List (List Part)) (W : Places) (under : List Va
   abbrev bits : (u : Use) → IsThere held c.vars u → List Operand
   bits u h = used_part out held W under c s st u h
 
-  owner_shows : (u : Use) (h : IsThere held c.vars u) → is_shared h.owner ≡ false → (w : WireId) → holds W c.vars w h.owner ≡ times_in w (operands_in (shown W c.vars h.owner))
+  pub owner_shows : (u : Use) (h : IsThere held c.vars u) → is_shared h.owner ≡ false → (w : WireId) → holds W c.vars w h.owner ≡ times_in w (operands_in (shown W c.vars h.owner))
   owner_shows u h q w =
       ap (λ t. cond t (times_in w (operands_in (shown W c.vars h.owner))) 0)
       (ap (λ t. not ((t || is_part h.owner) || is_shared h.owner)) h.live

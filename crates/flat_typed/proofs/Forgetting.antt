@@ -165,6 +165,6 @@ module _ (out : Outside) (sc : Scope) (low : ℕ) (W : Places) (c : Context) (st
 
 -- forgetting by itself is fine
 pub forget_is_fine : (x : NameId) (s : Spot) → StatementIsFine (forget x s)
-forget_is_fine x s sc taker c =
+forget_is_fine x s sc taker c free =
     gives-more (Callable sc) 0 (λ r. Ended c x r.1) (λ r. (out : Outside) (low : ℕ) (W : Places) (st : Flattening) → StmtBegins out sc low (λ p. 0) W c st → StmtDone out sc (statement s.line (step (end_name x))) W c st r.1)
     (stmt (forget x s) sc c) ((ended (Callable sc) 0 c x sc s).runs c refl) (λ r h out low W st b. forgotten out sc low W c st x s r.1 h b)

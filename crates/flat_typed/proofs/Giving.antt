@@ -102,11 +102,11 @@ module _ (out : Outside) (held : List (List Part)) (W : Places) (need : Need) (u
   abbrev Gives : Flattening → Type 0
   Gives e = GivesValue out held W need used consumed n low under c s rest v e
 
-  none_carried : (t : Bool) → cond (t && false) (v ∷ []) [] ≡ []
+  pub none_carried : (t : Bool) → cond (t && false) (v ∷ []) [] ≡ []
   none_carried true = refl
   none_carried false = refl
 
-  pub gives_borrowed : (cl : Bool) (sh : Shape) (m : ℕ) (g : Given (List Operand)) → IsNew low v cl sh → n ≤ m → Fresh s.built.draft → Works used n s g → Stands out held W under c s
+  unfoldable pub gives_borrowed : (cl : Bool) (sh : Shape) (m : ℕ) (g : Given (List Operand)) → IsNew low v cl sh → n ≤ m → Fresh s.built.draft → Works used n s g → Stands out held W under c s
       → Gives (record s { built = g.built; values = Shown (record { classical = cl; shape = sh; operands = g.answer; own = false; began = m }) ∷ rest })
   gives_borrowed cl sh m g new le fresh works r = record {
     answer = Shown (record { classical = cl; shape = sh; operands = g.answer; own = false; began = m });

@@ -10,11 +10,13 @@ use Rattle.silq_types.specs.declared.need.Need.TheVariants as needs
 use Rattle.silq_types.specs.declared.values.Value.{Value}
 use Rattle.silq_types.specs.declared.values.Var.{Var}
 use Rattle.silq_types.specs.Types.{is_held, count}
+use Rattle.check_scope.specs.declared.uses.Use.{Use}
 use Rattle.check_scope.specs.Context.{Scope, Context}
 use Rattle.check_expr.specs.Owners.{at_place, owned, Sole, Gives}
 use Rattle.check_expr.specs.Expression.{arguments}
 use Rattle.silq_mean.specs.declared.receiver.Receiver.{Receiver}
 use Rattle.silq_mean.specs.declared.receiver.Receiver.TheVariants.{Variable}
+use Rattle.silq_mean.specs.Effect.{Effect}
 use Rattle.silq_mean.specs.Meaning as meanings
 use Rattle.flat_core.specs.declared.step.WireId.{WireId}
 use Rattle.bit_arith.specs.declared.operand.Operand.{Operand}
@@ -29,8 +31,8 @@ use Rattle.flat_typed.specs.Places.{Places, with_place, has_wires, part_out, les
 use Rattle.flat_typed.specs.Relation.{Outside, FitsPart, IsTakenOver, AllNew}
 use Rattle.flat_typed.specs.Done.{Agree, StmtBegins}
 use Rattle.flat_typed.specs.Calls.{Three, carried, ArgsDone}
-use Rattle.flat_typed.specs.Scopes.{as_meaning}
-use Rattle.flat_typed.specs.Uses.{IsThere, NoStatics}
+use Rattle.flat_typed.specs.Scopes.{as_meaning, NoStatics}
+use Rattle.flat_typed.specs.Uses.{IsThere}
 use Rattle.flat_typed.specs.Lemmas.{Callable, uses_by}
 use Rattle.flat_typed.proofs.Agreeing.{SameFor}
 use Rattle.flat_typed.proofs.Making.{its_place}
@@ -46,12 +48,17 @@ pub record IsGiven (U : Places) (low : ℕ) (vars : List Var) (under : List Valu
   pub new : v.ty.classical ≡ true → low ≤ v.place
   pub shares : v.ty.classical ≡ true → (w : WireId) → 1 ≤ owners_of U vars under w → names k w ≡ false
 
-pub record HandedOver (sc : Scope) (taker : Ty → Receiver) (es : Expressions) (takers : List Receiver) (c : Context) (vs : List Value) (d : Context) : Type 0 where
-  pub does : (out : Outside) (low : ℕ) (W : Places) (s : Flattening) → StmtBegins out sc low (λ p. 0) W c s → ArgsDone out sc takers (meanings.exprs es (as_meaning taker sc) needs.Consumed [] takers) W [] (uses_by es sc c takers) c s vs d
+-- an effect hands values over, and uses parts that are there
+pub record HandsOver (sc : Scope) (e : Effect) (us : List Use) (takers : List Receiver) (c : Context) (vs : List Value) (d : Context) : Type 0 where
+  pub does : (out : Outside) (low : ℕ) (W : Places) (s : Flattening) → StmtBegins out sc low (λ p. 0) W c s → ArgsDone out sc takers e W [] us c s vs d
   pub given : (out : Outside) (low : ℕ) (W : Places) (s : Flattening) (b : StmtBegins out sc low (λ p. 0) W c s) → ListBoth (IsGiven (does out low W s b).after c.next d.vars (carried takers vs)) vs (does out low W s b).answers
-  pub there : (W : Places) → AllOf (FitsPart W c.vars) c.vars → AllOf (IsThere sc.held c.vars) (uses_by es sc c takers)
+  pub there : (W : Places) → AllOf (FitsPart W c.vars) c.vars → AllOf (IsThere sc.held c.vars) us
   pub left : (W : Places) → AllOf (FitsPart W c.vars) c.vars → AllLeft c.vars d.vars
   pub sole : Sole c.next (λ p. 0) c → Sole c.next (λ p. owned p vs) d
+
+-- the values of some expressions
+abbrev pub HandedOver : Scope → (Ty → Receiver) → Expressions → List Receiver → Context → List Value → Context → Type 0
+HandedOver sc taker es takers c vs d = HandsOver sc (meanings.exprs es (as_meaning taker sc) needs.Consumed [] takers) (uses_by es sc c takers) takers c vs d
 
 -- the values of some expressions that names take over
 abbrev pub HandedOverFine : Expressions → Type 0

@@ -67,7 +67,7 @@ module _ (f g : Var → ℕ) (F G : List Var → ℕ) (recF : (v : Var) (vs : Li
       go false s e i = let a = recF v vs in let b = recG v vs in let q = same (is_part v) refl s in let r = i e in omega (arith, a, b, q, r)
 
 -- a part owns nothing
-part_holds : (W : Places) (all : List Var) (w : WireId) (u : Var) → is_part u ≡ true → holds W all w u ≡ 0
+pub part_holds : (W : Places) (all : List Var) (w : WireId) (u : Var) → is_part u ≡ true → holds W all w u ≡ 0
 part_holds W all w u q = ap (λ t. cond (not ((u.consumed || t) || is_shared u)) (times_in w (operands_in (shown W all u))) 0) q ∙ flat u.consumed
   where
     flat : (t : Bool) → cond (not ((t || true) || is_shared u)) (times_in w (operands_in (shown W all u))) 0 ≡ 0
@@ -84,7 +84,7 @@ differ_spent (v ∷ vs) p e d = go (same_part v.part p.part) refl e (λ q. diffe
         subst (λ t. PartsDiffer (cond t (spent p ∷ vs) (v ∷ replace vs (spent p)))) (sym s)
         (all_replaced (λ (u : Var). same_part u.part v.part ≡ false) vs (spent p) d.0 (found_all (λ (u : Var). same_part u.part v.part ≡ false) vs p.part p e d.0), i e)
 
-name_swap : (y x : NameId) → same_name y x ≡ false → same_name x y ≡ false
+pub name_swap : (y x : NameId) → same_name y x ≡ false → same_name x y ≡ false
 name_swap y x n = go (same_name x y) refl
   where
     go : (t : Bool) → same_name x y ≡ t → t ≡ false

@@ -44,14 +44,14 @@ use Rattle.flat_typed.proofs.Giving.{Beyond, is_beyond, GivesValue}
 -- ---- what a gate or a measure may take
 
 -- where nothing below on the stack names its wires
-pub may_take : (out : Outside) (held : List (List Part)) (W : Places) (used consumed : Targets) (n low : ℕ) (under : List Value) (c : Context) (s : Flattening) (v : Value) (u : TypedBits) → Good s → KnowsBefore n s → NoneNames (among (wires_in (W v.place))) (drop 1 s.values)
+pub may_take : (out : Outside) (held : List (List Part)) (W : Places) (used consumed : Targets) (n low : ℕ) (under : List Value) (c : Context) (s : Flattening) (v : Value) (u : TypedBits) → Good s → KnowsBefore n s → (u.own ≡ true → NoneNames (among (wires_in (W v.place))) (drop 1 s.values))
     → Offer W needs.Consumed used consumed n low v u → Around out W n low under c s v (Shown u) → Stands out held W (carrying needs.Consumed (v ∷ []) (Shown u ∷ []) ++ under) c s → MayTake u s
 may_take out held W used consumed n low under c s v u good before apart o a r = go u.own refl
   where
     go : (t : Bool) → u.own ≡ t → (t || are_new s.built.draft u.began u.operands) ≡ true → MayChange (wires_in u.operands) s (drop_last s)
     go true e keeps =
         subst (λ ps. MayChange (wires_in ps) s (drop_last s)) (sym (o.own refl e).0)
-        (value_may_change out held W v under c s good (subst (λ t. Stands out held W (cond t (v ∷ []) [] ++ under) c s) e r) apart)
+        (value_may_change out held W v under c s good (subst (λ t. Stands out held W (cond t (v ∷ []) [] ++ under) c s) e r) (apart e))
     go false e keeps = fresh_may_change n u s before a.grown o.began keeps o.differ a.there
 
 -- ---- measures
@@ -197,7 +197,7 @@ module _ (out : Outside) (held : List (List Part)) (W : Places) (need : Need) (u
       below w a = (k.stands.free w (let q = subst (λ ps. 1 ≤ times_in w ps) k.own.0 (among_times w t.answer a) in omega (arith, q))).0
 
   -- a measure outside all conditions
-  pub measure_done : last s ≡ Shown u → s.setting.condition ≡ None → Good s → KnowsBefore n s → NoneNames (among (wires_in (W x.place))) (drop 1 s.values) → Offer W needs.Consumed used consumed n low x u → Around out W n low under c s x (Shown u)
+  pub measure_done : last s ≡ Shown u → s.setting.condition ≡ None → Good s → KnowsBefore n s → (u.own ≡ true → NoneNames (among (wires_in (W x.place))) (drop 1 s.values)) → Offer W needs.Consumed used consumed n low x u → Around out W n low under c s x (Shown u)
       → Stands out held W (carrying needs.Consumed (x ∷ []) (Shown u ∷ []) ++ under) c s → low ≤ p → Outcome out held W need used consumed n low under c s outcome_of
   measure_done e clear good before apart o a r le =
       let k : Carried out held W used consumed n low under c s x t = carried_taken out held W used consumed n low under c s x u needs.Consumed o a refl r in

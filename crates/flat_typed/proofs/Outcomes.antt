@@ -45,7 +45,7 @@ module _ (out : Outside) (sc : Scope) (need : Need) (e : Effect) (W : Places) (u
   Answers ks = ListBoth (IsAnswer o.after needs.Consumed (used_wires W c.vars us) (consumed_wires W c.vars us) (wires_so_far s) c.next) (x ∷ []) ks
 
   -- outside all conditions, where nothing below on the stack names its wires
-  pub measured_expr : (u : TypedBits) → o.answers ≡ Shown u ∷ [] → (flat e s).setting.condition ≡ None → Good (flat e s) → KnowsBefore (wires_so_far s) (flat e s) → NoneNames (among (wires_in (o.after x.place))) s.values
+  pub measured_expr : (u : TypedBits) → o.answers ≡ Shown u ∷ [] → (flat e s).setting.condition ≡ None → Good (flat e s) → KnowsBefore (wires_so_far s) (flat e s) → (u.own ≡ true → NoneNames (among (wires_in (o.after x.place))) s.values)
       → Around out o.after (wires_so_far s) c.next under d (flat e s) x (Shown u) → c.next ≤ d.next → ExprDone out sc need (e >> measure) W under us c s (outcome ∷ []) next_of
   measured_expr u q clear good before apart around grown =
       expr_then out sc need needs.Consumed e W under us c s x d o measure r.after outcome next_of r.agree r.fine refl
@@ -64,5 +64,5 @@ module _ (out : Outside) (sc : Scope) (need : Need) (e : Effect) (W : Places) (u
       r : Outcome out sc.held o.after need (used_wires W c.vars us) (consumed_wires W c.vars us) (wires_so_far s) c.next under d (flat e s) outcome
       r =
           measure_done out sc.held o.after need (used_wires W c.vars us) (consumed_wires W c.vars us) (wires_so_far s) c.next under d (flat e s) d.next x u (ap first values) clear good before
-          (subst (λ l. NoneNames (among (wires_in (o.after x.place))) l) (sym (ap (λ l. drop 1 l) values)) apart)
+          (λ q. subst (λ l. NoneNames (among (wires_in (o.after x.place))) l) (sym (ap (λ l. drop 1 l) values)) (apart q))
           (record { shape = h.typed.0; own = h.own; borrowed = h.borrowed; moved = h.moved; within = h.within; began = h.began; differ = h.differ }) around stands grown

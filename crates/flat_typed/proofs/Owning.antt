@@ -121,11 +121,11 @@ names_none W all (v ∷ vs) w e h = go (is_part v) refl (names_none W all vs w (
     go true p i = i
     go false p i = (at_consumed v.consumed refl p, i)
 
-all_front : {A : Type 0} (Q : A → Type 0) (xs ys : List A) → AllOf Q (xs ++ ys) → AllOf Q xs
+pub all_front : {A : Type 0} (Q : A → Type 0) (xs ys : List A) → AllOf Q (xs ++ ys) → AllOf Q xs
 all_front Q [] ys h = tt
 all_front Q (x ∷ xs) ys h = (h.0, all_front Q xs ys h.1)
 
-all_back : {A : Type 0} (Q : A → Type 0) (xs ys : List A) → AllOf Q (xs ++ ys) → AllOf Q ys
+pub all_back : {A : Type 0} (Q : A → Type 0) (xs ys : List A) → AllOf Q (xs ++ ys) → AllOf Q ys
 all_back Q [] ys h = h
 all_back Q (x ∷ xs) ys h = all_back Q xs ys h.1
 

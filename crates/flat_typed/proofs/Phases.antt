@@ -42,7 +42,6 @@ use Rattle.flat_typed.specs.Done.{StmtBegins, StmtDone, ExprDone, changeable}
 use Rattle.flat_typed.specs.Scopes.{as_meaning}
 use Rattle.flat_typed.specs.Uses.{IsThere}
 use Rattle.flat_typed.specs.Lemmas.{Callable, StatementIsFine, ExpressionIsFine}
-use Rattle.flat_typed.specs.Stay.{FreeStatementIsFine}
 use Rattle.flat_typed.proofs.Ordered.{clash}
 use Rattle.flat_typed.proofs.Growing.{stands_grown, touches_more}
 use Rattle.flat_typed.proofs.Flipping.{Flips, flips_turn}
@@ -109,7 +108,7 @@ phase_runs : (sc : Scope) (e : Expression) (s : Spot) {P : Context → Type 0} �
 phase_runs sc e s = o_then (Callable sc) 0 (o_names (Callable sc) 0 sc e) (λ u. o_then (Callable sc) 0 (angle_runs sc (at e) (angle_of sc.statics e)) (λ u'. o_more (Callable sc) 0 (o_rules (Callable sc) 0 s _) (λ u'' d h. h.1)))
 
 pub phase_is_fine : (e : Expression) (s : Spot) → StatementIsFine (phase e s)
-phase_is_fine e s sc taker c =
+phase_is_fine e s sc taker c free =
     line_fine sc c (phase_of sc e s) (step (turn_all (meanings.eighths sc.statics e))) s.line
     (gives-more (Callable sc) 0 (λ r. r.1 ≡ c) (λ r. Does sc c (step (turn_all (meanings.eighths sc.statics e))) r.1) (phase_of sc e s c)
     ((phase_runs sc e s {P = λ d. d ≡ c}).runs c refl)
@@ -144,7 +143,7 @@ effect_done e out sc taker low W c d st r b = record {
     t : AllOf (IsThere sc.held c.vars) (uses e sc c.vars needs.Consumed) × (AllLeft c.vars d.vars × AllOf (FitsPart W d.vars) d.vars)
     t = r.told W b.stands.parts
 
-pub call_is_fine : (e : Expression) (s : Spot) → ExpressionIsFine e → is_tuple e ≡ false → FreeStatementIsFine (call e s)
+pub call_is_fine : (e : Expression) (s : Spot) → ExpressionIsFine e → is_tuple e ≡ false → StatementIsFine (call e s)
 call_is_fine e s fine t sc taker c free =
     line_fine sc c (expr e sc needs.Consumed [] >>= (λ vs. rules s ((not (is_empty vs), result_count) ∷ []))) (meanings.expr e (as_meaning taker sc) needs.Consumed) s.line
     ((o_bind (Callable sc) 0 (reached_here e fine sc taker needs.Consumed [] c free) (λ vs. o_more (Callable sc) 0 (o_rules (Callable sc) 0 s _) (λ u d h. ends vs d h.0.0 (h.1 t)))).runs c refl)

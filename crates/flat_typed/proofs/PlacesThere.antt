@@ -26,7 +26,7 @@ use Rattle.flat_typed.proofs.Ordered.{clash}
 use Rattle.flat_typed.proofs.Parts.{found_there, some_same}
 use Rattle.flat_typed.proofs.Moving.{found_all}
 use Rattle.flat_typed.proofs.Uses.{name_of_part}
-use Rattle.flat_typed.proofs.There.{UsedWhole, Used, PlaceUsed, o_place, part_class}
+use Rattle.flat_typed.proofs.There.{UsedWhole, UsedPart, Used, PlaceUsed, o_place, part_class}
 
 -- ---- index values of a place: there are at most two
 
@@ -41,10 +41,10 @@ indexed (Ok v) (Some vs) zs e = record { first = v; rest = vs; is = refl; all = 
 indexed (Ok v) None zs e = absurd (grind (arith, e))
 indexed (Err f) o zs e = absurd (grind (arith, e))
 
-abbrev Exact : NameId → List ℤ → Type 0
+abbrev pub Exact : NameId → List ℤ → Type 0
 Exact x zs = indices (part_at x zs) ≡ zs
 
-exact_indices : (statics : Statics) (w : Place) (x : NameId) (zs : List ℤ) → index_values statics (place_indices w) ≡ Some zs → Exact x zs
+pub exact_indices : (statics : Statics) (w : Place) (x : NameId) (zs : List ℤ) → index_values statics (place_indices w) ≡ Some zs → Exact x zs
 exact_indices statics (whole y) x zs e = subst (Exact x) (some_same [] zs e) refl
 exact_indices statics (part y i) x zs e =
     let a = indexed (eval_of statics i) (Some []) zs e in
@@ -56,7 +56,7 @@ exact_indices statics (part_of_part y i j) x zs e =
 
 -- ---- the variable that a used part is of
 
-record OwnerOf (sc : Scope) (need : Need) (c : Context) (x : NameId) (q : Part) : Type 0 where
+pub record OwnerOf (sc : Scope) (need : Need) (c : Context) (x : NameId) (q : Part) : Type 0 where
   pub owner : Var
   pub found : find_var c.vars (variable x) ≡ Some owner
   pub live : owner.consumed ≡ false
@@ -103,7 +103,7 @@ of_whole sc need c W x (i ∷ is) d fits exact h = record {
     moved : is_moved need of.0.ty ≡ true → is_moved need h.var.ty ≡ true
     moved m = ap (λ b. is_consumed need && not b) (part_class of.0.ty.classical of.0.ty.shape (indices (part_at x (i ∷ is))) h.var.ty kind) ∙ m
 
-of_used : (sc : Scope) (need : Need) (c : Context) (W : Places) (x : NameId) (zs : List ℤ) (d : Context) → AllOf (FitsPart W c.vars) c.vars → Exact x zs → Used sc need c x (part_at x zs) d → OwnerOf sc need c x (part_at x zs)
+pub of_used : (sc : Scope) (need : Need) (c : Context) (W : Places) (x : NameId) (zs : List ℤ) (d : Context) → AllOf (FitsPart W c.vars) c.vars → Exact x zs → Used sc need c x (part_at x zs) d → OwnerOf sc need c x (part_at x zs)
 of_used sc need c W x zs d fits exact (inl h) = of_whole sc need c W x zs d fits exact h
 of_used sc need c W x zs d fits exact (inr h) = record {
   owner = h.owner;
@@ -116,17 +116,27 @@ of_used sc need c W x zs d fits exact (inr h) = record {
   loose = λ m. clash (sym m ∙ h.unmoved);
 }
 
+-- the type of the part
+pub type_whole : (sc : Scope) (need : Need) (c : Context) (W : Places) (x : NameId) (zs : List ℤ) (d : Context) (fits : AllOf (FitsPart W c.vars) c.vars) (exact : Exact x zs) (h : UsedWhole sc need c (part_at x zs) d) → (of_used sc need c W x zs d fits exact (inl h)).kind.0 ≡ h.var.ty
+unfolding of_used of_whole
+type_whole sc need c W x [] d fits exact h = refl
+type_whole sc need c W x (i ∷ is) d fits exact h = refl
+
+pub type_part : (sc : Scope) (need : Need) (c : Context) (W : Places) (x : NameId) (zs : List ℤ) (d : Context) (fits : AllOf (FitsPart W c.vars) c.vars) (exact : Exact x zs) (h : UsedPart need c x (part_at x zs) d) → (of_used sc need c W x zs d fits exact (inr h)).kind.0 ≡ h.ty
+unfolding of_used
+type_part sc need c W x zs d fits exact h = refl
+
 -- ---- the use
 
 -- a classical variable is held in every use
-use_moved : (need : Need) (t : Ty) → is_consumed (cond t.classical needs.Held need) ≡ true → (t.classical ≡ false) × (is_moved need t ≡ true)
+pub use_moved : (need : Need) (t : Ty) → is_consumed (cond t.classical needs.Held need) ≡ true → (t.classical ≡ false) × (is_moved need t ≡ true)
 use_moved need t e = go t.classical refl e
   where
     go : (b : Bool) → t.classical ≡ b → is_consumed (cond b needs.Held need) ≡ true → (t.classical ≡ false) × (is_moved need t ≡ true)
     go true f e = clash (sym e)
     go false f e = (f, ap₂ (λ a b. a && not b) e f)
 
-use_there : (sc : Scope) (need : Need) (c : Context) (x : NameId) (zs : List ℤ) → Exact x zs → (o : OwnerOf sc need c x (part_at x zs)) → IsThere sc.held c.vars (record { part = part_at x zs; need = cond o.owner.ty.classical needs.Held need })
+abbrev pub use_there : (sc : Scope) (need : Need) (c : Context) (x : NameId) (zs : List ℤ) → Exact x zs → (o : OwnerOf sc need c x (part_at x zs)) → IsThere sc.held c.vars (record { part = part_at x zs; need = cond o.owner.ty.classical needs.Held need })
 use_there sc need c x zs exact o = record {
   owner = o.owner;
   found = ap (λ y. find_var c.vars (variable y)) (name_of_part x zs) ∙ o.found;
@@ -138,36 +148,34 @@ use_there sc need c x zs exact o = record {
   loose = λ k. ap (λ (p : Part). is_in_condition sc.held p) (ap₂ part_at (name_of_part x zs) exact) ∙ o.loose (use_moved need o.owner.ty k).1;
 }
 
--- the part that the use of a place names is there
-pub place_there : (sc : Scope) (need : Need) (c : Context) (W : Places) (w : Place) (d : Context) → AllOf (FitsPart W c.vars) c.vars → PlaceUsed sc need c w d
-    → AllOf (IsThere sc.held c.vars) (place_use sc.statics (find_var c.vars (variable (place_name w))) (place_indices w) need)
-place_there sc need c W w d fits h = subst (λ r. AllOf (IsThere sc.held c.vars) (place_use sc.statics r (place_indices w) need)) (sym o.found) (subst (IsThere sc.held c.vars) same (use_there sc need c x h.values exact o), tt)
+-- what the use of a place reads is this part
+pub place_use_is : (sc : Scope) (need : Need) (c : Context) (w : Place) (zs : List ℤ) → index_values sc.statics (place_indices w) ≡ Some zs → (o : OwnerOf sc need c (place_name w) (part_at (place_name w) zs))
+    → place_use sc.statics (find_var c.vars (variable (place_name w))) (place_indices w) need ≡ record { part = part_at (place_name w) zs; need = cond o.owner.ty.classical needs.Held need } ∷ []
+place_use_is sc need c w zs known o = ap (λ r. place_use sc.statics r (place_indices w) need) o.found ∙ ap (λ u. u ∷ []) (sym (ap used_as part_is))
   where
     x : NameId
     x = place_name w
 
-    exact : Exact x h.values
-    exact = exact_indices sc.statics w x h.values h.known
-
-    o : OwnerOf sc need c x (part_at x h.values)
-    o = of_used sc need c W x h.values d fits exact h.used
-
     whole_name : o.owner.part.name ≡ x
     whole_name = ap (λ (p : Part). p.name) (found_there c.vars x o.owner o.found)
 
-    shape : is_some (part_type o.owner.ty.classical o.owner.ty.shape h.values) ≡ true
-    shape = ap (λ l. is_some (part_type o.owner.ty.classical o.owner.ty.shape l)) (sym exact) ∙ ap is_some o.kind.1
+    shape : is_some (part_type o.owner.ty.classical o.owner.ty.shape zs) ≡ true
+    shape = ap (λ l. is_some (part_type o.owner.ty.classical o.owner.ty.shape l)) (sym (exact_indices sc.statics w x zs known)) ∙ ap is_some o.kind.1
 
-    part_is : part_at x h.values ≡ part_or_whole o.owner (index_values sc.statics (place_indices w))
+    part_is : part_at x zs ≡ part_or_whole o.owner (index_values sc.statics (place_indices w))
     part_is =
-        sym (ap (part_or_whole o.owner) h.known
-        ∙ (ap (λ b. cond b (part_at o.owner.part.name h.values) o.owner.part) shape ∙ ap (λ y. part_at y h.values) whole_name))
+        sym (ap (part_or_whole o.owner) known
+        ∙ (ap (λ b. cond b (part_at o.owner.part.name zs) o.owner.part) shape ∙ ap (λ y. part_at y zs) whole_name))
 
     used_as : Part → Use
     used_as p = record { part = p; need = cond o.owner.ty.classical needs.Held need }
 
-    same : used_as (part_at x h.values) ≡ used_as (part_or_whole o.owner (index_values sc.statics (place_indices w)))
-    same = ap used_as part_is
+-- the part that the use of a place names is there
+pub place_there : (sc : Scope) (need : Need) (c : Context) (W : Places) (w : Place) (d : Context) → AllOf (FitsPart W c.vars) c.vars → PlaceUsed sc need c w d
+    → AllOf (IsThere sc.held c.vars) (place_use sc.statics (find_var c.vars (variable (place_name w))) (place_indices w) need)
+place_there sc need c W w d fits h =
+    subst (AllOf (IsThere sc.held c.vars)) (sym (place_use_is sc need c w h.values h.known (of_used sc need c W (place_name w) h.values d fits (exact_indices sc.statics w (place_name w) h.values h.known) h.used)))
+    (use_there sc need c (place_name w) h.values (exact_indices sc.statics w (place_name w) h.values h.known) (of_used sc need c W (place_name w) h.values d fits (exact_indices sc.statics w (place_name w) h.values h.known) h.used), tt)
 
 pub places_are_there : PlacesAreThere
 places_are_there w s sc need c =

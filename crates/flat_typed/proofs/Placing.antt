@@ -94,7 +94,7 @@ shown_same : (U W : Places) (all : List Var) (v : Var) → SameFor U W v → sho
 shown_same U W all v (inl e) = ap (λ t. cond t Absent (less_part (part_out all v.part.name) (bits_for U v))) e ∙ sym (ap (λ t. cond t Absent (less_part (part_out all v.part.name) (bits_for W v))) e)
 shown_same U W all v (inr e) = ap (λ ps. cond v.consumed Absent (less_part (part_out all v.part.name) (record { classical = v.ty.classical; shape = v.ty.shape; operands = ps; own = true; began = 0 }))) e
 
-holders_same : (U W : Places) (all vs : List Var) (w : WireId) → AllOf (SameFor U W) vs → holders U all w vs ≡ holders W all w vs
+pub holders_same : (U W : Places) (all vs : List Var) (w : WireId) → AllOf (SameFor U W) vs → holders U all w vs ≡ holders W all w vs
 holders_same U W all [] w h = refl
 holders_same U W all (v ∷ vs) w h = ap₂ (λ k b. cond (has_wires v) (times_in w (operands_in k)) 0 + b) (shown_same U W all v h.0) (holders_same U W all vs w h.1)
 

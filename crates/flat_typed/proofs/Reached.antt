@@ -25,14 +25,15 @@ use Rattle.flat_form.specs.Names.{AllOf, names}
 use Rattle.flat_typed.specs.Places.{Places, is_part, has_wires}
 use Rattle.flat_typed.specs.Footprint.{consumed_wires, Touches}
 use Rattle.flat_typed.specs.Relation.{Outside, FitsPart}
-use Rattle.flat_typed.specs.Done.{Begins, ExprDone, StmtBegins, MadeSince, changeable}
-use Rattle.flat_typed.specs.Scopes.{as_meaning}
-use Rattle.flat_typed.specs.Uses.{IsThere, NoStatics}
+use Rattle.flat_typed.specs.Done.{Begins, ExprDone, ExprTells, StmtBegins, MadeSince, changeable}
+use Rattle.flat_typed.specs.Scopes.{as_meaning, NoStatics}
+use Rattle.flat_typed.specs.Uses.{IsThere}
 use Rattle.flat_typed.specs.Lemmas.{Callable, ExpressionIsFine}
 use Rattle.flat_typed.proofs.Ordered.{clash}
 use Rattle.flat_typed.proofs.Growing.{touches_more}
 use Rattle.flat_typed.proofs.Footprints.{consumed_may_change}
 use Rattle.flat_typed.proofs.Tame.{AllLeft, left_same}
+use Rattle.flat_typed.proofs.Lone.{none_in}
 use Rattle.flat_typed.proofs.Leaving.{k_any}
 use Rattle.flat_typed.proofs.WalkThere.{u_expr}
 use Rattle.flat_typed.proofs.Turns.{gives_both, wired_live}
@@ -43,7 +44,7 @@ use Rattle.flat_typed.proofs.Turns.{gives_both, wired_live}
 abbrev pub Told : Scope → Need → Expression → Context → Context → Type 0
 Told sc need e c d = (W : Places) → AllOf (FitsPart W c.vars) c.vars → AllOf (IsThere sc.held c.vars) (uses e sc c.vars need) × (AllLeft c.vars d.vars × AllOf (FitsPart W d.vars) d.vars)
 
-gives_each : {A B : Type 0} (S : InstanceKey → Signature → Type 0) (P : B → A → Type 0) (w : Walk A) → ((b : B) → Gives S (P b) w) → Gives S (λ a. (b : B) → P b a) w
+pub gives_each : {A B : Type 0} (S : InstanceKey → Signature → Type 0) (P : B → A → Type 0) (w : Walk A) → ((b : B) → Gives S (P b) w) → Gives S (λ a. (b : B) → P b a) w
 gives_each S P (answer a) h = h
 gives_each S P (broken e) h = tt
 gives_each S P (counted w) h = gives_each S P w h
@@ -66,7 +67,12 @@ pub record Reached (sc : Scope) (taker : Ty → Receiver) (need : Need) (e : Exp
   pub told : Told sc need e c d
   pub does : (out : Outside) (low : ℕ) (W : Places) (s : Flattening) → StmtBegins out sc low (λ p. 0) W c s → ExprDone out sc need (meanings.expr e (as_meaning taker sc) need) W [] (uses e sc c.vars need) c s vs d
 
-begins_expression : (out : Outside) (sc : Scope) (low : ℕ) (W : Places) (c : Context) (s : Flattening) (us : List Use) → StmtBegins out sc low (λ p. 0) W c s → Begins out sc low (λ p. 0) W [] us c s
+-- no part is under way
+none_placed : (n : ℕ) (vs : List Var) → AllOf (λ v. is_part v ≡ false) vs → AllOf (λ v. is_part v ≡ true → v.place < n) vs
+none_placed n [] h = tt
+none_placed n (v ∷ vs) h = (λ e. clash (sym e ∙ h.0), none_placed n vs h.1)
+
+pub begins_expression : (out : Outside) (sc : Scope) (low : ℕ) (W : Places) (c : Context) (s : Flattening) (us : List Use) → StmtBegins out sc low (λ p. 0) W c s → Begins out sc low (λ p. 0) W [] us c s
 begins_expression out sc low W c s us b = record {
   good = b.good;
   unmade = b.unmade;
@@ -75,19 +81,26 @@ begins_expression out sc low W c s us b = record {
   stands = b.stands;
   open_air = b.open_air;
   apart = λ w t. subst (AllOf (λ k. names k w ≡ false)) (sym b.none) tt;
+  placed = none_placed c.next c.vars b.whole;
+  lone = let e = none_in c.vars b.whole in omega (arith, e);
 }
 
 pub expression_reached : (e : Expression) → ExpressionIsFine e → (sc : Scope) (taker : Ty → Receiver) (need : Need) (wants : List Ty) (c : Context) → is_tuple e ≡ false → NoStatics sc c.vars
     → Gives (Callable sc) (λ r. Reached sc taker need e c r.0 r.1) (expr e sc need wants c)
 expression_reached e fine sc taker need wants c t free =
     gives-more (Callable sc) 0 (λ r. Told sc need e c r.1 × Does r.0 r.1) (λ r. Reached sc taker need e c r.0 r.1) (expr e sc need wants c)
-    (gives_both (Callable sc) (λ r. Told sc need e c r.1) (λ r. Does r.0 r.1) (expr e sc need wants c) (expression_tells e sc need wants c t free) (fine sc taker need wants c t))
+    (gives_both (Callable sc) (λ r. Told sc need e c r.1) (λ r. Does r.0 r.1) (expr e sc need wants c) (expression_tells e sc need wants c t free) (gives-more (Callable sc) 0 (λ r. Tells r.0 r.1) (λ r. Does r.0 r.1) (expr e sc need wants c) (fine sc taker need wants c t free) (λ r h out low others W under s b. (h out low others W under s b).done)))
     (λ r h. record { told = h.0; does = λ out low W s b. h.1 out low (λ p. 0) W [] s (begins_expression out sc low W c s (uses e sc c.vars need) b) })
   where
     Does : List Value → Context → Type 0
     Does vs d =
         (out : Outside) (low : ℕ) (others : ℕ → ℕ) (W : Places) (under : List Value) (s : Flattening) → Begins out sc low others W under (uses e sc c.vars need) c s →
         ExprDone out sc need (meanings.expr e (as_meaning taker sc) need) W under (uses e sc c.vars need) c s vs d
+
+    Tells : List Value → Context → Type 0
+    Tells vs d =
+        (out : Outside) (low : ℕ) (others : ℕ → ℕ) (W : Places) (under : List Value) (s : Flattening) → Begins out sc low others W under (uses e sc c.vars need) c s →
+        ExprTells out sc need wants (meanings.expr e (as_meaning taker sc) need) W under (uses e sc c.vars need) c s vs d
 
 -- in a walk that goes on from the same context, whether or not a tuple stands there
 pub reached_here : (e : Expression) → ExpressionIsFine e → (sc : Scope) (taker : Ty → Receiver) (need : Need) (wants : List Ty) (c : Context) → NoStatics sc c.vars

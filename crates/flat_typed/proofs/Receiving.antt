@@ -30,9 +30,8 @@ use Rattle.flat_form.specs.Flat.{taken_for, class_for, began_for, receive_value,
 use Rattle.flat_form.specs.Fine.{IsAny}
 use Rattle.flat_form.specs.Names.{named_by}
 use Rattle.flat_typed.specs.Places.{Places, times_in}
-use Rattle.flat_typed.specs.Relation.{Outside, Stands, IsAnswer, is_argument, taken_type, is_carried}
+use Rattle.flat_typed.specs.Relation.{Outside, Stands, IsAnswer, is_argument, taken_type, is_carried, need_of}
 use Rattle.flat_typed.specs.Done.{carrying}
-use Rattle.flat_typed.specs.Lemmas.{need_of}
 use Rattle.flat_typed.proofs.Ordered.{clash}
 use Rattle.flat_typed.proofs.Touching.{flips_touch, flips_stay_plain, flips_unmade, flips_taken_for}
 use Rattle.flat_typed.proofs.Placing.{stands_pushed}
@@ -160,15 +159,15 @@ module _ (out : Outside) (held : List (List Part)) (W : Places) (used consumed :
 
 -- ---- static values take a type
 
-consts_none : (w : WireId) (bs : List Bool) → times_in w (map (λ b. Const b) bs) ≡ 0
+pub consts_none : (w : WireId) (bs : List Bool) → times_in w (map (λ b. Const b) bs) ≡ 0
 consts_none w [] = refl
 consts_none w (b ∷ bs) = consts_none w bs
 
-consts_unnamed : (w : WireId) (bs : List Bool) → list_any (named_by w) (map (λ b. Const b) bs) ≡ false
+pub consts_unnamed : (w : WireId) (bs : List Bool) → list_any (named_by w) (map (λ b. Const b) bs) ≡ false
 consts_unnamed w [] = refl
 consts_unnamed w (b ∷ bs) = consts_unnamed w bs
 
-abbrev bits_of : ℕ → Scalar → ℤ → TypedBits
+abbrev pub bits_of : ℕ → Scalar → ℤ → TypedBits
 bits_of m k z = record { classical = false; shape = single_shape k; operands = map (λ b. Const b) (low_bits (scalar_bits k) (modulo z (modulus k))); own = false; began = m }
 
 -- a value that fits a type is one of a scalar
@@ -196,7 +195,7 @@ typed_shown m (Array k w) u = refl
 pub record IsSuited (low : ℕ) (r : Receiver) (v : Value) (k : Known) : Type 0 where
   pub shape : (taken_type r v).shape ≡ v.ty.shape
   pub class : (taken_type r v).classical ≡ true → v.ty.classical ≡ true
-  pub lifted : v.ty.classical ≡ true → is_linear v.origin ≡ false
+  pub lifted : is_consumed (need_of r) ≡ true → v.ty.classical ≡ true → is_linear v.origin ≡ false
   pub placed : (t : Ty) → r ≡ EntryOutput t → v.ty.classical ≡ true → low ≤ v.place
   pub known : (z : ℤ) → k ≡ Static z → r ≡ Variable → ⊥
 
@@ -213,8 +212,8 @@ and_not true b e h = not_false b e
 and_not false b e h = clash (sym h)
 
 uncarried : (low : ℕ) (r : Receiver) (v : Value) (k : Known) → IsSuited low r v k → is_consumed (need_of r) ≡ true → is_carried r v ≡ false → is_linear v.origin ≡ false
-uncarried low Variable v k f q e = f.lifted (not_false v.ty.classical e)
-uncarried low (Argument need t) v k f q e = f.lifted (f.class (and_not (is_consumed need) t.classical e q))
+uncarried low Variable v k f q e = f.lifted refl (not_false v.ty.classical e)
+uncarried low (Argument need t) v k f q e = f.lifted q (f.class (and_not (is_consumed need) t.classical e q))
 uncarried low (CallResult t) v k f q e = clash e
 uncarried low (EntryOutput t) v k f q e = clash e
 
@@ -225,7 +224,7 @@ suits_with low r v k u f class under = record {
   lifted = λ q e. uncarried low r v k f q e;
   copies = λ t e q.
       let h : v.ty.classical ≡ true = or_true t.classical u.classical v.ty.classical q (λ a. f.class (ap (λ (x : Receiver). (taken_type x v).classical) e ∙ a)) under in
-      (f.placed t e h, f.lifted h);
+      (f.placed t e h, f.lifted (ap (λ (x : Receiver). is_consumed (need_of x)) e) h);
 }
 
 module _ (out : Outside) (held : List (List Part)) (W : Places) (used consumed : Targets) (n low : ℕ) (under : List Value) (c : Context) (s : Flattening) (v : Value) (r : Receiver) where

@@ -24,10 +24,9 @@ use Rattle.flat_form.specs.State.{Flattening}
 use Rattle.flat_typed.specs.Places.{Places}
 use Rattle.flat_typed.specs.Relation.{Outside}
 use Rattle.flat_typed.specs.Done.{StmtBegins, StmtDone}
-use Rattle.flat_typed.specs.Scopes.{as_meaning}
-use Rattle.flat_typed.specs.Uses.{NoStatics}
-use Rattle.flat_typed.specs.Lemmas.{Callable, StmtFine}
-use Rattle.flat_typed.specs.Stay.{Goes, Keeps, StatementsKeep, FreeStatementIsFine, FreeStatementsAreFine}
+use Rattle.flat_typed.specs.Scopes.{as_meaning, NoStatics}
+use Rattle.flat_typed.specs.Lemmas.{Callable, StmtFine, StatementIsFine, StatementsAreFine}
+use Rattle.flat_typed.specs.Stay.{Goes, Keeps, StatementsKeep}
 use Rattle.flat_typed.proofs.Scopes.{static_is, needed_is}
 use Rattle.flat_typed.proofs.Turns.{Does, line_fine, then_fine, then_keeps, nothing_fine, pass_keeps}
 use Rattle.flat_typed.proofs.Blocks.{block_fine, block_keeps, free_taken}
@@ -36,10 +35,10 @@ use Rattle.flat_typed.proofs.Parts.{name_refl}
 
 -- ---- statements in turn
 
-pub no_statements : FreeStatementsAreFine done
+pub no_statements : StatementsAreFine done
 no_statements sc taker c free = nothing_fine sc c
 
-pub statements_next : (st : Statement) (rest : Statements) → FreeStatementIsFine st → FreeStatementsAreFine rest → ((sc : Scope) → Keeps (NoStatics sc) sc (walks.stmt st sc)) → ((sc : Scope) → Keeps (NoStatics sc) sc (walks.stmts rest sc)) → FreeStatementsAreFine (next st rest)
+pub statements_next : (st : Statement) (rest : Statements) → StatementIsFine st → StatementsAreFine rest → ((sc : Scope) → Keeps (NoStatics sc) sc (walks.stmt st sc)) → ((sc : Scope) → Keeps (NoStatics sc) sc (walks.stmts rest sc)) → StatementsAreFine (next st rest)
 statements_next st rest h k t u sc taker c free =
     then_fine (NoStatics sc) sc c (walks.stmt st sc) (walks.stmts rest sc) (meanings.stmt st (as_meaning taker sc)) (meanings.stmts rest (as_meaning taker sc)) free (h sc taker c free) (λ d f. k sc taker d f) (t sc) (u sc)
 
@@ -80,7 +79,7 @@ module _ (out : Outside) (sc : Scope) (x : NameId) (z : ℤ) (W : Places) (c : C
     unmade = h.unmade;
   }
 
-static_fine : (sc : Scope) (x : NameId) (z : ℤ) (c : Context) (m : Check (Unit {0})) (e : Effect) → StmtFine (walks.with_static sc x z) c m e → StmtFine sc c m e
+pub static_fine : (sc : Scope) (x : NameId) (z : ℤ) (c : Context) (m : Check (Unit {0})) (e : Effect) → StmtFine (walks.with_static sc x z) c m e → StmtFine sc c m e
 static_fine sc x z c m e h =
     gives-more (Callable sc) 0
     (λ r. (out : Outside) (low : ℕ) (W : Places) (s : Flattening) → StmtBegins out (walks.with_static sc x z) low (λ p. 0) W c s → StmtDone out (walks.with_static sc x z) e W c s r.1)
@@ -96,14 +95,14 @@ last_value (q ∷ qs) p y o = last_value qs p y (cond (q.0.number == y.number) (
 abbrev pub FreeOf : Scope → NameId → List Var → Type 0
 FreeOf sc x vs = NoStatics sc vs × (find_var vs (variable x) ≡ None)
 
-free_with : (sc : Scope) (x : NameId) (z : ℤ) (vs : List Var) → FreeOf sc x vs → NoStatics (walks.with_static sc x z) vs
+pub free_with : (sc : Scope) (x : NameId) (z : ℤ) (vs : List Var) → FreeOf sc x vs → NoStatics (walks.with_static sc x z) vs
 free_with sc x z vs h y e = go (same_name x y) refl (ap is_some (sym (last_value sc.statics (x, z) y None)) ∙ e)
   where
     go : (t : Bool) → same_name x y ≡ t → is_some (cond t (Some z) (value_of sc.statics y)) ≡ true → find_var vs (variable y) ≡ None
     go true q k = subst (λ u. find_var vs (variable u) ≡ None) (same_is_equal x y q) h.1
     go false q k = h.0 y k
 
-free_without : (sc : Scope) (x : NameId) (z : ℤ) (vs : List Var) → NoStatics (walks.with_static sc x z) vs → FreeOf sc x vs
+pub free_without : (sc : Scope) (x : NameId) (z : ℤ) (vs : List Var) → NoStatics (walks.with_static sc x z) vs → FreeOf sc x vs
 free_without sc x z vs h =
     (λ y e. h y (ap is_some (last_value sc.statics (x, z) y None) ∙ some (same_name x y) y e), h x (ap is_some (last_value sc.statics (x, z) x None) ∙ ap (λ t. is_some (cond t (Some z) (value_of sc.statics x))) (name_refl x)))
   where
@@ -113,7 +112,7 @@ free_without sc x z vs h =
 
 -- ---- loops
 
-module _ (x : NameId) (low high : Expression) (ss : Statements) (end s : Spot) (fine : FreeStatementsAreFine ss) (keeps : (sc : Scope) → Keeps (NoStatics sc) sc (walks.stmts ss sc)) (sc : Scope) (taker : Ty → Receiver) (c : Context) (free : NoStatics sc c.vars) where
+module _ (x : NameId) (low high : Expression) (ss : Statements) (end s : Spot) (fine : StatementsAreFine ss) (keeps : (sc : Scope) → Keeps (NoStatics sc) sc (walks.stmts ss sc)) (sc : Scope) (taker : Ty → Receiver) (c : Context) (free : NoStatics sc c.vars) where
   abbrev one_round : ℤ → Check (Unit {0})
   one_round v = walks.plain_block (walks.stmts ss (walks.with_static sc x v)) end
 
@@ -165,7 +164,7 @@ module _ (x : NameId) (low high : Expression) (ss : Statements) (end s : Spot) (
   loop_fine : StmtFine sc c (walks.stmt (loop x low high (block ss end) s) sc) (meanings.stmt (loop x low high (block ss end) s) (as_meaning taker sc))
   loop_fine = line_fine sc c its_walk whole_effect s.line (loop_runs.runs c refl)
 
-pub loop_is_fine : (x : NameId) (low high : Expression) (ss : Statements) (end s : Spot) → FreeStatementsAreFine ss → ((sc : Scope) → Keeps (NoStatics sc) sc (walks.stmts ss sc)) → FreeStatementIsFine (loop x low high (block ss end) s)
+pub loop_is_fine : (x : NameId) (low high : Expression) (ss : Statements) (end s : Spot) → StatementsAreFine ss → ((sc : Scope) → Keeps (NoStatics sc) sc (walks.stmts ss sc)) → StatementIsFine (loop x low high (block ss end) s)
 loop_is_fine x low high ss end s fine keeps sc taker c free = loop_fine x low high ss end s fine keeps sc taker c free
 
 -- ---- choices by a static value
@@ -174,13 +173,13 @@ loop_is_fine x low high ss end s fine keeps sc taker c free = loop_fine x low hi
 abbrev pub OtherwiseIsFine : Otherwise → Type 0
 OtherwiseIsFine other = (sc : Scope) (taker : Ty → Receiver) (c : Context) → NoStatics sc c.vars → StmtFine sc c (walks.plain_block (walks.otherwise other sc) (walks.otherwise_end other)) (meanings.otherwise other (as_meaning taker sc))
 
-pub else_block_fine : (ss : Statements) (end : Spot) → FreeStatementsAreFine ss → OtherwiseIsFine (else_block (block ss end))
+pub else_block_fine : (ss : Statements) (end : Spot) → StatementsAreFine ss → OtherwiseIsFine (else_block (block ss end))
 else_block_fine ss end h sc taker c free = block_fine sc c (walks.stmts ss sc) (meanings.stmts ss (as_meaning taker sc)) end (h sc taker c free)
 
-pub else_choice_fine : (st : Statement) → FreeStatementIsFine st → OtherwiseIsFine (else_choice st)
+pub else_choice_fine : (st : Statement) → StatementIsFine st → OtherwiseIsFine (else_choice st)
 else_choice_fine st h sc taker c free = block_fine sc c (walks.stmt st sc) (meanings.stmt st (as_meaning taker sc)) (walks.choice_end st) (h sc taker c free)
 
-module _ (e : Expression) (ss : Statements) (end : Spot) (other : Otherwise) (s : Spot) (first : FreeStatementsAreFine ss) (second : OtherwiseIsFine other) (sc : Scope) (taker : Ty → Receiver) (c : Context) (free : NoStatics sc c.vars) where
+module _ (e : Expression) (ss : Statements) (end : Spot) (other : Otherwise) (s : Spot) (first : StatementsAreFine ss) (second : OtherwiseIsFine other) (sc : Scope) (taker : Ty → Receiver) (c : Context) (free : NoStatics sc c.vars) where
   abbrev either_walk : Bool → Check (Unit {0})
   either_walk t = cond t (walks.plain_block (walks.stmts ss sc) end) (walks.plain_block (walks.otherwise other sc) (walks.otherwise_end other))
 
@@ -216,6 +215,6 @@ module _ (e : Expression) (ss : Statements) (end : Spot) (other : Otherwise) (s 
       run_time_effect = meanings.expr e (as_meaning taker sc) needs.Held ▸ effects.choice (meanings.inner (block ss end) (as_meaning taker sc)) (meanings.otherwise other (as_meaning taker sc))
 
 -- a choice whose condition is static
-pub static_choice_is_fine : (e : Expression) (ss : Statements) (end : Spot) (other : Otherwise) (s : Spot) (sc : Scope) (taker : Ty → Receiver) (c : Context) → NoStatics sc c.vars → is_static sc.statics e ≡ true → FreeStatementsAreFine ss → OtherwiseIsFine other
+pub static_choice_is_fine : (e : Expression) (ss : Statements) (end : Spot) (other : Otherwise) (s : Spot) (sc : Scope) (taker : Ty → Receiver) (c : Context) → NoStatics sc c.vars → is_static sc.statics e ≡ true → StatementsAreFine ss → OtherwiseIsFine other
     → StmtFine sc c (walks.stmt (choice e (block ss end) other s) sc) (meanings.stmt (choice e (block ss end) other s) (as_meaning taker sc))
 static_choice_is_fine e ss end other s sc taker c free is first second = static_choice e ss end other s first second sc taker c free is

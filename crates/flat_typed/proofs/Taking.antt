@@ -29,10 +29,9 @@ use Rattle.flat_form.specs.Flat.{class_for}
 use Rattle.flat_form.specs.Names.{AllOf, named_by}
 use Rattle.flat_typed.specs.Places.{Places, with_place, times_in}
 use Rattle.flat_typed.specs.Footprint.{Within, Touches, StaysPlain, Unmade}
-use Rattle.flat_typed.specs.Relation.{FitsPart, Outside, Stands, IsTakenOver, AllNew, taken_type, is_carried, is_own}
+use Rattle.flat_typed.specs.Relation.{FitsPart, Outside, Stands, IsTakenOver, AllNew, taken_type, is_carried, is_own, need_of}
 use Rattle.flat_typed.specs.Done.{Agree, Leaves, carrying}
 use Rattle.flat_typed.specs.Calls.{carried}
-use Rattle.flat_typed.specs.Lemmas.{need_of}
 use Rattle.flat_typed.proofs.Keeping.{new_named}
 use Rattle.flat_typed.proofs.Growing.{plain_same, stands_grown}
 use Rattle.flat_typed.proofs.Making.{its_place}

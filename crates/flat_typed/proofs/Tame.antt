@@ -117,7 +117,7 @@ all_there_left held vs ws (u ∷ us) l h = (there_left held vs ws u l h.0, all_t
 
 -- ---- the parts that were taken out
 
-find_other : (vs : List Var) (u : Var) (p : Part) → same_part u.part p ≡ false → find_var (replace vs u) p ≡ find_var vs p
+pub find_other : (vs : List Var) (u : Var) (p : Part) → same_part u.part p ≡ false → find_var (replace vs u) p ≡ find_var vs p
 find_other [] u p e = refl
 find_other (w ∷ ws) u p e = go (same_part w.part u.part) refl (find_other ws u p e)
   where

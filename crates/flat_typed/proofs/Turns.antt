@@ -172,7 +172,7 @@ module _ (out : Outside) (sc : Scope) (low : ℕ) (W : Places) (c d : Context) (
   }
 
   -- a wire that was there, and that the second may change, was one that may be changed before
-  older : (h : StmtDone out sc e W c s d) → AllOf (λ v. is_part v ≡ false) c.vars → Stayed c d → (w : WireId) → w.number < wires_so_far s → 1 ≤ owners_of h.after d.vars [] w → 1 ≤ owners_of W c.vars [] w
+  pub older : (h : StmtDone out sc e W c s d) → AllOf (λ v. is_part v ≡ false) c.vars → Stayed c d → (w : WireId) → w.number < wires_so_far s → 1 ≤ owners_of h.after d.vars [] w → 1 ≤ owners_of W c.vars [] w
   older h whole t w lt le =
       some_owner h.after d.vars d.vars w (owners_of W c.vars [] w) (λ y. none_out d.vars y h.whole)
       (pair d.vars h.made t.owners) (omega (arith, le))

@@ -16,7 +16,7 @@ use Rattle.check_expr.proofs.Owners.{gives-more, o_bind, o_then, o_back, o_fail,
 use Rattle.check_fun.specs.Statement.{Target, target, target_of, target_type, consumed_there, has_name, needs_number, static_updated, update_part}
 use Rattle.silq_mean.specs.declared.receiver.Receiver.{Receiver}
 use Rattle.silq_mean.specs.Meaning as meanings
-use Rattle.flat_typed.specs.Uses.{NoStatics}
+use Rattle.flat_typed.specs.Scopes.{NoStatics}
 use Rattle.flat_typed.specs.Lemmas.{Callable, ExpressionIsFine}
 use Rattle.flat_typed.proofs.Ordered.{clash}
 use Rattle.flat_typed.proofs.Parts.{found_there}

@@ -36,8 +36,7 @@ use Rattle.flat_typed.specs.Relation.{Outside, Stands, FitsPart, IsAnswer}
 use Rattle.flat_typed.specs.Done.{Leaves, ExprDone, StmtBegins, StmtDone, carrying, changeable}
 use Rattle.flat_typed.specs.Scopes.{as_meaning}
 use Rattle.flat_typed.specs.Uses.{IsThere}
-use Rattle.flat_typed.specs.Lemmas.{Callable, ExpressionIsFine}
-use Rattle.flat_typed.specs.Stay.{FreeStatementIsFine}
+use Rattle.flat_typed.specs.Lemmas.{Callable, ExpressionIsFine, StatementIsFine}
 use Rattle.flat_typed.proofs.Ordered.{clash}
 use Rattle.flat_typed.proofs.Binding.{none_out}
 use Rattle.flat_typed.proofs.Moving.{found_all}
@@ -217,7 +216,7 @@ module _ (p : Place) (op : UpdateOp) (e : Expression) (sc : Scope) (taker : Ty �
   update_done = subst (λ zs. StmtDone out sc (E0 >> step (update_to x zs op)) W c st d) (sym k.mean) at_indices
 
 -- updates are fine
-pub update_is_fine : (p : Place) (op : UpdateOp) (e : Expression) (s : Spot) → ExpressionIsFine e → FreeStatementIsFine (update p op e s)
+pub update_is_fine : (p : Place) (op : UpdateOp) (e : Expression) (s : Spot) → ExpressionIsFine e → StatementIsFine (update p op e s)
 update_is_fine p op e s fine sc taker c free =
     line_fine sc c (update_part sc p op e s) (meanings.expr e (as_meaning taker sc) needs.Held >> step (update_to (place_name p) (meanings.static_values (place_indices p) sc.statics) op)) s.line
     (gives-more (Callable sc) 0 (λ r. Updated sc taker p op e c r.1) (λ r. Does sc c (meanings.expr e (as_meaning taker sc) needs.Held >> step (update_to (place_name p) (meanings.static_values (place_indices p) sc.statics) op)) r.1) (update_part sc p op e s c)

@@ -33,7 +33,8 @@ use Rattle.check_expr.proofs.Owners.{gives-more, o_bind, o_then, o_more, o_from,
 use Rattle.flat_form.specs.Names.{AllOf}
 use Rattle.flat_typed.specs.Places.{Places}
 use Rattle.flat_typed.specs.Relation.{FitsPart}
-use Rattle.flat_typed.specs.Uses.{IsThere, NoStatics}
+use Rattle.flat_typed.specs.Uses.{IsThere}
+use Rattle.flat_typed.specs.Scopes.{NoStatics}
 use Rattle.flat_typed.proofs.Ordered.{clash}
 use Rattle.flat_typed.proofs.Moving.{spent}
 use Rattle.flat_typed.proofs.Uses.{find_kinds, place_use_kinds, all_join}
@@ -109,7 +110,7 @@ module _ (S : InstanceKey → Signature → Type 0) (low : ℕ) (W : Places) (vs
 
   -- ---- places
 
-  place_uses : (w : Place) (s : Spot) (need : Need) (zs : List ℤ) → index_values sc.statics (place_indices w) ≡ Some zs → uses (place w s) sc vs0 need ≡ place_use sc.statics (find_var vs0 (variable (place_name w))) (place_indices w) need
+  pub place_uses : (w : Place) (s : Spot) (need : Need) (zs : List ℤ) → index_values sc.statics (place_indices w) ≡ Some zs → uses (place w s) sc vs0 need ≡ place_use sc.statics (find_var vs0 (variable (place_name w))) (place_indices w) need
   place_uses (whole x) s need zs e = refl
   place_uses (part x i) s need zs e =
       ap (λ l. place_use sc.statics (find_var vs0 (variable x)) (more i none) need ++ l) (no_uses i needs.Held (static_index (is_static sc.statics i) (value sc.statics i) (Some []) zs e))
@@ -121,7 +122,7 @@ module _ (S : InstanceKey → Signature → Type 0) (low : ℕ) (W : Places) (vs
       (no_uses j needs.Held (static_index (is_static sc.statics j) (value sc.statics j) (Some []) a.rest a.is))
       ∙ (append-nil (place_use sc.statics (find_var vs0 (variable x)) (more i (more j none)) need ++ []) ∙ append-nil (place_use sc.statics (find_var vs0 (variable x)) (more i (more j none)) need))
 
-  after_use : (need : Need) (c d : Context) (x : NameId) (q : Part) → Used sc need c x q d → AllLeft vs0 c.vars × AllOf (FitsPart W c.vars) c.vars → AllLeft vs0 d.vars × AllOf (FitsPart W d.vars) d.vars
+  pub after_use : (need : Need) (c d : Context) (x : NameId) (q : Part) → Used sc need c x q d → AllLeft vs0 c.vars × AllOf (FitsPart W c.vars) c.vars → AllLeft vs0 d.vars × AllOf (FitsPart W d.vars) d.vars
   after_use need c d x q (inr u) h = subst (λ l. AllLeft vs0 l × AllOf (FitsPart W l) l) (sym u.left) h
   after_use need c d x q (inl u) h = go u.left
     where

@@ -95,12 +95,12 @@ kinds_replaced (w ∷ ws) v p e q = go (same_part w.part p) refl e (λ d. kinds_
 
 -- ---- wires by operands and by lists
 
-among_of : (w : WireId) (ps : List Operand) → list_any (named_by w) ps ≡ among (wires_in ps) w
+pub among_of : (w : WireId) (ps : List Operand) → list_any (named_by w) ps ≡ among (wires_in ps) w
 among_of w [] = refl
 among_of w (Const b ∷ ps) = among_of w ps
 among_of w (Literal l ∷ ps) = ap₂ (λ a b. a || b) (same_swap l.wire w) (among_of w ps)
 
-times_among : (w : WireId) (ps : List Operand) → 1 ≤ times_in w ps → among (wires_in ps) w ≡ true
+pub times_among : (w : WireId) (ps : List Operand) → 1 ≤ times_in w ps → among (wires_in ps) w ≡ true
 times_among w [] le = absurd (omega (arith, le))
 times_among w (Const b ∷ ps) le = times_among w ps le
 times_among w (Literal l ∷ ps) le = ap (λ t. t || among (wires_in ps) w) (same_swap w l.wire) ∙ go (named_by w (Literal l)) le (times_among w ps)
@@ -127,7 +127,7 @@ live_counts (w ∷ ws) p v e l = go (same_part w.part p) e (λ d. live_counts ws
     go true e i = let a : owns v.place w ≡ 1 = ap (owns v.place) (some_same w v e) ∙ owns_own v l in omega (arith, a)
     go false e i = let a = i e in omega (arith, a)
 
-live_below : (vs : List Var) (p : Part) (v : Var) {n : ℕ} → find_var vs p ≡ Some v → v.consumed ≡ false → (n ≤ v.place → owners v.place vs ≡ 0) → v.place < n
+pub live_below : (vs : List Var) (p : Part) (v : Var) {n : ℕ} → find_var vs p ≡ Some v → v.consumed ≡ false → (n ≤ v.place → owners v.place vs ≡ 0) → v.place < n
 live_below vs p v {n = n} e l h = go (cases_lt v.place n)
   where
     go : (v.place < n) ⊎ (n ≤ v.place) → v.place < n

@@ -20,7 +20,7 @@ use Rattle.check_scope.specs.Context.{Scope, Context, ◌>>=◌, give_back, vari
 use Rattle.check_scope.specs.Places.{disturbs, is_moved, unmoved, use_found, use_place}
 use Rattle.check_scope.specs.Uses.{place_use}
 use Rattle.check_expr.specs.Owners.{Gives, Ensures}
-use Rattle.check_expr.proofs.Owners.{o_bind, o_then, o_more, o_back, o_fail, o_if, o_rules, o_variables, gives-more}
+use Rattle.check_expr.proofs.Owners.{o_bind, o_then, o_more, o_back, o_fail, o_if, o_rules, o_variables}
 use Rattle.flat_core.specs.declared.step.WireId.{WireId}
 use Rattle.flat_form.specs.State.{Flattening, wires_so_far}
 use Rattle.flat_form.specs.Flat.{flat}
@@ -29,7 +29,6 @@ use Rattle.flat_typed.specs.Footprint.{wires_of_part, used_wires, consumed_wires
 use Rattle.flat_typed.specs.Relation.{Outside, Stands}
 use Rattle.flat_typed.specs.Uses.{IsThere}
 use Rattle.flat_typed.specs.Done.{Begins, ExprDone, kinds}
-use Rattle.flat_typed.specs.Lemmas.{Callable, ExprFine}
 use Rattle.flat_typed.proofs.Ordered.{clash}
 use Rattle.flat_typed.proofs.Parts.{found_there, some_same, part_other}
 use Rattle.flat_typed.proofs.Changes.{whole_is}
@@ -145,19 +144,19 @@ stands_vars out held W under c d s e r =
 -- ---- the law
 
 module _ (out : Outside) (sc : Scope) (low : ℕ) (others : ℕ → ℕ) (W : Places) (under : List Value) (c : Context) (s : Flattening) (x : NameId) where
-  abbrev uses_of : Need → Option Var → List Use
+  abbrev pub uses_of : Need → Option Var → List Use
   uses_of need o = place_use sc.statics o none need
 
-  abbrev Starts : Need → Option Var → Type 0
+  abbrev pub Starts : Need → Option Var → Type 0
   Starts need o = Begins out sc low others W under (uses_of need o) c s
 
-  abbrev Ends : Need → Option Var → Value → Context → Type 0
+  abbrev pub Ends : Need → Option Var → Value → Context → Type 0
   Ends need o u d = ExprDone out sc need (step (give_part need x [])) W under (uses_of need o) c s (u ∷ []) d
 
-  abbrev held_use : Use
+  abbrev pub held_use : Use
   held_use = record { part = variable x; need = needs.Held }
 
-  is_there : (need : Need) (u : Value) (d : Context) (h : VariableUsed sc need c x u d) → IsThere sc.held c.vars held_use
+  pub is_there : (need : Need) (u : Value) (d : Context) (h : VariableUsed sc need c x u d) → IsThere sc.held c.vars held_use
   is_there need u d h = record {
     owner = h.var;
     found = h.found;
@@ -221,18 +220,9 @@ module _ (out : Outside) (sc : Scope) (low : ℕ) (others : ℕ → ℕ) (W : Pl
       g =
           borrowed_done out sc.held W under c s b.stands b.good held_use (is_there need u d h) need m.still (used_wires W c.vars (uses_of need (Some h.var))) (consumed_wires W c.vars (uses_of need (Some h.var))) c.next u m.type m.new named
 
-  variable_done : (need : Need) (u : Value) (d : Context) → VariableUsed sc need c x u d → Starts need (find_var c.vars (variable x)) → Ends need (find_var c.vars (variable x)) u d
+  pub variable_done : (need : Need) (u : Value) (d : Context) → VariableUsed sc need c x u d → Starts need (find_var c.vars (variable x)) → Ends need (find_var c.vars (variable x)) u d
   variable_done need u d h b = subst (λ o. Starts need o → Ends need o u d) (sym h.found) (go h.how) b
     where
       go : Moved need c h.var u d ⊎ Stayed need c h.var u d → Starts need (Some h.var) → Ends need (Some h.var) u d
       go (inl m) = moved_ends need u d h m
       go (inr m) = stayed_ends need u d h m
-
--- a variable that is used, whatever the need
-pub variable_is_fine : (x : NameId) (s : Spot) (sc : Scope) (need : Need) (c : Context)
-    → ExprFine sc need c (use_place sc (whole x) s need >>= (λ v. give_back (v ∷ []))) (step (give_part need x [])) (place_use sc.statics (find_var c.vars (variable x)) none need)
-variable_is_fine x s sc need c =
-    gives-more (Callable sc) 0 (λ r. (u : Value) × (r.0 ≡ u ∷ []) × VariableUsed sc need c x u r.1)
-    (λ r. (out : Outside) (low : ℕ) (others : ℕ → ℕ) (W : Places) (under : List Value) (t : Flattening) → Begins out sc low others W under (place_use sc.statics (find_var c.vars (variable x)) none need) c t → ExprDone out sc need (step (give_part need x [])) W under (place_use sc.statics (find_var c.vars (variable x)) none need) c t r.0 r.1)
-    ((use_place sc (whole x) s need >>= (λ v. give_back (v ∷ []))) c) ((o_value (Callable sc) 0 c sc x s need).runs c refl)
-    (λ r h out low others W under t b. subst (λ vs. ExprDone out sc need (step (give_part need x [])) W under (place_use sc.statics (find_var c.vars (variable x)) none need) c t vs r.1) (sym h.1) (variable_done out sc low others W under c t x need h.0 r.1 h.2 b))

@@ -28,7 +28,8 @@ use Rattle.flat_form.specs.Names.{AllOf}
 use Rattle.flat_typed.specs.Places.{Places}
 use Rattle.flat_typed.specs.Relation.{FitsPart}
 use Rattle.flat_typed.specs.Done.{kinds}
-use Rattle.flat_typed.specs.Uses.{IsThere, NoStatics, UsesAreThere}
+use Rattle.flat_typed.specs.Uses.{IsThere, UsesAreThere}
+use Rattle.flat_typed.specs.Scopes.{NoStatics}
 use Rattle.flat_typed.proofs.Ordered.{clash}
 use Rattle.flat_typed.proofs.Uses.{all_join}
 use Rattle.flat_typed.proofs.Tame.{AllLeft, left_same, kinds_left}
@@ -54,7 +55,7 @@ module _ (S : InstanceKey → Signature → Type 0) (low : ℕ) (W : Places) (vs
   abbrev Walked : (List Asked → Check (List Value)) → Expressions → Type 1
   Walked walk args = (X : Type 0) (l : List Asked) (ns : List Need) → AskedAs args l ns → Ensures S (Holds X) (walk l) (λ vs. Holds (X × Th (all_uses args sc vs0 ns)))
 
-  first_by : {A : Type 0} {P : Context → Type 0} {m : Check A} {Q : Context → Type 0} (t b : Bool) → t ≡ b → (t ≡ false → Ensures S P m (λ vs. Q)) → Ensures S P m (λ vs d. t ≡ false → Q d)
+  pub first_by : {A : Type 0} {P : Context → Type 0} {m : Check A} {Q : Context → Type 0} (t b : Bool) → t ≡ b → (t ≡ false → Ensures S P m (λ vs. Q)) → Ensures S P m (λ vs d. t ≡ false → Q d)
   first_by t true e f = o_more S low (k_any S low _) (λ vs d h z. clash (sym e ∙ z))
   first_by t false e f = o_more S low (f e) (λ vs d q z. q)
 
@@ -183,7 +184,7 @@ module _ (S : InstanceKey → Signature → Type 0) (low : ℕ) (W : Places) (vs
 
 -- ---- the law
 
-gives_all : {A B : Type 0} (S : InstanceKey → Signature → Type 0) (P : B → A → Type 0) (w : Walk A) → ((b : B) → Gives S (P b) w) → Gives S (λ a. (b : B) → P b a) w
+pub gives_all : {A B : Type 0} (S : InstanceKey → Signature → Type 0) (P : B → A → Type 0) (w : Walk A) → ((b : B) → Gives S (P b) w) → Gives S (λ a. (b : B) → P b a) w
 gives_all S P (answer a) h = h
 gives_all S P (broken e) h = tt
 gives_all S P (counted w) h = gives_all S P w h

@@ -4,6 +4,8 @@ use Rattle.silq_tree.specs.declared.node.NameId.{NameId}
 use Rattle.silq_tree.specs.Syntax.{Function}
 use Rattle.silq_types.specs.declared.types.Ty.{Ty}
 use Rattle.silq_types.specs.declared.values.Value.{Value}
+use Rattle.silq_types.specs.Types.{is_held}
+use Rattle.silq_types.specs.Calls.{is_consumed}
 use Rattle.silq_types.specs.declared.signature.Returned.{Returned}
 use Rattle.silq_types.specs.declared.signature.Signature.{Signature}
 use Rattle.silq_types.specs.declared.signature.InstanceKey.{InstanceKey}
@@ -19,17 +21,19 @@ use Rattle.silq_mean.specs.declared.receiver.Receiver.TheVariants.{CallResult}
 use Rattle.silq_mean.specs.Effect.{Effect}
 use Rattle.silq_mean.specs.Meaning.{body_of}
 use Rattle.flat_core.specs.declared.step.WireId.{WireId}
+use Rattle.flat_core.specs.declared.step.End.TheVariants.{Dropped}
+use Rattle.flat_core.specs.Label.{wire_in}
 use Rattle.bit_arith.specs.Calls.{IsTarget}
 use Rattle.flat_form.specs.declared.known.Known.{Known}
 use Rattle.flat_form.specs.declared.known.Known.TheVariants.{Shown}
-use Rattle.flat_form.specs.State.{Flattening, wires_so_far, operands_of}
+use Rattle.flat_form.specs.State.{Flattening, began_or, wires_so_far, operands_of}
 use Rattle.flat_form.specs.Flat.{flat}
 use Rattle.flat_form.specs.Fine.{Fine}
-use Rattle.flat_form.specs.Names.{names}
+use Rattle.flat_form.specs.Names.{AllOf, names}
 use Rattle.flat_form.specs.Shows.{ListBoth}
-use Rattle.flat_typed.specs.Places.{Places, times_in, carriers}
+use Rattle.flat_typed.specs.Places.{Places, times_in, carriers, owners_of}
 use Rattle.flat_typed.specs.Footprint.{used_wires, consumed_wires, Owed, Touches, StaysPlain, Unmade}
-use Rattle.flat_typed.specs.Relation.{Outside, Stands, IsTakenOver, is_carried, began_of}
+use Rattle.flat_typed.specs.Relation.{Outside, PartsDiffer, Stands, IsTakenOver, BeganFrom, is_carried, began_of, need_of}
 use Rattle.flat_typed.specs.Scopes.{as_meaning, scope_for}
 use Rattle.flat_typed.specs.Done.{Agree, StmtBegins, Leaves, changeable, kinds}
 
@@ -67,6 +71,18 @@ pub record ArgsDone (out : Outside) (sc : Scope) (takers : List Receiver) (e : E
   pub plain : is_qfree sc.this.mark ≡ true → StaysPlain s.built.draft (flat e s).built.draft
   pub unmade : Unmade (flat e s).built.draft
 
+-- what is handed on is not held, a classical value of it has a new place, and where it is not carried it names no wire with an owner
+pub record IsGivenOver (low : ℕ) (owners : WireId → ℕ) (r : Receiver) (v : Value) (k : Known) : Type 0 where
+  pub unheld : is_consumed (need_of r) ≡ true → is_held v.origin ≡ false
+  pub new : is_consumed (need_of r) ≡ true → v.ty.classical ≡ true → low ≤ v.place
+  pub shares : is_consumed (need_of r) ≡ true → v.ty.classical ≡ true → is_carried r v ≡ false → (w : WireId) → 1 ≤ owners w → names k w ≡ false
+
+pub record ArgsTells (out : Outside) (sc : Scope) (takers : List Receiver) (e : Effect) (W : Places) (under : List Value) (us : List Use) (c : Context) (s : Flattening) (vs : List Value) (d : Context) : Type 0 where
+  pub done : ArgsDone out sc takers e W under us c s vs d
+  pub given : Three (IsGivenOver c.next (λ w. owners_of done.after d.vars (carried takers vs ++ under) w)) takers vs done.answers
+  -- their expressions did not begin before, but for results of a call, which tell where the call began
+  pub began : (m : ℕ) → m ≤ wires_so_far s → m ≤ began_or m s.callers → AllOf (BeganFrom m) done.answers
+
 -- ---- bodies
 
 abbrev pub first_context : Function → Header → Context
@@ -80,6 +96,7 @@ FromParam W n None k = (w : WireId) → names k w ≡ true → n ≤ w.number
 pub record IsResult (W : Places) (n : ℕ) (r : Returned) (k : Known) : Type 0 where
   pub shows : k ≡ Shown (record { classical = r.ty.classical; shape = r.ty.shape; operands = operands_of k; own = true; began = began_of k })
   pub from : FromParam W n r.from k
+  pub quantum : r.ty.classical ≡ true → r.from ≡ None
 
 -- how often some values name a wire, and how often those of a quantum type
 abbrev pub named_times : List Known → WireId → ℕ
@@ -98,6 +115,7 @@ pub record BodyDone (out : Outside) (f : Function) (h : Header) (e : Effect) (W 
   pub each : ListBoth (IsResult W (wires_so_far s)) results answers
   pub one : (w : WireId) → named_times answers w ≤ 1
   pub free : (w : WireId) → 1 ≤ named_times answers w → IsTarget (flat e s).built.draft w
+  pub untold : (w : WireId) → 1 ≤ named_times answers w → (wire_in (flat e s).built.draft.wires w).ending ≡ Dropped
   pub unguarded : (w : WireId) → 1 ≤ named_times answers w → out.guarded w ≡ false
   pub owed : (w : WireId) → Owed (flat e s).built.draft w → (1 ≤ quantum_times results answers w) ⊎ (out.answered w ≡ true)
   pub setting : (flat e s).setting ≡ s.setting
@@ -105,6 +123,9 @@ pub record BodyDone (out : Outside) (f : Function) (h : Header) (e : Effect) (W 
   pub touches : Touches (changeable out W (param_vars 0 f.params h.params) []) s.built.draft (flat e s).built.draft
   pub plain : is_qfree f.mark ≡ true → StaysPlain s.built.draft (flat e s).built.draft
   pub unmade : Unmade (flat e s).built.draft
+  -- their wires are those of consumed parameters, or new; their expressions did not begin before the body, nor before its call
+  pub ours : (w : WireId) → 1 ≤ named_times answers w → (changeable out W (param_vars 0 f.params h.params) [] w ≡ true) ⊎ (wires_so_far s ≤ w.number)
+  pub began : (m : ℕ) → m ≤ wires_so_far s → m ≤ began_or m s.callers → AllOf (BeganFrom m) answers
 
 -- the body of an instance, wherever it is entered
 abbrev pub BodyFine : List (NameId × BuiltIn) → List Function → (Ty → Receiver) → Function → List ℤ → Header → List Returned → Type 0
@@ -119,8 +140,8 @@ abbrev pub parted : List Function → ℕ → Option (Function × List Function)
 parted [] n = None
 parted (f ∷ before) n = if n == length before then Some (f, before) else parted before n
 
--- a signature tells what each call of its instance does
+-- a signature tells what each call of its instance does, and its function's parameters have different names
 abbrev pub CallFine : List (NameId × BuiltIn) → List Function → InstanceKey → Signature → Type 0
 CallFine words funs k sig =
     (f : Function) (before : List Function) (h : Header) → parted funs k.fun.number ≡ Some (f, before) → header_of (paired f.statics k.statics) exact_place f ≡ Ok h →
-    BodyFine words before CallResult f k.statics h sig.results × (sig.params ≡ h.params)
+    BodyFine words before CallResult f k.statics h sig.results × ((sig.params ≡ h.params) × PartsDiffer (param_vars 0 f.params h.params))

@@ -2,7 +2,7 @@
 use Rattle.std.specs.Prelude.{◌≡◌, ℕ, false, List, [], ◌∷◌, length, map, drop, ℤ, Ok, ◌⊎◌}
 use Rattle.silq_tree.specs.declared.node.NameId.{NameId}
 use Rattle.silq_tree.specs.declared.node.Spot.{Spot}
-use Rattle.silq_tree.specs.Syntax.{Expression, Expressions, Statement, Statements, Function}
+use Rattle.silq_tree.specs.Syntax.{Expression, Expressions, Statement, Statements, Function, none, more}
 use Rattle.silq_types.specs.declared.types.Ty.{Ty}
 use Rattle.silq_types.specs.declared.values.Value.{Value}
 use Rattle.silq_types.specs.declared.signature.InstanceKey.{InstanceKey}
@@ -31,10 +31,10 @@ use Rattle.flat_form.specs.State.{Flattening}
 use Rattle.flat_form.specs.Names.{AllOf}
 use Rattle.flat_form.specs.Jobs.{FineJob, EndsWell}
 use Rattle.flat_typed.specs.Places.{Places}
-use Rattle.flat_typed.specs.Relation.{Outside, is_argument}
-use Rattle.flat_typed.specs.Scopes.{as_meaning, scope_for}
-use Rattle.flat_typed.specs.Done.{Begins, ExprDone, StmtBegins, StmtDone}
-use Rattle.flat_typed.specs.Calls.{ArgsDone, BodyFine, CallFine}
+use Rattle.flat_typed.specs.Relation.{Outside, is_argument, need_of}
+use Rattle.flat_typed.specs.Scopes.{as_meaning, scope_for, NoStatics}
+use Rattle.flat_typed.specs.Done.{Begins, ExprTells, StmtBegins, StmtDone}
+use Rattle.flat_typed.specs.Calls.{ArgsTells, BodyFine, CallFine}
 
 -- ---- the theorem
 
@@ -58,18 +58,22 @@ SignaturesAreFine =
 
 -- ---- expressions
 
--- wherever the walk of this check answers, this effect does what the answer tells
-abbrev pub ExprFine : Scope → Need → Context → Check (List Value) → Effect → List Use → Type 0
-ExprFine sc need c m e us =
+-- wherever the walk of this check answers, this effect is fine, leaves the relation, and does what the answer tells
+abbrev pub ExprFine : Scope → Need → List Ty → Context → Check (List Value) → Effect → List Use → Type 0
+ExprFine sc need wants c m e us =
     Gives (Callable sc) (λ r.
     (out : Outside) (low : ℕ) (others : ℕ → ℕ) (W : Places) (under : List Value) (s : Flattening) → Begins out sc low others W under us c s →
-    ExprDone out sc need e W under us c s r.0 r.1) (m c)
+    ExprTells out sc need wants e W under us c s r.0 r.1) (m c)
 
--- a tuple stands only where each of its values is taken over at once
+-- no variable has the name of a static value, and a tuple stands only where each of its values is taken over at once
 abbrev pub ExpressionIsFine : Expression → Type 0
 ExpressionIsFine e =
-    (sc : Scope) (taker : Ty → Receiver) (need : Need) (wants : List Ty) (c : Context) → is_tuple e ≡ false →
-    ExprFine sc need c (expr e sc need wants) (meanings.expr e (as_meaning taker sc) need) (uses e sc c.vars need)
+    (sc : Scope) (taker : Ty → Receiver) (need : Need) (wants : List Ty) (c : Context) → is_tuple e ≡ false → NoStatics sc c.vars →
+    ExprFine sc need wants c (expr e sc need wants) (meanings.expr e (as_meaning taker sc) need) (uses e sc c.vars need)
+
+abbrev pub EachIsFine : Expressions → Type 0
+EachIsFine none = Unit {0}
+EachIsFine (more e es) = ExpressionIsFine e × EachIsFine es
 
 -- what is asked of a value, and what takes it over
 abbrev pub Agrees : Asked → Receiver → Type 0
@@ -77,10 +81,6 @@ Agrees a Variable = (a.need ≡ needs.Consumed) × (a.wants ≡ [])
 Agrees a (Argument need t) = (a.need ≡ need) × (a.wants ≡ t ∷ [])
 Agrees a (CallResult t) = (a.need ≡ needs.Consumed) × (a.wants ≡ t ∷ [])
 Agrees a (EntryOutput t) = (a.need ≡ needs.Consumed) × (a.wants ≡ t ∷ [])
-
-abbrev pub need_of : Receiver → Need
-need_of (Argument need t) = need
-need_of r = needs.Consumed
 
 -- where one list of needs and one of what is asked are the same, and end with the need `other`
 abbrev pub Asking : Need → List Asked → List Need → List Receiver → Type 0
@@ -100,10 +100,10 @@ Untangled sc c es takers =
 abbrev pub ArgumentsAreFine : Expressions → Type 0
 ArgumentsAreFine es =
     (sc : Scope) (taker : Ty → Receiver) (other : Need) (asks : List Asked) (ns : List Need) (takers : List Receiver) (c : Context) →
-    count es ≡ length takers → Asking other asks ns takers → Untangled sc c es takers →
+    NoStatics sc c.vars → count es ≡ length takers → Asking other asks ns takers → Untangled sc c es takers →
     Gives (Callable sc) (λ r.
     (out : Outside) (low : ℕ) (others : ℕ → ℕ) (W : Places) (under : List Value) (s : Flattening) → Begins out sc low others W under (uses_by es sc c takers) c s →
-    ArgsDone out sc takers (meanings.exprs es (as_meaning taker sc) other ns takers) W under (uses_by es sc c takers) c s r.0 r.1)
+    ArgsTells out sc takers (meanings.exprs es (as_meaning taker sc) other ns takers) W under (uses_by es sc c takers) c s r.0 r.1)
     (arguments es sc other asks c)
 
 -- ---- laws of typing alone
@@ -121,10 +121,10 @@ StmtFine sc c m e =
     (out : Outside) (low : ℕ) (W : Places) (s : Flattening) → StmtBegins out sc low (λ p. 0) W c s → StmtDone out sc e W c s r.1) (m c)
 
 abbrev pub StatementIsFine : Statement → Type 0
-StatementIsFine st = (sc : Scope) (taker : Ty → Receiver) (c : Context) → StmtFine sc c (stmt st sc) (meanings.stmt st (as_meaning taker sc))
+StatementIsFine st = (sc : Scope) (taker : Ty → Receiver) (c : Context) → NoStatics sc c.vars → StmtFine sc c (stmt st sc) (meanings.stmt st (as_meaning taker sc))
 
 abbrev pub StatementsAreFine : Statements → Type 0
-StatementsAreFine ss = (sc : Scope) (taker : Ty → Receiver) (c : Context) → StmtFine sc c (stmts ss sc) (meanings.stmts ss (as_meaning taker sc))
+StatementsAreFine ss = (sc : Scope) (taker : Ty → Receiver) (c : Context) → NoStatics sc c.vars → StmtFine sc c (stmts ss sc) (meanings.stmts ss (as_meaning taker sc))
 
 -- a block that stands where its statements are fine
 abbrev pub BlocksAreFine : Type 0

@@ -10,3 +10,14 @@ pub mod Laws
 pub mod Stay
 pub mod StatementLaws
 pub mod Steps
+pub mod Settled
+pub mod Endings
+pub mod Bodies
+pub mod Instances
+pub mod Accepted
+pub mod PlaceLaws
+pub mod CallLaws
+pub mod ArgumentLaws
+pub mod OperatorLaws
+pub mod BuiltIns
+pub mod AssignmentLaws

@@ -6,6 +6,7 @@ use Rattle.silq_types.specs.declared.values.Value.{Value}
 use Rattle.silq_types.specs.declared.values.Var.{Var}
 use Rattle.silq_types.specs.Types.{is_linear, is_held, fits}
 use Rattle.silq_types.specs.declared.need.Need.{Need}
+use Rattle.silq_types.specs.declared.need.Need.TheVariants as needs
 use Rattle.check_scope.specs.Context.{Context, indices, variable, part_at, find_var, same_part, part_type, is_in_condition}
 use Rattle.silq_types.specs.Calls.{is_consumed}
 use Rattle.silq_mean.specs.declared.receiver.Receiver.{Receiver}
@@ -117,6 +118,11 @@ BeganFrom n k = Unit {0}
 abbrev pub is_argument : Receiver → Bool
 is_argument (Argument need t) = true
 is_argument r = false
+
+-- how a value is used that is taken over so
+abbrev pub need_of : Receiver → Need
+need_of (Argument need t) = need
+need_of r = needs.Consumed
 
 -- whether the wires of a value are its own
 abbrev pub is_own : Known → Bool

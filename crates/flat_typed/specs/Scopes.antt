@@ -1,11 +1,12 @@
 -- What the meaning of a part of a body sees, read off what typing sees.
-use Rattle.std.specs.Prelude.{List, [], map, ℤ}
+use Rattle.std.specs.Prelude.{◌≡◌, true, List, [], map, ℤ, None, is_some}
 use Rattle.silq_tree.specs.declared.node.NameId.{NameId}
 use Rattle.silq_tree.specs.Syntax.{Function}
 use Rattle.silq_types.specs.declared.types.Ty.{Ty}
-use Rattle.silq_mean.specs.Written.{Header}
+use Rattle.silq_types.specs.declared.values.Var.{Var}
+use Rattle.silq_mean.specs.Written.{Header, value_of}
 use Rattle.silq_types.specs.declared.built_in.BuiltIn.{BuiltIn}
-use Rattle.check_scope.specs.Context.{Scope}
+use Rattle.check_scope.specs.Context.{Scope, variable, find_var}
 use Rattle.silq_types.specs.Calls.{built_in, find_fun, needs_of_found}
 use Rattle.silq_types.specs.Programs.{paired}
 use Rattle.silq_mean.specs.declared.receiver.Receiver.{Receiver}
@@ -26,3 +27,7 @@ as_meaning taker sc =
 -- the scope in which the body of an instance is walked
 abbrev pub scope_for : List (NameId × BuiltIn) → List Function → Function → List ℤ → Header → Scope
 scope_for words before f statics h = record { words = words; before = before; this = f; results = h.results; statics = paired f.statics statics; held = [] }
+
+-- no variable has the name of a static value
+abbrev pub NoStatics : Scope → List Var → Type 0
+NoStatics sc vars = (x : NameId) → is_some (value_of sc.statics x) ≡ true → find_var vars (variable x) ≡ None

@@ -10,31 +10,30 @@ use Rattle.check_scope.specs.Context.{Scope, Context}
 use Rattle.check_fun.specs.Statement.{stmt, stmts, otherwise, otherwise_end, plain_block}
 use Rattle.silq_mean.specs.declared.receiver.Receiver.{Receiver}
 use Rattle.silq_mean.specs.Meaning as meanings
-use Rattle.flat_typed.specs.Scopes.{as_meaning}
-use Rattle.flat_typed.specs.Uses.{NoStatics}
-use Rattle.flat_typed.specs.Lemmas.{ExpressionIsFine, StatementIsFine, StmtFine}
-use Rattle.flat_typed.specs.Stay.{Keeps, FreeStatementIsFine, FreeStatementsAreFine}
+use Rattle.flat_typed.specs.Scopes.{as_meaning, NoStatics}
+use Rattle.flat_typed.specs.Lemmas.{ExpressionIsFine, StatementIsFine, StmtFine, StatementsAreFine}
+use Rattle.flat_typed.specs.Stay.{Keeps}
 
 abbrev pub PhaseIsFine : Type 0
 PhaseIsFine = (e : Expression) (s : Spot) → StatementIsFine (phase e s)
 
 abbrev pub CallIsFine : Type 0
-CallIsFine = (e : Expression) (s : Spot) → ExpressionIsFine e → FreeStatementIsFine (call e s)
+CallIsFine = (e : Expression) (s : Spot) → ExpressionIsFine e → StatementIsFine (call e s)
 
 abbrev pub ForgetValueIsFine : Type 0
-ForgetValueIsFine = (x : NameId) (e : Expression) (s : Spot) → ExpressionIsFine e → FreeStatementIsFine (forget_value x e s)
+ForgetValueIsFine = (x : NameId) (e : Expression) (s : Spot) → ExpressionIsFine e → StatementIsFine (forget_value x e s)
 
 abbrev pub UpdateIsFine : Type 0
-UpdateIsFine = (p : Place) (op : UpdateOp) (e : Expression) (s : Spot) → ExpressionIsFine e → FreeStatementIsFine (update p op e s)
+UpdateIsFine = (p : Place) (op : UpdateOp) (e : Expression) (s : Spot) → ExpressionIsFine e → StatementIsFine (update p op e s)
 
 abbrev pub NextIsFine : Type 0
 NextIsFine =
-    (st : Statement) (rest : Statements) → FreeStatementIsFine st → FreeStatementsAreFine rest →
-    ((sc : Scope) → Keeps (NoStatics sc) sc (stmt st sc)) → ((sc : Scope) → Keeps (NoStatics sc) sc (stmts rest sc)) → FreeStatementsAreFine (next st rest)
+    (st : Statement) (rest : Statements) → StatementIsFine st → StatementsAreFine rest →
+    ((sc : Scope) → Keeps (NoStatics sc) sc (stmt st sc)) → ((sc : Scope) → Keeps (NoStatics sc) sc (stmts rest sc)) → StatementsAreFine (next st rest)
 
 abbrev pub LoopIsFine : Type 0
 LoopIsFine =
-    (x : NameId) (low high : Expression) (ss : Statements) (end s : Spot) → FreeStatementsAreFine ss → ((sc : Scope) → Keeps (NoStatics sc) sc (stmts ss sc)) → FreeStatementIsFine (loop x low high (block ss end) s)
+    (x : NameId) (low high : Expression) (ss : Statements) (end s : Spot) → StatementsAreFine ss → ((sc : Scope) → Keeps (NoStatics sc) sc (stmts ss sc)) → StatementIsFine (loop x low high (block ss end) s)
 
 -- what stands behind `else`
 abbrev pub OtherwiseIsFine : Otherwise → Type 0
@@ -43,4 +42,4 @@ OtherwiseIsFine other = (sc : Scope) (taker : Ty → Receiver) (c : Context) →
 abbrev pub StaticChoiceIsFine : Type 0
 StaticChoiceIsFine =
     (e : Expression) (ss : Statements) (end : Spot) (other : Otherwise) (s : Spot) (sc : Scope) (taker : Ty → Receiver) (c : Context) → NoStatics sc c.vars → is_static sc.statics e ≡ true →
-    FreeStatementsAreFine ss → OtherwiseIsFine other → StmtFine sc c (stmt (choice e (block ss end) other s) sc) (meanings.stmt (choice e (block ss end) other s) (as_meaning taker sc))
+    StatementsAreFine ss → OtherwiseIsFine other → StmtFine sc c (stmt (choice e (block ss end) other s) sc) (meanings.stmt (choice e (block ss end) other s) (as_meaning taker sc))

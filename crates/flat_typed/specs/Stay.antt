@@ -1,18 +1,14 @@
 -- What typing alone tells of places, in a form that statements in turn need.
 use Rattle.std.specs.Prelude.{◌≡◌, ℕ, ◌<◌, ◌⊎◌, true, List, [], ◌∷◌}
-use Rattle.silq_tree.specs.Syntax.{Statement, Statements}
-use Rattle.silq_types.specs.declared.types.Ty.{Ty}
+use Rattle.silq_tree.specs.Syntax.{Statement}
 use Rattle.silq_types.specs.declared.values.Var.{Var}
 use Rattle.check_scope.specs.Context.{Scope, Context, Check}
 use Rattle.check_expr.specs.Owners.{Gives, Sole}
-use Rattle.check_fun.specs.Statement.{stmt, stmts}
-use Rattle.silq_mean.specs.declared.receiver.Receiver.{Receiver}
-use Rattle.silq_mean.specs.Meaning as meanings
+use Rattle.check_fun.specs.Statement.{stmt}
 use Rattle.flat_form.specs.Names.{AllOf}
 use Rattle.flat_typed.specs.Places.{has_wires}
-use Rattle.flat_typed.specs.Scopes.{as_meaning}
-use Rattle.flat_typed.specs.Uses.{NoStatics}
-use Rattle.flat_typed.specs.Lemmas.{Callable, StmtFine}
+use Rattle.flat_typed.specs.Scopes.{NoStatics}
+use Rattle.flat_typed.specs.Lemmas.{Callable}
 
 -- something holds of one item of a list
 abbrev pub SomeOf : {A : Type 0} → (A → Type 0) → List A → Type 0
@@ -43,11 +39,3 @@ Keeps I sc m = (c : Context) → I c.vars → Gives (Callable sc) (λ r. Goes I 
 -- a law of typing alone
 abbrev pub StatementsKeep : Type 0
 StatementsKeep = (st : Statement) (sc : Scope) → Keeps (NoStatics sc) sc (stmt st sc)
-
--- ---- statements where no variable has the name of a static value
-
-abbrev pub FreeStatementIsFine : Statement → Type 0
-FreeStatementIsFine st = (sc : Scope) (taker : Ty → Receiver) (c : Context) → NoStatics sc c.vars → StmtFine sc c (stmt st sc) (meanings.stmt st (as_meaning taker sc))
-
-abbrev pub FreeStatementsAreFine : Statements → Type 0
-FreeStatementsAreFine ss = (sc : Scope) (taker : Ty → Receiver) (c : Context) → NoStatics sc c.vars → StmtFine sc c (stmts ss sc) (meanings.stmts ss (as_meaning taker sc))

@@ -1,18 +1,10 @@
--- Laws on single steps that are proved: which wires rows of steps touch, and what the use of a variable does.
-use Rattle.std.specs.Prelude.{ℕ, List, [], ◌∷◌}
-use Rattle.silq_tree.specs.declared.node.NameId.{NameId}
-use Rattle.silq_tree.specs.declared.node.Spot.{Spot}
+-- Laws on single steps that are proved: which wires rows of steps touch.
+use Rattle.std.specs.Prelude.{ℕ, List}
 use Rattle.silq_tree.specs.declared.node.UnaryOp.{UnaryOp}
 use Rattle.silq_tree.specs.declared.node.BinaryOp.{BinaryOp}
 use Rattle.silq_tree.specs.declared.node.UpdateOp.{UpdateOp}
-use Rattle.silq_tree.specs.Syntax.{whole, none}
 use Rattle.silq_types.specs.declared.types.Shape.{Shape}
-use Rattle.silq_types.specs.declared.need.Need.{Need}
-use Rattle.check_scope.specs.Context.{Scope, Context, ◌>>=◌, give_back, variable, find_var}
-use Rattle.check_scope.specs.Places.{use_place}
-use Rattle.check_scope.specs.Uses.{place_use}
 use Rattle.silq_mean.specs.declared.receiver.Receiver.{Receiver}
-use Rattle.silq_mean.specs.Effect.{step, give_part}
 use Rattle.flat_core.specs.declared.step.WireId.{WireId}
 use Rattle.flat_core.specs.declared.step.End.{End}
 use Rattle.flat_core.specs.declared.step.End.TheVariants.{Measured}
@@ -25,7 +17,6 @@ use Rattle.flat_form.specs.declared.known.TypedBits.{TypedBits}
 use Rattle.flat_form.specs.State.{copied}
 use Rattle.flat_form.specs.Flat.{by_one, by_two, end_all, measure_all, taken_for, update_by}
 use Rattle.flat_typed.specs.Footprint.{Touches, StaysPlain}
-use Rattle.flat_typed.specs.Lemmas.{ExprFine}
 
 -- of old wires those of a set alone are touched, and none comes to be mixed
 pub record Quiet (T : Targets) (b e : Built) : Type 0 where
@@ -45,9 +36,3 @@ pub record RowsTouch : Type 0 where
   pub measures : (at : Setting) (ws : List WireId) (b : Built) → Quiet (among ws) b (end_all Measured ws (measure_all at ws b))
   -- and so does H, which mixes it
   pub mixes : (at : Setting) (w : WireId) (b : Built) → Touches (same_wire w) b.draft (had at w b).draft
-
--- the use of a whole variable: moved, held, or copied where it is classical
-abbrev pub VariablesAreFine : Type 0
-VariablesAreFine =
-    (x : NameId) (s : Spot) (sc : Scope) (need : Need) (c : Context) →
-    ExprFine sc need c (use_place sc (whole x) s need >>= (λ v. give_back (v ∷ []))) (step (give_part need x [])) (place_use sc.statics (find_var c.vars (variable x)) none need)

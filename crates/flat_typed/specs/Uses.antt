@@ -1,7 +1,6 @@
 -- Uses of parts that are there, which typing gives of each use of an accepted expression.
-use Rattle.std.specs.Prelude.{◌≡◌, true, false, List, Some, None, is_some, ⊤}
+use Rattle.std.specs.Prelude.{◌≡◌, true, false, List, Some, ⊤}
 use Rattle.silq_tree.specs.declared.node.Spot.{Spot}
-use Rattle.silq_tree.specs.declared.node.NameId.{NameId}
 use Rattle.silq_tree.specs.Syntax.{Place, Expression}
 use Rattle.silq_types.specs.declared.types.Ty.{Ty}
 use Rattle.silq_types.specs.declared.values.Part.{Part}
@@ -14,7 +13,6 @@ use Rattle.check_scope.specs.declared.uses.Use.{Use}
 use Rattle.check_scope.specs.Context.{Scope, Context, indices, variable, part_at, find_var, part_type, is_in_condition}
 use Rattle.check_scope.specs.Places.{disturbs, use_place}
 use Rattle.check_scope.specs.Uses.{uses, place_use, both_consume, consume_and_hold}
-use Rattle.silq_mean.specs.Written.{value_of}
 use Rattle.check_expr.specs.Expression.{is_tuple, expr}
 use Rattle.check_expr.specs.Owners.{Gives}
 use Rattle.flat_core.specs.declared.step.WireId.{WireId}
@@ -24,6 +22,7 @@ use Rattle.flat_form.specs.Names.{AllOf, names}
 use Rattle.flat_typed.specs.Places.{Places, is_shared}
 use Rattle.flat_typed.specs.Footprint.{used_wires, consumed_wires, Within}
 use Rattle.flat_typed.specs.Relation.{FitsPart, Outside, Stands}
+use Rattle.flat_typed.specs.Scopes.{NoStatics}
 use Rattle.flat_typed.specs.Done.{kinds, changeable}
 
 -- the variable is not consumed, the index values lead to a part of it, and no part that was taken out overlaps this one. Where it is consumed, its
@@ -61,10 +60,6 @@ PlacesAreThere =
     Gives (λ k s. ⊤)
     (λ r. (W : Places) → AllOf (FitsPart W c.vars) c.vars → AllOf (IsThere sc.held c.vars) (place_use sc.statics (find_var c.vars (variable (place_name w))) (place_indices w) need))
     (use_place sc w s need c)
-
--- no variable has the name of a static value
-abbrev pub NoStatics : Scope → List Var → Type 0
-NoStatics sc vars = (x : NameId) → is_some (value_of sc.statics x) ≡ true → find_var vars (variable x) ≡ None
 
 -- the parts that an expression uses are there, and it leaves the parts, types and places of all variables
 abbrev pub UsesAreThere : Type 0

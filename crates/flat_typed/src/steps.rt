@@ -1,13 +1,8 @@
 //! Laws on single steps.
 
-ghost use Rattle.flat_typed.specs.Steps.{RowsTouch, VariablesAreFine};
+ghost use Rattle.flat_typed.specs.Steps.{RowsTouch};
 
 /// Rows of steps change, measure and end their own wires and new ones alone, and all but H leave each wire as plain as it was.
 pub fn rows_touch()
     ensures { RowsTouch }
-{}
-
-/// A whole variable that an accepted expression uses may be used so, and the relation stands behind it.
-pub fn variables_are_fine()
-    ensures { VariablesAreFine }
 {}
