@@ -3,8 +3,8 @@
 //!
 //! The relation stands in `specs/Relation`: the environment is read off the context and a function that gives each place its operands, and
 //! no wire has two owners. `specs/Done` and `specs/Calls` say what each kind of effect does to it, and `specs/Lemmas` has the statements that
-//! lead to the theorem that each accepted program is one that flattening can take; most of these are not proved yet. What is proved is a law
-//! below: each function has an empty body, and its contract is the law.
+//! lead to the theorem that each accepted program is one that flattening can take (`programs::accepted_is_flattenable`). Each function has an
+//! empty body, and its contract is the law.
 
 pub mod built_ins;
 pub mod calls;

@@ -1,6 +1,6 @@
 //! What typing gives for statements, where it gives the like for their expressions. Each function has an empty body, and its contract is the law.
-//! Where statements stand within others, a premise is also that they keep places apart and the names of static values free (`Keeps`), which is
-//! not proved of each statement yet.
+//! Where statements stand within others, a premise here is that they keep places apart and the names of static values free (`Keeps`); the
+//! theorem takes the forms of `specs/Settled`, which hold of each statement.
 
 ghost use Rattle.flat_typed.specs.Lemmas.{BlocksAreFine};
 ghost use Rattle.flat_typed.specs.StatementLaws.{PhaseIsFine, CallIsFine, ForgetValueIsFine, UpdateIsFine, NextIsFine, LoopIsFine, StaticChoiceIsFine};
