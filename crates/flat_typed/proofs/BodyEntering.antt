@@ -112,8 +112,8 @@ module _ (out : Outside) (held : List (List Part)) (after : Places) (ps : List P
   abbrev pub own : List Value
   own = carried (map taken_param ps) vs
 
-  abbrev pub W0 : Places
-  W0 = operands_at ks
+  abbrev pub start_places : Places
+  start_places = operands_at ks
 
   abbrev pub first_vars : List Var
   first_vars = param_vars 0 f.params ps
@@ -121,60 +121,60 @@ module _ (out : Outside) (held : List (List Part)) (after : Places) (ps : List P
   abbrev pub body_begin : Flattening
   body_begin = begun_body (names_of (map (param_of f statics) f.params)) ks below s
 
-  module _ (long : length f.params ≡ length ps) (entered : AllEntered after W0 0 ps vs ks) (r : Stands out held after (own ++ under) d s) where
+  module _ (long : length f.params ≡ length ps) (entered : AllEntered after start_places 0 ps vs ks) (r : Stands out held after (own ++ under) d s) where
     whole : AllOf (λ v. is_part v ≡ false) first_vars
     whole = params_whole 0 f.params ps
 
-    held_by : (w : WireId) → holders W0 first_vars w first_vars ≡ carriers after w own
-    held_by w = params_hold after W0 first_vars whole w 0 f.params ps vs ks long entered
+    held_by : (w : WireId) → holders start_places first_vars w first_vars ≡ carriers after w own
+    held_by w = params_hold after start_places first_vars whole w 0 f.params ps vs ks long entered
 
     pub caller_owns : (w : WireId) → owners_of after d.vars (own ++ under) w ≡ holders after d.vars w d.vars + (carriers after w own + carriers after w under)
     caller_owns w = ap (λ n. holders after d.vars w d.vars + n) (carriers_sum after w own under)
 
     -- what a parameter owns a carried argument does, and no one else
-    pub body_owns : (w : WireId) → 1 ≤ owners_of W0 first_vars [] w → (1 ≤ carriers after w own) × (holders after d.vars w d.vars + carriers after w under ≡ 0)
+    pub body_owns : (w : WireId) → 1 ≤ owners_of start_places first_vars [] w → (1 ≤ carriers after w own) × (holders after d.vars w d.vars + carriers after w under ≡ 0)
     body_owns w le =
         let a = held_by w in
         let b = r.one w in
         let e = caller_owns w in
         (omega (arith, a, le), omega (arith, a, b, e, le))
 
-    owner : (w : WireId) → 1 ≤ owners_of W0 first_vars [] w → 1 ≤ owners_of after d.vars (own ++ under) w
+    owner : (w : WireId) → 1 ≤ owners_of start_places first_vars [] w → 1 ≤ owners_of after d.vars (own ++ under) w
     owner w le = let a = (body_owns w le).0 in let e = caller_owns w in omega (arith, a, e)
 
-    answers : (w : WireId) → (1 ≤ linear_owners after d.vars (own ++ under) w) ⊎ (out.answered w ≡ true) → (1 ≤ linear_owners W0 first_vars [] w) ⊎ ((inside out after under d).answered w ≡ true)
+    answers : (w : WireId) → (1 ≤ linear_owners after d.vars (own ++ under) w) ⊎ (out.answered w ≡ true) → (1 ≤ linear_owners start_places first_vars [] w) ⊎ ((inside out after under d).answered w ≡ true)
     answers w (inr a) = inr (or_left (out.answered w) (nat_lt 0 (linear_owners after d.vars under w)) a)
     answers w (inl le) = go (cases_lt 0 (linear_owners after d.vars under w))
       where
-        go : (0 < linear_owners after d.vars under w) ⊎ (linear_owners after d.vars under w ≤ 0) → (1 ≤ linear_owners W0 first_vars [] w) ⊎ ((inside out after under d).answered w ≡ true)
+        go : (0 < linear_owners after d.vars under w) ⊎ (linear_owners after d.vars under w ≤ 0) → (1 ≤ linear_owners start_places first_vars [] w) ⊎ ((inside out after under d).answered w ≡ true)
         go (inl lt) = inr (or_right (out.answered w) (nat_lt 0 (linear_owners after d.vars under w)) (lt-ltb 0 (linear_owners after d.vars under w) lt))
         go (inr none) =
             let a = linear_sum after w own under in
             let b = linear_few after w own in
             let e = held_by w in
-            let g = params_linear after W0 first_vars whole w 0 f.params ps in
+            let g = params_linear after start_places first_vars whole w 0 f.params ps in
             inl (omega (arith, le, none, a, b, e, g))
 
     -- the relation stands for the parameters
     pub stands_entered : PartsDiffer first_vars → Three (SparesCarried after own) (map taken_param ps) vs ks → ((w : WireId) → 1 ≤ carriers after w own → AllOf (λ k. names k w ≡ false) below)
-        → Stands (inside out after under d) [] W0 [] (record { vars = first_vars; next = length ps }) body_begin
+        → Stands (inside out after under d) [] start_places [] (record { vars = first_vars; next = length ps }) body_begin
     stands_entered differ spares lower = record {
-      env = params_env after W0 first_vars whole f statics 0 f.params ps vs ks long entered;
+      env = params_env after start_places first_vars whole f statics 0 f.params ps vs ks long entered;
       differ = differ;
-      parts = params_fit W0 first_vars 0 f.params ps;
+      parts = params_fit start_places first_vars 0 f.params ps;
       one = λ w. let a = held_by w in let b = r.one w in let e = caller_owns w in omega (arith, a, b, e);
       free = λ w le. r.free w (owner w le);
       untold = λ w le. r.untold w (owner w le);
-      shared = λ w le. params_share after W0 first_vars whole w 0 f.params ps vs ks own (body_owns w le).0 entered spares;
+      shared = λ w le. params_share after start_places first_vars whole w 0 f.params ps vs ks own (body_owns w le).0 entered spares;
       callers = λ w le. ((caller_env w le, lower w (body_owns w le).0), r.callers w (owner w le));
       guards = r.guards;
       below = r.below;
-      spares = params_spare after W0 first_vars whole out.guarded 0 f.params ps vs ks entered (all_front (λ v. AllOf (λ w. out.guarded w ≡ false) (wires_in (after v.place))) own under r.carried);
+      spares = params_spare after start_places first_vars whole out.guarded 0 f.params ps vs ks entered (all_front (λ v. AllOf (λ w. out.guarded w ≡ false) (wires_in (after v.place))) own under r.carried);
       carried = tt;
       owed = λ w o. answers w (r.owed w o);
     }
       where
-        caller_env : (w : WireId) → 1 ≤ owners_of W0 first_vars [] w → AllEnv (λ k. names k w ≡ false) s.env
+        caller_env : (w : WireId) → 1 ≤ owners_of start_places first_vars [] w → AllEnv (λ k. names k w ≡ false) s.env
         caller_env w le =
             env_of_order (λ k. names k w ≡ false) s.env
             (subst (AllOf (λ (p : NameId × Known). names p.1 w ≡ false)) (sym r.env)

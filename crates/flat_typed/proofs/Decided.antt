@@ -53,17 +53,17 @@ module _ (sc : Scope) (taker : Ty → Receiver) (e : Expression) (c : Context) (
   abbrev p : Operand
   p = c1.p1 sc taker e c ps m k out low W st b
 
-  abbrev W1 : Places
-  W1 = c1.U sc taker e c ps m k out low W st b
+  abbrev first_places : Places
+  first_places = c1.U sc taker e c ps m k out low W st b
 
   abbrev outer1 : Outside
   outer1 = c1.out1 sc taker e c ps m k out low W st b
 
-  abbrev ends1 : StmtDone outer1 (under sc ps) (in_block ea) W1 m first d1
+  abbrev ends1 : StmtDone outer1 (under sc ps) (in_block ea) first_places m first d1
   ends1 = c2.ends1 sc taker e c ps m k out low W st b ea d1 l1
 
-  abbrev W2 : Places
-  W2 = ends1.after
+  abbrev second_places : Places
+  second_places = ends1.after
 
   abbrev one : Flattening
   one = flat (in_block ea) first
@@ -77,14 +77,14 @@ module _ (sc : Scope) (taker : Ty → Receiver) (e : Expression) (c : Context) (
   abbrev done : ExprDone out sc needs.Held (c1.E0 sc taker e c ps m k out low W st b) W [] (uses e sc c.vars needs.Held) c st (k.value ∷ []) m
   done = c1.done sc taker e c ps m k out low W st b
 
-  starts2 : StmtBegins outer2 (under sc ps) d1.next (λ p. 0) W2 start second
+  starts2 : StmtBegins outer2 (under sc ps) d1.next (λ p. 0) second_places start second
   starts2 = c2.starts2 sc taker e c ps m k out low W st b ea d1 l1
 
-  abbrev ends2 : StmtDone outer2 (under sc ps) (in_block eb) W2 start second d2
-  ends2 = branch_done outer2 (under sc ps) d1.next W2 start second eb d2 (c2.starts2 sc taker e c ps m k out low W st b ea d1 l1) (c2.inner2 sc taker e c ps m k out low W st b ea d1 l1) l2
+  abbrev ends2 : StmtDone outer2 (under sc ps) (in_block eb) second_places start second d2
+  ends2 = branch_done outer2 (under sc ps) d1.next second_places start second eb d2 (c2.starts2 sc taker e c ps m k out low W st b ea d1 l1) (c2.inner2 sc taker e c ps m k out low W st b ea d1 l1) l2
 
-  abbrev W3 : Places
-  W3 = ends2.after
+  abbrev third_places : Places
+  third_places = ends2.after
 
   abbrev two : Flattening
   two = flat (in_block eb) second
@@ -93,7 +93,7 @@ module _ (sc : Scope) (taker : Ty → Receiver) (e : Expression) (c : Context) (
   same1 = c2.same1 sc taker e c ps m k out low W st b ea d1 l1
 
   same2 : AllSame m.vars d2.vars
-  same2 = outer_same outer2 (under sc ps) d1.next W2 start second eb d2 (c2.starts2 sc taker e c ps m k out low W st b ea d1 l1) (c2.inner2 sc taker e c ps m k out low W st b ea d1 l1) l2
+  same2 = outer_same outer2 (under sc ps) d1.next second_places start second eb d2 (c2.starts2 sc taker e c ps m k out low W st b ea d1 l1) (c2.inner2 sc taker e c ps m k out low W st b ea d1 l1) l2
 
   crossed : AllSame d1.vars d2.vars
   crossed = same_then d1.vars m.vars d2.vars (same_back m.vars d1.vars same1) same2
@@ -106,16 +106,16 @@ module _ (sc : Scope) (taker : Ty → Receiver) (e : Expression) (c : Context) (
 
   -- ---- what each place shows
 
-  from_first : (q : ℕ) → q < m.next → W3 q ≡ W2 q
+  from_first : (q : ℕ) → q < m.next → third_places q ≡ second_places q
   from_first q l = ends2.agree q (let n = next1 in omega (arith, l, n))
 
-  from_middle : (q : ℕ) → q < m.next → W3 q ≡ W1 q
+  from_middle : (q : ℕ) → q < m.next → third_places q ≡ first_places q
   from_middle q l = from_first q l ∙ ends1.agree q l
 
-  from_start : (q : ℕ) → q < c.next → W3 q ≡ W q
+  from_start : (q : ℕ) → q < c.next → third_places q ≡ W q
   from_start q l = from_middle q (let n = k.grown in omega (arith, l, n)) ∙ (c1.done sc taker e c ps m k out low W st b).agree q l
 
-  agree2 : (q : ℕ) → q < c.next → W2 q ≡ W q
+  agree2 : (q : ℕ) → q < c.next → second_places q ≡ W q
   agree2 q l = ends1.agree q (let n = k.grown in omega (arith, l, n)) ∙ (c1.done sc taker e c ps m k out low W st b).agree q l
 
   -- ---- the wires of the conditions
@@ -137,16 +137,16 @@ module _ (sc : Scope) (taker : Ty → Receiver) (e : Expression) (c : Context) (
 
   ends : FineEnds state first one second two
   ends = record {
-    kept = keeps outer1 (under sc ps) m.next W1 m first ea d1 begins inner l1 p (λ w n. guarded_operand out.guarded p first.setting.condition w n) (λ w n. let a = c1.there1 sc taker e c ps m k out low W st b w n in let g = grown1 in omega (arith, a, g));
-    outer_first = keeps_all outer1 (under sc ps) m.next W1 m first ea d1 begins inner l1 state.setting.condition (λ w g. guarded_before out.guarded p first.setting.condition w (outside w g)) (λ w g. let a = outside_there w g in let q = grown1 in omega (arith, a, q));
-    outer_second = keeps_all outer2 (under sc ps) d1.next W2 start second eb d2 starts2 inner2 l2 state.setting.condition (λ w g. guarded_before out.guarded (negated p) second.setting.condition w (outside w g)) (λ w g. let a = outside_there w g in let q = grown2 in let r = grown3 in omega (arith, a, q, r));
-    zeroed_first = zeroes_new outer1 (under sc ps) m.next W1 m first ea d1 begins inner l1;
-    zeroed_second = zeroes_new outer2 (under sc ps) d1.next W2 start second eb d2 starts2 inner2 l2;
-    stays_first = same_end outer1 (under sc ps) m.next W1 m first ea d1 begins inner l1;
-    stays_second = same_end outer2 (under sc ps) d1.next W2 start second eb d2 starts2 inner2 l2;
+    kept = keeps outer1 (under sc ps) m.next first_places m first ea d1 begins inner l1 p (λ w n. guarded_operand out.guarded p first.setting.condition w n) (λ w n. let a = c1.there1 sc taker e c ps m k out low W st b w n in let g = grown1 in omega (arith, a, g));
+    outer_first = keeps_all outer1 (under sc ps) m.next first_places m first ea d1 begins inner l1 state.setting.condition (λ w g. guarded_before out.guarded p first.setting.condition w (outside w g)) (λ w g. let a = outside_there w g in let q = grown1 in omega (arith, a, q));
+    outer_second = keeps_all outer2 (under sc ps) d1.next second_places start second eb d2 starts2 inner2 l2 state.setting.condition (λ w g. guarded_before out.guarded (negated p) second.setting.condition w (outside w g)) (λ w g. let a = outside_there w g in let q = grown2 in let r = grown3 in omega (arith, a, q, r));
+    zeroed_first = zeroes_new outer1 (under sc ps) m.next first_places m first ea d1 begins inner l1;
+    zeroed_second = zeroes_new outer2 (under sc ps) d1.next second_places start second eb d2 starts2 inner2 l2;
+    stays_first = same_end outer1 (under sc ps) m.next first_places m first ea d1 begins inner l1;
+    stays_second = same_end outer2 (under sc ps) d1.next second_places start second eb d2 starts2 inner2 l2;
   }
     where
-      begins : StmtBegins outer1 (under sc ps) m.next (λ p. 0) W1 m first
+      begins : StmtBegins outer1 (under sc ps) m.next (λ p. 0) first_places m first
       begins = c1.begins1 sc taker e c ps m k out low W st b
 
       inner : Settled (under sc ps) m
@@ -168,29 +168,29 @@ module _ (sc : Scope) (taker : Ty → Receiver) (e : Expression) (c : Context) (
 
   touches : Touches (changeable out W c.vars []) st.built.draft two.built.draft
   touches =
-      touches_then (changeable out W c.vars []) (changeable outer2 W2 m.vars []) st.built.draft second.built.draft two.built.draft
+      touches_then (changeable out W c.vars []) (changeable outer2 second_places m.vars []) st.built.draft second.built.draft two.built.draft
       (touches_then (changeable out W c.vars []) no_target st.built.draft one.built.draft second.built.draft
-      (touches_then (changeable out W c.vars []) (changeable outer1 W1 m.vars []) st.built.draft first.built.draft one.built.draft
+      (touches_then (changeable out W c.vars []) (changeable outer1 first_places m.vars []) st.built.draft first.built.draft one.built.draft
       (touches_then (changeable out W c.vars []) no_target st.built.draft state.built.draft first.built.draft
       (consumed_touches out sc low W c st (uses e sc c.vars needs.Held) state b (c1.told sc taker e c ps m k out low W st b).0 (c1.done sc taker e c ps m k out low W st b).touches)
       (flips_touch no_target state.built first.built (c1.enters1 sc taker e c ps m k out low W st b).flips) (λ w l f. refl))
       ends1.touches
-      (λ w l f. fewer_change out.guarded outer1.guarded (owners_of W c.vars [] w) (owners_of W1 m.vars [] w) w (guarded_before out.guarded p first.setting.condition w) (fewer W1 (c1.agree1 sc taker e c ps m k out low W st b) w) f))
+      (λ w l f. fewer_change out.guarded outer1.guarded (owners_of W c.vars [] w) (owners_of first_places m.vars [] w) w (guarded_before out.guarded p first.setting.condition w) (fewer first_places (c1.agree1 sc taker e c ps m k out low W st b) w) f))
       (flips_touch no_target one.built second.built (c2.enters2 sc taker e c ps m k out low W st b ea d1 l1).flips) (λ w l f. refl))
       ends2.touches
-      (λ w l f. fewer_change out.guarded outer2.guarded (owners_of W c.vars [] w) (owners_of W2 m.vars [] w) w (guarded_before out.guarded (negated p) second.setting.condition w) (fewer W2 (live_agree c low W2 W b.sole agree2) w) f)
+      (λ w l f. fewer_change out.guarded outer2.guarded (owners_of W c.vars [] w) (owners_of second_places m.vars [] w) w (guarded_before out.guarded (negated p) second.setting.condition w) (fewer second_places (live_agree c low second_places W b.sole agree2) w) f)
 
   -- ---- the whole
 
   pub choice_done : StmtDone out sc (c1.E0 sc taker e c ps m k out low W st b >> choice (in_block ea) (in_block eb)) W c st (record d2 { vars = joined d1.vars d2.vars })
   choice_done = record {
     fine = (done.fine, (c1.is_one_bit sc taker e c ps m k out low W st b, ends1.fine, ends2.fine, ends));
-    after = W3;
+    after = third_places;
     agree = from_start;
-    stands = stands_joined out sc.held W1 m state W2 d1 W3 d2 two outer2 (under sc ps).held (λ w a. a) (c1.stands1 sc taker e c ps m k out low W st b) whole1
-        (live_agree m m.next W3 W1 k.settled.sole from_middle) (live_agree m m.next W3 W2 k.settled.sole from_first) same1 same2 ends2.stands (let q = grown2 in let r = grown3 in let t = ends2.touches.grown in omega (arith, q, r, t));
+    stands = stands_joined out sc.held first_places m state second_places d1 third_places d2 two outer2 (under sc ps).held (λ w a. a) (c1.stands1 sc taker e c ps m k out low W st b) whole1
+        (live_agree m m.next third_places first_places k.settled.sole from_middle) (live_agree m m.next third_places second_places k.settled.sole from_first) same1 same2 ends2.stands (let q = grown2 in let r = grown3 in let t = ends2.touches.grown in omega (arith, q, r, t));
     whole = same_whole m.vars (joined d1.vars d2.vars) same3 whole1;
-    made = made_same (wires_so_far st) c.next W3 m.vars (joined d1.vars d2.vars) same3 (made_left (wires_so_far st) c.next W3 c.vars m.vars (c1.told sc taker e c ps m k out low W st b).1.0 (λ q le. let a = b.sole.ahead q le in omega (arith, a)));
+    made = made_same (wires_so_far st) c.next third_places m.vars (joined d1.vars d2.vars) same3 (made_left (wires_so_far st) c.next third_places c.vars m.vars (c1.told sc taker e c ps m k out low W st b).1.0 (λ q le. let a = b.sole.ahead q le in omega (arith, a)));
     none = ends2.none;
     leaves = record {
       setting = ap (λ (t : Setting). record t { condition = state.setting.condition }) ends2.leaves.setting ∙ done.leaves.setting;

@@ -116,29 +116,29 @@ module _ (sc : Scope) (taker : Ty → Receiver) (e : Expression) (c : Context) (
   abbrev pub p : Operand
   p = p1 sc taker e c ps m k out low W st b
 
-  abbrev pub W1 : Places
-  W1 = U sc taker e c ps m k out low W st b
+  abbrev pub first_places : Places
+  first_places = U sc taker e c ps m k out low W st b
 
   abbrev pub outer1 : Outside
   outer1 = out1 sc taker e c ps m k out low W st b
 
-  pub starts1 : StmtBegins outer1 (under sc ps) m.next (λ p. 0) W1 m first
+  pub starts1 : StmtBegins outer1 (under sc ps) m.next (λ p. 0) first_places m first
   starts1 = begins1 sc taker e c ps m k out low W st b
 
   pub inner : Settled (under sc ps) m
   inner = settled1 sc taker e c ps m k out low W st b
 
-  abbrev pub ends1 : StmtDone outer1 (under sc ps) (in_block ea) W1 m first d1
-  ends1 = branch_done outer1 (under sc ps) m.next W1 m first ea d1 starts1 inner l1
+  abbrev pub ends1 : StmtDone outer1 (under sc ps) (in_block ea) first_places m first d1
+  ends1 = branch_done outer1 (under sc ps) m.next first_places m first ea d1 starts1 inner l1
 
-  abbrev pub W2 : Places
-  W2 = ends1.after
+  abbrev pub second_places : Places
+  second_places = ends1.after
 
   abbrev pub one : Flattening
   one = flat (in_block ea) first
 
   pub same1 : AllSame m.vars d1.vars
-  same1 = outer_same outer1 (under sc ps) m.next W1 m first ea d1 starts1 inner l1
+  same1 = outer_same outer1 (under sc ps) m.next first_places m first ea d1 starts1 inner l1
 
   pub next1 : m.next ≤ d1.next
   next1 = subst (λ (x : Context). m.next ≤ x.next) (sym l1.closed.left) l1.is.1.grown
@@ -167,33 +167,33 @@ module _ (sc : Scope) (taker : Ty → Receiver) (e : Expression) (c : Context) (
   branches2 = goes_second state one (good1 sc taker e c ps m k out low W st b) later1
 
   abbrev pub middle : Outside
-  middle = behind_first out sc.held W1 m state W2 d1 one
+  middle = behind_first out sc.held first_places m state second_places d1 one
 
-  pub agree21 : AllOf (LiveAgree W2 W1) m.vars
-  agree21 = live_agree m m.next W2 W1 k.settled.sole ends1.agree
+  pub agree21 : AllOf (LiveAgree second_places first_places) m.vars
+  agree21 = live_agree m m.next second_places first_places k.settled.sole ends1.agree
 
-  pub stands2 : Stands middle sc.held W2 [] c2 (at_second one state)
+  pub stands2 : Stands middle sc.held second_places [] c2 (at_second one state)
   stands2 =
-      stands_second out sc.held W1 m state W2 d1 one outer1 (sc.held ++ ps ∷ []) (λ w a. a) (stands1 sc taker e c ps m k out low W st b) (whole1 sc taker e c ps m k out low W st b) agree21 same1 ends1.stands grown2
+      stands_second out sc.held first_places m state second_places d1 one outer1 (sc.held ++ ps ∷ []) (λ w a. a) (stands1 sc taker e c ps m k out low W st b) (whole1 sc taker e c ps m k out low W st b) agree21 same1 ends1.stands grown2
 
   abbrev pub outer2 : Outside
-  outer2 = in_branch middle sc.held W2 c2 (at_second one state) (negated p) ps
+  outer2 = in_branch middle sc.held second_places c2 (at_second one state) (negated p) ps
 
   pub enters2 : EntersSo (negated p) one.built (entered state.setting (negated p) one.built)
   enters2 = branch_enters (negated p) (at_second one state)
 
-  clear2 : AllOf (ClearOf sc.held (negated p) ps W2) m.vars
-  clear2 = clear_negated sc.held p ps W2 m.vars (clear_left sc.held p ps W2 W1 m.vars m.vars (left_same m.vars) (clear1 sc taker e c ps m k out low W st b) agree21)
+  clear2 : AllOf (ClearOf sc.held (negated p) ps second_places) m.vars
+  clear2 = clear_negated sc.held p ps second_places m.vars (clear_left sc.held p ps second_places first_places m.vars m.vars (left_same m.vars) (clear1 sc taker e c ps m k out low W st b) agree21)
 
   pub there2 : (w : WireId) → named_by w (negated p) ≡ true → w.number < wires_so_far one
   there2 w n = let a = there1 sc taker e c ps m k out low W st b w (sym (negated_named p w) ∙ n) in let g = grown2 in omega (arith, a, g)
 
-  pub starts2 : StmtBegins outer2 (under sc ps) d1.next (λ p. 0) W2 c2 second
+  pub starts2 : StmtBegins outer2 (under sc ps) d1.next (λ p. 0) second_places c2 second
   starts2 = record {
     good = branches2.good;
     unmade = flips_unmade no_target (wires_so_far one) one.built second.built enters2.flips ends1.unmade;
     sole = record { grown = omega arith; one = k.settled.sole.one; ahead = λ p l. k.settled.sole.ahead p (let n = next1 in omega (arith, l, n)) };
-    stands = stands_entered middle sc.held W2 c2 (at_second one state) (negated p) ps goes1.good.fresh branches2 there2 stands2 (whole1 sc taker e c ps m k out low W st b) clear2;
+    stands = stands_entered middle sc.held second_places c2 (at_second one state) (negated p) ps goes1.good.fresh branches2 there2 stands2 (whole1 sc taker e c ps m k out low W st b) clear2;
     whole = whole1 sc taker e c ps m k out low W st b;
     block = starts1.block;
     open_air = λ q r. clash (sym (not_bare sc.held ps) ∙ r);

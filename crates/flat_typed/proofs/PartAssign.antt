@@ -121,31 +121,31 @@ module _ (sc : Scope) (taker : Ty → Receiver) (place : Place) (e : Expression)
   pub kind : part_type o.ty.classical o.ty.shape (indices p.part) ≡ Some p.ty
   kind = ap (part_type o.ty.classical o.ty.shape) indices_is ∙ k.aim.kind
 
-  abbrev pub W1 : Places
-  W1 = with_place W c.next (part_of o.ty.shape (indices k.target.part) (W o.place))
+  abbrev pub first_places : Places
+  first_places = with_place W c.next (part_of o.ty.shape (indices k.target.part) (W o.place))
 
   -- ---- the right side
 
-  pub begins : Begins out sc low (λ q. 0) W1 [] us c1 st
+  pub begins : Begins out sc low (λ q. 0) first_places [] us c1 st
   begins = begins_with_part out sc low W c st b p o part k.aim.live refl owner k.aim.live kind refl us
 
-  pub tells : ExprTells out sc needs.Consumed [] E0 W1 [] us c1 st (v ∷ []) d
-  tells = k.went.does out low (λ q. 0) W1 [] st begins
+  pub tells : ExprTells out sc needs.Consumed [] E0 first_places [] us c1 st (v ∷ []) d
+  tells = k.went.does out low (λ q. 0) first_places [] st begins
 
-  abbrev pub h : ExprDone out sc needs.Consumed E0 W1 [] us c1 st (v ∷ []) d
+  abbrev pub h : ExprDone out sc needs.Consumed E0 first_places [] us c1 st (v ∷ []) d
   h = tells.done
 
   abbrev pub U : Places
   U = tells.done.after
 
-  pub told : AllOf (IsThere sc.held c1.vars) us × (AllLeft c1.vars d.vars × AllOf (FitsPart W1 d.vars) d.vars)
-  told = k.went.told W1 begins.stands.parts
+  pub told : AllOf (IsThere sc.held c1.vars) us × (AllLeft c1.vars d.vars × AllOf (FitsPart first_places d.vars) d.vars)
+  told = k.went.told first_places begins.stands.parts
 
   abbrev Answer : Known → Type 0
-  Answer a = IsAnswer U needs.Consumed (used_wires W1 c1.vars us) (consumed_wires W1 c1.vars us) (wires_so_far st) c1.next v a
+  Answer a = IsAnswer U needs.Consumed (used_wires first_places c1.vars us) (consumed_wires first_places c1.vars us) (wires_so_far st) c1.next v a
 
-  pub answer : OneAnswer (IsAnswer U needs.Consumed (used_wires W1 c1.vars us) (consumed_wires W1 c1.vars us) (wires_so_far st) c1.next) v h.answers
-  answer = one_answer (IsAnswer U needs.Consumed (used_wires W1 c1.vars us) (consumed_wires W1 c1.vars us) (wires_so_far st) c1.next) v h.answers h.each
+  pub answer : OneAnswer (IsAnswer U needs.Consumed (used_wires first_places c1.vars us) (consumed_wires first_places c1.vars us) (wires_so_far st) c1.next) v h.answers
+  answer = one_answer (IsAnswer U needs.Consumed (used_wires first_places c1.vars us) (consumed_wires first_places c1.vars us) (wires_so_far st) c1.next) v h.answers h.each
 
   -- its value has the place of the part, so it is no classical one, and its wires are its own
   old_place : c1.next ≤ v.place → ⊥
@@ -318,12 +318,12 @@ module _ (sc : Scope) (taker : Ty → Receiver) (place : Place) (e : Expression)
   }
 
   touches_final : Touches (changeable out W c.vars []) st.built.draft s1.built.draft
-  touches_final = touches_more (consumed_wires W1 c1.vars us) (changeable out W c.vars []) st.built.draft s1.built.draft h.touches (λ w l f. off w f (consumed_wires W1 c1.vars us w) refl)
+  touches_final = touches_more (consumed_wires first_places c1.vars us) (changeable out W c.vars []) st.built.draft s1.built.draft h.touches (λ w l f. off w f (consumed_wires first_places c1.vars us w) refl)
     where
-      off : (w : WireId) → changeable out W c.vars [] w ≡ false → (t : Bool) → consumed_wires W1 c1.vars us w ≡ t → t ≡ false
+      off : (w : WireId) → changeable out W c.vars [] w ≡ false → (t : Bool) → consumed_wires first_places c1.vars us w ≡ t → t ≡ false
       off w f false a = refl
       off w f true a =
-          clash (sym (consumed_may_change out sc.held W1 [] c1 st us begins.stands told.0 w a)
+          clash (sym (consumed_may_change out sc.held first_places [] c1 st us begins.stands told.0 w a)
           ∙ (ap (λ n. not (out.guarded w) && nat_lt 0 n) (owners_with out sc low W c st b p o part k.aim.live refl owner k.aim.live kind refl w) ∙ f))
 
   made_final : AllOf (MadeSince (wires_so_far st) c.next U) behind.vars
