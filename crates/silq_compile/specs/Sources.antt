@@ -36,6 +36,10 @@ pub record Answers (source : Source) (answer : Result Accepted Fault) : Type 0 w
   pub spelled : all_tokens (tokens_of (chars source.text)).items ≡ program_text derivation
   pub is : check_named (tree_of (names_in source.text) derivation) (number_of_name (names_in source.text) source.entry) source.statics ≡ answer
 
+-- all rules hold
+abbrev pub IsAccepted : Source → Type 0
+IsAccepted source = (a : Accepted) × Answers source (Ok a)
+
 -- what a function with static values means, where there is one of this name
 abbrev pub job_named : Tree → Option NameId → List ℤ → Job
 job_named p None statics = job_of p statics None

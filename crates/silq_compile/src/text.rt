@@ -11,7 +11,7 @@ ghost use Rattle.check_scope.specs.declared.fault.CheckFault.{CheckFault as Chec
 ghost use Rattle.flat_compile.specs.declared.fault.CompileFault.{CompileFault as CompileFaults};
 ghost use Rattle.flat_compile.specs.declared.fault.CompileFault.TheVariants as compiles;
 ghost use Rattle.silq_compile.specs.Headline.{PutsText, Refuses};
-ghost use Rattle.silq_compile.specs.Sources.{Answers};
+ghost use Rattle.silq_compile.specs.Sources.{Answers, IsAccepted};
 ghost use Rattle.silq_compile.specs.declared.fault.TextFault.TheVariants as faults;
 
 use crate::fault::TextFault;
@@ -20,6 +20,23 @@ use flat_compile::compile;
 use silq_io::Sink;
 use silq_parse::parse;
 use std::alloc::Global;
+
+/// Checks the function `entry` of a text with these values of its static parameters.
+pub fn check_text(alloc: Global, text: &str, entry: &str, statics: &[i64]) -> Result<(), TextFault>
+    ensures accepted { OnOk result (IsAccepted (record { text = text.now; entry = entry.now; statics = statics.now })) }
+    ensures parse { (f : ParseFaults) → IsErrOf result (faults.Parse f) → (f ≡ parses.Memory) ⊎ (first_fault text.now ≡ Some f) }
+    ensures check { (f : CheckFaults) → IsErrOf result (faults.Check f) → IfSome (fault_as f) (λ first. Answers (record { text = text.now; entry = entry.now; statics = statics.now }) (Err first)) }
+    ensures no_compile { (f : CompileFaults) → ¬ IsErrOf result (faults.Compile f) }
+{
+    let program = match parse(alloc, text) {
+        Ok(program) => program,
+        Err(fault) => return Err(TextFault::Parse(fault)),
+    };
+    match check(alloc, program, entry, statics) {
+        Ok(_) => Ok(()),
+        Err(fault) => Err(TextFault::Check(fault)),
+    }
+}
 
 /// Compiles the function `entry` of a text with these values of its static parameters, with at most so many qubits, and puts the OpenQASM text
 /// of its circuit. Nothing is put before all refusals but that of the sink are past.

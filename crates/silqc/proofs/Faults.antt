@@ -1,5 +1,5 @@
 -- The first fault of a file.
-use Rattle.std.proofs.Common.{◌≡◌, ℕ, ◌+◌, ◌<◌, ◌≤◌, Bool, true, false, nat_lt, List, [], take, drop, length, Option, Some, None, IfSome, refl, ap, sym, ◌∙◌, arith}
+use Rattle.std.proofs.Common.{◌≡◌, ℕ, ◌+◌, ◌<◌, ◌≤◌, Bool, true, false, nat_lt, List, [], take, drop, length, Option, Some, None, refl, ap, sym, ◌∙◌, arith}
 use Rattle.std.proofs.lemmas.Bool.Decides.{nat_tests}
 use Rattle.std.proofs.lemmas.Grind.{common_steps}
 use Rattle.std.proofs.lemmas.Str.{IsUtf8-from_is_utf8, utf8_valid_len-IsUtf8, utf8_valid_len-IsValidUpTo}
@@ -10,10 +10,6 @@ use Rattle.silq_io.specs.declared.fault.SyntaxCause.TheVariants as causes
 use Rattle.silq_parse.specs.declared.fault.ParseFault.{ParseFault}
 use Rattle.silq_parse.specs.Faults.{first_fault}
 use Rattle.silqc.specs.Program.{FileFault, file_fault, first_file_fault, begins_text, long_fault, utf8_fault, line_behind, col_behind}
-use Rattle.silqc.specs.Reading.{AreRead}
-use Rattle.silq_io.specs.declared.fault.SyntaxCause.{SyntaxCause}
-use Rattle.silqc.specs.declared.status.Status.{Status}
-use Rattle.silqc.specs.declared.status.Status.TheVariants.{Syntax}
 
 -- the order of the tests
 abbrev first_of : Bool → Bool → Option ParseFault → FileFault → FileFault → Option FileFault
@@ -114,20 +110,3 @@ same_fault all bytes e = by (nat_lt 1048576 (length bytes)) refl
     by : (b : Bool) → nat_lt 1048576 (length bytes) ≡ b → first_file_fault all ≡ first_file_fault bytes
     by true t = let l : 1048576 < length bytes = grind (arith, nat_tests) in same_long all bytes e l
     by false t = let l : length bytes ≤ 1048576 = grind (arith, nat_tests) in ap first_file_fault (whole all bytes 1048576 e l)
-
-pub has_fault : (fault : FileFault) (held left : Option (List ℕ)) (bytes : List ℕ) → AreRead 1048576 held left bytes
-    → first_file_fault bytes ≡ Some fault → IfSome held (λ all. first_file_fault all ≡ Some fault)
-has_fault fault None left bytes r e = tt
-has_fault fault (Some all) left bytes r e = same_fault all bytes r.0 ∙ e
-
--- the status that tells it
-pub syntax_told : (kept : FileFault) (status : Status) (held left : Option (List ℕ)) (bytes : List ℕ) → AreRead 1048576 held left bytes
-    → status ≡ Syntax kept.cause kept.line kept.col → first_file_fault bytes ≡ Some kept
-    → (cause : SyntaxCause) (line col : ℕ) → status ≡ Syntax cause line col
-    → IfSome held (λ all. first_file_fault all ≡ Some (record { cause = cause; line = line; col = col }))
-syntax_told kept status held left bytes r s e cause line col is =
-    let causes_are : kept.cause ≡ cause = cc in
-    let lines_are : kept.line ≡ line = cc in
-    let cols_are : kept.col ≡ col = cc in
-    has_fault (record { cause = cause; line = line; col = col }) held left bytes r
-    (e ∙ ap Some (by_parts kept (record { cause = cause; line = line; col = col }) causes_are lines_are cols_are))

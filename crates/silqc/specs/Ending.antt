@@ -1,65 +1,39 @@
--- How a command ends, and what the end of a check tells of the file's bytes.
-use Rattle.std.specs.Prelude.{◌≡◌, ℕ, suc, ◌<◌, ◌≤◌, nat_lt, if◌then◌else◌, ◌⊎◌, List, Some, Result, Ok, Err}
-use Rattle.silq_types.specs.Rules.{Fault, rule as breaks, unsupported, over}
-use Rattle.check_fun.specs.Program.{Accepted}
+-- How a command ends, and what its end tells.
+use Rattle.std.specs.Prelude.{◌≡◌, ℕ, ◌<◌, ◌≤◌, List, Option, Some, IsSome}
+use Rattle.silq_compile.specs.Sources.{Source}
 use Rattle.silqc.specs.declared.status.Status.{Status}
-use Rattle.silqc.specs.declared.status.Status.TheVariants.{Done, Words, ReadFault, Syntax, Names, Typing, Unsupported, Limit, OverBudget, WriteFault, Memory, Unbuilt}
-use Rattle.silqc.specs.Job.{CheckJob}
-use Rattle.silqc.specs.Program.{first_file_fault}
-use Rattle.silqc.specs.Typed.{IsAccepted, BreaksRule, HasUnsupported, PassesLimit, most}
+use Rattle.silqc.specs.declared.status.Status.TheVariants.{Done, Words, ReadFault, Syntax, Names, Typing, Unsupported, Limit, Cycle, OverBudget, WriteFault, Memory, Unbuilt}
+use Rattle.silqc.specs.Answer.{HasFault, OfProgram, EndsWell, BreaksText, BreaksRule, HasUnsupported, PassesLimit, HasCycle, NeedsMore}
 
--- a check ends so; rules 1 and 2 are those of names
-abbrev pub EndsCheck : Status → Type 0
-EndsCheck Done = Unit {0}
-EndsCheck Words = ⊥
-EndsCheck ReadFault = Unit {0}
-EndsCheck (Syntax cause line col) = Unit {0}
-EndsCheck (Names rule line col) = rule ≤ 2
-EndsCheck (Typing rule line col) = 2 < rule
-EndsCheck (Unsupported what line col) = Unit {0}
-EndsCheck (Limit which count) = Unit {0}
-EndsCheck (OverBudget least budget) = ⊥
-EndsCheck WriteFault = ⊥
-EndsCheck Memory = Unit {0}
-EndsCheck Unbuilt = ⊥
+-- a command with this budget, or a check, can end so; rules 1 and 2 are those of names
+abbrev pub CanEnd : Option ℕ → Status → Type 0
+CanEnd budget Words = ⊥
+CanEnd budget (Names rule line col) = rule ≤ 2
+CanEnd budget (Typing rule line col) = 2 < rule
+CanEnd budget (Cycle places) = IsSome budget
+CanEnd budget (OverBudget least most) = IsSome budget
+CanEnd budget WriteFault = IsSome budget
+CanEnd budget Unbuilt = ⊥
+CanEnd budget _ = Unit {0}
 
--- What it tells of the bytes. A fault of reading and want of memory tell nothing of them.
-abbrev pub Tells : CheckJob → List ℕ → Status → Type 0
-Tells job bytes Done = IsAccepted job bytes
-Tells job bytes Words = ⊥
-Tells job bytes ReadFault = Unit {0}
-Tells job bytes (Syntax cause line col) = first_file_fault bytes ≡ Some (record { cause = cause; line = line; col = col })
-Tells job bytes (Names rule line col) = BreaksRule rule line col job bytes
-Tells job bytes (Typing rule line col) = BreaksRule rule line col job bytes
-Tells job bytes (Unsupported what line col) = HasUnsupported what line col job bytes
-Tells job bytes (Limit which count) = PassesLimit which count job bytes
-Tells job bytes (OverBudget least budget) = ⊥
-Tells job bytes WriteFault = ⊥
-Tells job bytes Memory = Unit {0}
-Tells job bytes Unbuilt = ⊥
+-- What it tells of the source. A fault of reading and want of memory tell nothing.
+abbrev pub Tells : Option (List ℕ) → Option (List ℕ) → Status → Option ℕ → Source → Type 0
+Tells old new Done budget = OfProgram (EndsWell old new budget)
+Tells old new Words budget = λ s. ⊥
+Tells old new ReadFault budget = λ s. Unit {0}
+Tells old new (Syntax cause line col) budget = HasFault (record { cause = cause; line = line; col = col }) budget
+Tells old new (Names rule line col) budget = OfProgram (BreaksRule rule line col)
+Tells old new (Typing rule line col) budget = OfProgram (BreaksRule rule line col)
+Tells old new (Unsupported what line col) budget = OfProgram (HasUnsupported what line col)
+Tells old new (Limit which count) budget = OfProgram (PassesLimit which count budget)
+Tells old new (Cycle places) budget = OfProgram (HasCycle places budget)
+Tells old new (OverBudget least most) budget = OfProgram (NeedsMore least most budget)
+Tells old new WriteFault budget = OfProgram (BreaksText old new budget)
+Tells old new Memory budget = λ s. Unit {0}
+Tells old new Unbuilt budget = λ s. ⊥
 
--- the status of a check with this answer; rules 1 and 2 are those of names
-abbrev pub status_of : Result Accepted Fault → Status
-status_of (Ok a) = Done
-status_of (Err (breaks n at)) = if nat_lt 2 n then Typing n at.line at.col else Names n at.line at.col
-status_of (Err (unsupported what at)) = Unsupported what at.line at.col
-status_of (Err (over which)) = Limit which (suc (most which))
-
--- the status is the wanted one; a fault of reading and want of memory may come before it
-abbrev pub EndsBy : Status → Status → Type 0
-EndsBy wanted status = (status ≡ wanted) ⊎ ((status ≡ ReadFault) ⊎ (status ≡ Memory))
-
--- a compilation ends so
-abbrev pub EndsCompile : Status → Type 0
-EndsCompile Done = Unit {0}
-EndsCompile Words = ⊥
-EndsCompile ReadFault = Unit {0}
-EndsCompile (Syntax cause line col) = Unit {0}
-EndsCompile (Names rule line col) = ⊥
-EndsCompile (Typing rule line col) = ⊥
-EndsCompile (Unsupported what line col) = ⊥
-EndsCompile (Limit which count) = ⊥
-EndsCompile (OverBudget least budget) = Unit {0}
-EndsCompile WriteFault = Unit {0}
-EndsCompile Memory = Unit {0}
-EndsCompile Unbuilt = Unit {0}
+-- rules 1 and 2 are those of names, the others those of types
+abbrev pub TellsItsRules : Status → Type 0
+TellsItsRules (Names rule line col) = rule ≤ 2
+TellsItsRules (Typing rule line col) = 2 < rule
+TellsItsRules _ = Unit {0}

@@ -1,10 +1,12 @@
 -- The line of a refusal.
-use Rattle.std.specs.Prelude.{ℕ, ◌⊎◌, List, [], ◌++◌, codes, decimal, Option}
+use Rattle.std.specs.Prelude.{ℕ, ◌⊎◌, List, [], ◌∷◌, ◌++◌, codes, decimal, Option}
 use Rattle.silq_io.specs.Counts.{Rose}
 use Rattle.silq_io.specs.Sinks.{Adds, Breaks}
 use Rattle.silq_io.specs.Names.{cause_name, what_name, limit_name}
 use Rattle.silqc.specs.declared.status.Status.{Status}
-use Rattle.silqc.specs.declared.status.Status.TheVariants.{Done, Words, ReadFault, Syntax, Names, Typing, Unsupported, Limit, OverBudget, WriteFault, Memory, Unbuilt}
+use Rattle.silqc.specs.declared.status.Status.TheVariants.{Done, Words, ReadFault, Syntax, Names, Typing, Unsupported, Limit, Cycle, OverBudget, WriteFault, Memory, Unbuilt}
+use Rattle.flat_compile.specs.declared.cycle.CyclePlace.{CyclePlace}
+use Rattle.flat_compile.specs.declared.cycle.CyclePlace.TheVariants as places
 
 -- `silqc: 1:19: syntax: form`
 abbrev pub syntax_note : List ℕ → ℕ → ℕ → List ℕ
@@ -35,6 +37,20 @@ abbrev pub budget_note : ℕ → ℕ → List ℕ
 budget_note least budget =
     codes "silqc: over budget: least " ++ (decimal least ++ (codes ", budget " ++ (decimal budget ++ codes "\n")))
 
+-- ` F1@1`, ` R0@1` or ` Z3`: a step, done or undone, by its number and its source line, or a wire that is freed
+abbrev pub place_text : CyclePlace → List ℕ
+place_text (places.Forward step line) = codes " F" ++ (decimal step ++ (codes "@" ++ decimal line))
+place_text (places.Reverse step line) = codes " R" ++ (decimal step ++ (codes "@" ++ decimal line))
+place_text (places.Free wire) = codes " Z" ++ decimal wire
+
+abbrev pub places_text : List CyclePlace → List ℕ
+places_text [] = []
+places_text (place ∷ rest) = place_text place ++ places_text rest
+
+-- `silqc: cycle: F1@1 F2@1 R0@1`
+abbrev pub cycle_note : List CyclePlace → List ℕ
+cycle_note cycle = codes "silqc: cycle:" ++ (places_text cycle ++ codes "\n")
+
 -- the line with its line feed; nothing where all went well
 abbrev pub note_of : Status → List ℕ
 note_of Done = []
@@ -45,6 +61,7 @@ note_of (Names rule line col) = names_note rule line col
 note_of (Typing rule line col) = typing_note rule line col
 note_of (Unsupported what line col) = unsupported_note (what_name what) line col
 note_of (Limit which count) = limit_note (limit_name which) count
+note_of (Cycle cycle) = cycle_note cycle
 note_of (OverBudget least budget) = budget_note least budget
 note_of WriteFault = codes "silqc: writing failed\n"
 note_of Memory = codes "silqc: no memory\n"
@@ -60,6 +77,7 @@ code_of (Names rule line col) = 5
 code_of (Typing rule line col) = 6
 code_of (Unsupported what line col) = 7
 code_of (Limit which count) = 8
+code_of (Cycle cycle) = 9
 code_of (OverBudget least budget) = 10
 code_of WriteFault = 11
 code_of Memory = 12

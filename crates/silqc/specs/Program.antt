@@ -1,20 +1,14 @@
--- The first fault of a file, and what it is for its bytes to be a program of the form.
-use Rattle.std.specs.Prelude.{◌≡◌, ℕ, ◌+◌, nat_lt, nat_eq, Bool, List, [], ◌∷◌, Option, Some, None, is_none, if◌then◌else◌, option_map, length, take, drop}
+-- The first fault of a file.
+use Rattle.std.specs.Prelude.{ℕ, ◌+◌, nat_lt, nat_eq, Bool, List, [], ◌∷◌, Option, Some, None, is_none, if◌then◌else◌, option_map, length, take, drop}
 use Rattle.std.specs.Str.{chars, is_utf8}
 use Rattle.std.specs.Str.Lossy.{utf8_valid_len, utf8_error_len}
 use Rattle.silq_io.specs.declared.fault.SyntaxCause.{SyntaxCause}
 use Rattle.silq_io.specs.declared.fault.SyntaxCause.TheVariants as causes
 use Rattle.silq_lex.specs.declared.token.LexCause.{LexCause}
 use Rattle.silq_lex.specs.declared.token.LexCause.TheVariants as lex
-use Rattle.silq_lex.specs.Tokens.{tokens_of}
-use Rattle.silq_grammar.specs.Grammar.{Program}
-use Rattle.silq_grammar.specs.Spelled.{program_text}
-use Rattle.silq_grammar.specs.Trees.{program_tree}
 use Rattle.silq_parse.specs.declared.fault.ParseFault.{ParseFault}
 use Rattle.silq_parse.specs.declared.fault.ParseFault.TheVariants.{Memory, Long, Lex, Syntax, Deep}
 use Rattle.silq_parse.specs.Faults.{first_fault}
-use Rattle.silq_parse.specs.Lexed.{all_tokens, names_of}
-use Rattle.silqc.specs.Form.{Form, IsForm}
 
 -- why and where a file is no program; lines and columns count from 1, a column in characters
 pub record FileFault : Type 0 where
@@ -65,10 +59,3 @@ first_file_fault bytes =
     if nat_lt 1048576 (length bytes) then Some (long_fault (take 1048577 bytes))
     else if is_utf8 bytes then option_map file_fault (first_fault bytes)
     else Some (utf8_fault bytes)
-
--- the bytes of a file are a program of the form
-pub record IsProgram (entry bytes : List ℕ) (form : Form) : Type 0 where
-  pub no_fault : first_file_fault bytes ≡ None
-  pub derivation : Program
-  pub spelled : all_tokens (tokens_of (chars bytes)).items ≡ program_text derivation
-  pub of_form : IsForm entry (names_of (tokens_of (chars bytes)).items) (program_tree derivation) form

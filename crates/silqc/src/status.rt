@@ -3,15 +3,16 @@
 ghost use Rattle.std.specs.Prelude.{◌≡◌, ℕ, ◌≤◌, ◌++◌, codes, decimal, OnOk, OnErr};
 ghost use Rattle.silq_io.specs.Counts.{Rose};
 ghost use Rattle.silq_io.specs.Sinks.{Adds, Breaks};
-ghost use Rattle.silqc.specs.Note.{note_of, syntax_note, unsupported_note, limit_note, budget_note, code_of, Noted};
+ghost use Rattle.silqc.specs.Note.{note_of, syntax_note, unsupported_note, limit_note, budget_note, code_of, cycle_note, place_text, places_text, Noted};
 
+use flat_compile::{CyclePlace, CyclePlaces};
 use qasm_write::{Piece, put_pieces};
 use silq_io::{Failed, LimitKind, Sink, SyntaxCause, What, put_all};
 
 /// How a command ends.
-#[derive(PartialEq, Eq, Drop)]
+#[derive(Drop)]
 pub enum Status {
-    /// The input was read to its end, and the whole text was put.
+    /// The input was read to its end; a check accepts it, a compilation has put the whole text.
     Done,
     /// The words are no job.
     Words,
@@ -49,6 +50,8 @@ pub enum Status {
         /// The count at which the work stopped: the limit and one.
         count: u64,
     },
+    /// The circuit graph has this cycle.
+    Cycle(CyclePlaces),
     /// The program needs more qubits than the budget has.
     OverBudget {
         least: usize,
@@ -58,7 +61,7 @@ pub enum Status {
     WriteFault,
     /// There was no memory.
     Memory,
-    /// The program is of a form that is not compiled yet.
+    /// The words are a job that is not built yet.
     Unbuilt,
 }
 
@@ -76,6 +79,7 @@ impl Status {
             Status::Typing { .. } => 6,
             Status::Unsupported { .. } => 7,
             Status::Limit { .. } => 8,
+            Status::Cycle(_) => 9,
             Status::OverBudget { .. } => 10,
             Status::WriteFault => 11,
             Status::Memory => 12,
@@ -104,6 +108,7 @@ impl Status {
                 *col,
             ),
             Status::Limit { which, count } => put_limit(notes, which.name(), *count),
+            Status::Cycle(cycle) => put_cycle(notes, cycle.as_slice()),
             Status::OverBudget { least, budget } => put_over_budget(notes, *least, *budget),
             Status::WriteFault => put_all(notes, b"silqc: writing failed\n"),
             Status::Memory => put_all(notes, b"silqc: no memory\n"),
@@ -217,6 +222,66 @@ fn put_over_budget<N: Sink>(notes: &mut N, least: usize, budget: usize) -> Resul
             Piece::Text(", budget "),
             Piece::Number(budget as u64),
             Piece::Text("\n"),
+        ],
+    )
+}
+
+// Puts the line of a cycle.
+fn put_cycle<N: Sink>(notes: &mut N, cycle: &[CyclePlace]) -> Result<(), Failed>
+    ensures ok { OnOk result (Adds (N.put_so_far notes.old) (N.put_so_far notes.new) (cycle_note cycle.now)) }
+    ensures count { N.faults notes.old ≤ N.faults notes.new }
+    ensures failed { OnErr result (Rose (N.faults notes.old) (N.faults notes.new)) }
+    ensures broken { OnErr result (Breaks (N.put_so_far notes.old) (N.put_so_far notes.new) (cycle_note cycle.now)) }
+{
+    put_all(notes, b"silqc: cycle:")?;
+    put_places(notes, cycle)?;
+    put_all(notes, b"\n")
+}
+
+// Puts the vertices of a cycle.
+fn put_places<N: Sink>(notes: &mut N, cycle: &[CyclePlace]) -> Result<(), Failed>
+    ensures ok { OnOk result (Adds (N.put_so_far notes.old) (N.put_so_far notes.new) (places_text cycle.now)) }
+    ensures count { N.faults notes.old ≤ N.faults notes.new }
+    ensures failed { OnErr result (Rose (N.faults notes.old) (N.faults notes.new)) }
+    ensures broken { OnErr result (Breaks (N.put_so_far notes.old) (N.put_so_far notes.new) (places_text cycle.now)) }
+{
+    for place in cycle {
+        put_place(notes, *place)?;
+    }
+    Ok(())
+}
+
+// Puts a vertex of a cycle.
+fn put_place<N: Sink>(notes: &mut N, place: CyclePlace) -> Result<(), Failed>
+    ensures ok { OnOk result (Adds (N.put_so_far notes.old) (N.put_so_far notes.new) (place_text place)) }
+    ensures count { N.faults notes.old ≤ N.faults notes.new }
+    ensures failed { OnErr result (Rose (N.faults notes.old) (N.faults notes.new)) }
+    ensures broken { OnErr result (Breaks (N.put_so_far notes.old) (N.put_so_far notes.new) (place_text place)) }
+{
+    match place {
+        CyclePlace::Forward { step, line } => put_step(notes, " F", step, line),
+        CyclePlace::Reverse { step, line } => put_step(notes, " R", step, line),
+        CyclePlace::Free { wire } => put_pieces(
+            notes,
+            &[Piece::Text(" Z"), Piece::Number(u64::from(wire))],
+        ),
+    }
+}
+
+// Puts a step with its line.
+fn put_step<N: Sink>(notes: &mut N, kind: &str, step: u32, line: u32) -> Result<(), Failed>
+    ensures ok { OnOk result (Adds (N.put_so_far notes.old) (N.put_so_far notes.new) (kind.now ++ (decimal step ++ (codes "@" ++ decimal line)))) }
+    ensures count { N.faults notes.old ≤ N.faults notes.new }
+    ensures failed { OnErr result (Rose (N.faults notes.old) (N.faults notes.new)) }
+    ensures broken { OnErr result (Breaks (N.put_so_far notes.old) (N.put_so_far notes.new) (kind.now ++ (decimal step ++ (codes "@" ++ decimal line)))) }
+{
+    put_pieces(
+        notes,
+        &[
+            Piece::Text(kind),
+            Piece::Number(u64::from(step)),
+            Piece::Text("@"),
+            Piece::Number(u64::from(line)),
         ],
     )
 }
