@@ -100,7 +100,7 @@ module _ (s : Source) where
     of_accepted h = not_both first a h.accepted h.checked
 
     pub refused_ends_by : (old new : Option (List ℕ)) (status : Status) → CanEnd (Some budget) status → Tells old new status (Some budget) s → EndsBy (status_of (Err first)) status
-    refused_ends_by old new Done ends told = of_accepted told.1.1.0
+    refused_ends_by old new Done ends told = of_accepted told.1.1
     refused_ends_by old new Words ends told = absurd told
     refused_ends_by old new ReadFault ends told = inr (inl refl)
     refused_ends_by old new (Syntax cause line col) ends told = no_fault (record { cause = cause; line = line; col = col }) told fine
@@ -114,7 +114,7 @@ module _ (s : Source) where
         by_which (inr h) = of_accepted h
     refused_ends_by old new (Cycle places) ends told = of_accepted told.1
     refused_ends_by old new (OverBudget least most) ends told = of_accepted told.1.1
-    refused_ends_by old new WriteFault ends told = of_accepted told.1.1.0
+    refused_ends_by old new WriteFault ends told = of_accepted told.1.1
     refused_ends_by old new Memory ends told = inr (inr refl)
     refused_ends_by old new Unbuilt ends told = absurd told
 

@@ -36,7 +36,8 @@ module _ (P : Command → Type 0) (file entry : List ℕ) (statics : List ℤ) w
           let f : file ≡ c.file = cc in
           let g : entry ≡ c.entry = cc in
           let h : statics ≡ c.statics = cc in
-          let same : record { file = file; entry = entry; statics = statics; budget = None } ≡ c = λ i. record { file = f i; entry = g i; statics = h i; budget = is (~ i) } in
+          let b : None ≡ c.budget = sym is in
+          let same : record { file = file; entry = entry; statics = statics; budget = None } ≡ c = λ i. record { file = f i; entry = g i; statics = h i; budget = b i } in
           subst P same p
 
 -- jobs of another kind

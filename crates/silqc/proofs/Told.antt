@@ -1,5 +1,5 @@
 -- What the status of a fault tells of a source.
-use Rattle.std.proofs.Common.{◌≡◌, ◌≢◌, ◌⊎◌, inl, inr, ℕ, ◌≤◌, ◌<◌, nat_lt, Bool, true, false, List, length, Option, Some, None, Err, IfSome, refl, ap, subst, sym, arith}
+use Rattle.std.proofs.Common.{◌≡◌, ◌≢◌, ◌⊎◌, inl, inr, ℕ, suc, ◌∙◌, ◌≤◌, ◌<◌, nat_lt, Bool, true, false, List, length, Option, Some, None, Err, IfSome, refl, ap, subst, sym, arith}
 use Rattle.std.proofs.lemmas.Bool.Decides.{nat_tests}
 use Rattle.std.proofs.lemmas.Str.{is_utf8-from_IsUtf8}
 use Rattle.std.specs.Prelude.{if◌then◌else◌}
@@ -58,10 +58,10 @@ module _ (old new : Option (List ℕ)) (budget : Option ℕ) (s : Source) (short
 pub compile_tells : (old new : Option (List ℕ)) (budget : ℕ) (s : Source) → length s.text ≤ 1048576 → IsUtf8 s.text → (fault : CompileFault) → Refuses budget old new s fault
     → Tells old new (compile_status budget fault) (Some budget) s
 compile_tells old new budget s short utf8 compiles.Memory h = tt
-compile_tells old new budget s short utf8 (compiles.Limit over) h = (no_fault old new (Some budget) s short utf8 h.checked.no_fault, inr h)
+compile_tells old new budget s short utf8 (compiles.Limit passed) h = (no_fault old new (Some budget) s short utf8 h.checked.no_fault, inr h)
 compile_tells old new budget s short utf8 (compiles.Cycle places) h = (no_fault old new (Some budget) s short utf8 h.checked.no_fault, h)
 compile_tells old new budget s short utf8 (compiles.OverBudget least) h = (no_fault old new (Some budget) s short utf8 h.checked.no_fault, (refl, h))
-compile_tells old new budget s short utf8 compiles.Failed h = (no_fault old new (Some budget) s short utf8 h.1.0.checked.no_fault, h)
+compile_tells old new budget s short utf8 compiles.Failed h = (no_fault old new (Some budget) s short utf8 h.1.checked.no_fault, h)
 
 -- ---- how it ends
 
@@ -93,10 +93,10 @@ check_ends budget (Some (over which)) = tt
 
 pub compile_ends : (budget : ℕ) (fault : CompileFault) → CanEnd (Some budget) (compile_status budget fault)
 compile_ends budget compiles.Memory = tt
-compile_ends budget (compiles.Limit over) = tt
-compile_ends budget (compiles.Cycle places) = tt
-compile_ends budget (compiles.OverBudget least) = tt
-compile_ends budget compiles.Failed = tt
+compile_ends budget (compiles.Limit passed) = tt
+compile_ends budget (compiles.Cycle places) = refl
+compile_ends budget (compiles.OverBudget least) = refl
+compile_ends budget compiles.Failed = refl
 
 -- ---- no fault of a text is one of reading, and only that of the sink one of writing
 
@@ -127,7 +127,7 @@ check_read (Some (over which)) = (tt, tt)
 
 compile_read : (budget : ℕ) (fault : CompileFault) → NotRead (compile_status budget fault)
 compile_read budget compiles.Memory = tt
-compile_read budget (compiles.Limit over) = tt
+compile_read budget (compiles.Limit passed) = tt
 compile_read budget (compiles.Cycle places) = tt
 compile_read budget (compiles.OverBudget least) = tt
 compile_read budget compiles.Failed = tt
@@ -145,7 +145,7 @@ not_written status h e = absurd (subst NotWritten e h)
 
 compile_failed : (budget : ℕ) (fault : CompileFault) → compile_status budget fault ≡ WriteFault → fault ≡ compiles.Failed
 compile_failed budget compiles.Memory e = absurd (cc)
-compile_failed budget (compiles.Limit over) e = absurd (cc)
+compile_failed budget (compiles.Limit passed) e = absurd (cc)
 compile_failed budget (compiles.Cycle places) e = absurd (cc)
 compile_failed budget (compiles.OverBudget least) e = absurd (cc)
 compile_failed budget compiles.Failed e = refl
@@ -159,7 +159,7 @@ pub sink_failed : (budget : ℕ) (fault : TextFault) (status : Status) → statu
 sink_failed budget fault status e is = failed budget fault (sym e ∙ is)
 
 pub not_failed : (budget : ℕ) (fault : TextFault) (status : Status) → status ≡ text_status budget fault → status ≢ WriteFault → fault ≢ texts.Compile compiles.Failed
-not_failed budget fault status e no is = no (e ∙ ap {B = Status} (text_status budget) is)
+not_failed budget fault status e other is = other (e ∙ ap {B = Status} (text_status budget) is)
 
 -- ---- texts
 

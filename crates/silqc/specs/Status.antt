@@ -48,7 +48,7 @@ check_status (Some first) = status_of (Err first)
 
 abbrev pub compile_status : ℕ → CompileFault → Status
 compile_status budget compiles.Memory = Memory
-compile_status budget (compiles.Limit over) = Limit over.which over.count
+compile_status budget (compiles.Limit passed) = Limit passed.which passed.count
 compile_status budget (compiles.Cycle places) = Cycle places
 compile_status budget (compiles.OverBudget least) = OverBudget least budget
 compile_status budget compiles.Failed = WriteFault
