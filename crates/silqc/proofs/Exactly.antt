@@ -1,5 +1,5 @@
 -- A file has one fault or one answer, by which each command ends.
-use Rattle.std.proofs.Common.{◌≡◌, ℕ, suc, ◌<◌, ◌≤◌, nat_lt, if◌then◌else◌, Bool, true, false, ◌⊎◌, inl, inr, List, Option, Some, None, Result, Ok, Err, refl, ap, subst, sym, ◌∙◌, arith}
+use Rattle.std.proofs.Common.{◌≡◌, ℕ, suc, ◌<◌, ◌≤◌, nat_lt, if◌then◌else◌, Bool, true, false, ◌⊎◌, inl, inr, List, Option, Some, None, Result, Ok, Err, IfSome, refl, ap, subst, sym, ◌∙◌, arith}
 use Rattle.std.proofs.lemmas.Bool.Decides.{nat_tests}
 use Rattle.std.specs.Str.{chars}
 use Rattle.silq_io.specs.declared.limit.LimitKind.{LimitKind}
@@ -13,6 +13,7 @@ use Rattle.silq_compile.specs.Sources.{Source, Answers, OfAccepted, names_in, tr
 use Rattle.silqc.specs.declared.status.Status.{Status}
 use Rattle.silqc.specs.declared.status.Status.TheVariants.{Done, Words, ReadFault, Syntax, Names, Typing, Unsupported, Limit, Cycle, OverBudget, WriteFault, Memory, Unbuilt}
 use Rattle.silqc.specs.Answer.{OfProgram, PassesLimit, most}
+use Rattle.silqc.specs.Command.{Command, ForSource, IsCommand, source_of}
 use Rattle.silqc.specs.Ending.{CanEnd, Tells}
 use Rattle.silqc.specs.Exact.{EndsAtFault, EndsBy, EndsByAnswer, EndsByTyping}
 use Rattle.silqc.specs.Program.{FileFault, first_file_fault}
@@ -125,3 +126,21 @@ ends_by_answer s old new (Some budget) status ends told = λ answer h. by answer
     by : (answer : Result Accepted Fault) → OfProgram (λ t. Answers t answer) s → EndsByTyping status (Some budget) answer
     by (Ok a) h = tt
     by (Err first) h = refused_ends_by s first h.1 h.0 budget old new status ends told
+
+-- ---- for the command that the words are
+
+module _ (words : List (List ℕ)) (held : List ℕ → Option (List ℕ)) (old new : Option (List ℕ)) (status : Status) where
+  pub for_fault : ForSource words held (Tells old new status) → ForSource words held (EndsAtFault status)
+  for_fault tells = λ c is. by c (held c.file) (tells c is)
+    where
+      by : (c : Command) (o : Option (List ℕ)) → IfSome o (λ bytes. Tells old new status c.budget (source_of c bytes)) → IfSome o (λ bytes. EndsAtFault status c.budget (source_of c bytes))
+      by c None t = tt
+      by c (Some bytes) t = ends_at_fault (source_of c bytes) old new c.budget status t
+
+  pub for_answer : ((c : Command) → IsCommand words c → CanEnd c.budget status) → ForSource words held (Tells old new status) → ForSource words held (EndsByAnswer status)
+  for_answer ends tells = λ c is. by c (held c.file) (ends c is) (tells c is)
+    where
+      by : (c : Command) (o : Option (List ℕ)) → CanEnd c.budget status → IfSome o (λ bytes. Tells old new status c.budget (source_of c bytes))
+          → IfSome o (λ bytes. EndsByAnswer status c.budget (source_of c bytes))
+      by c None can t = tt
+      by c (Some bytes) can t = ends_by_answer (source_of c bytes) old new c.budget status can t

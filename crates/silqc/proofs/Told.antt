@@ -14,8 +14,8 @@ use Rattle.flat_compile.specs.declared.fault.CompileFault.{CompileFault}
 use Rattle.flat_compile.specs.declared.fault.CompileFault.TheVariants as compiles
 use Rattle.silq_compile.specs.declared.fault.TextFault.{TextFault}
 use Rattle.silq_compile.specs.declared.fault.TextFault.TheVariants as texts
-use Rattle.silq_compile.specs.Headline.{Refuses}
-use Rattle.silq_compile.specs.Sources.{Source, Answers}
+use Rattle.silq_compile.specs.Headline.{PutsText, Refuses}
+use Rattle.silq_compile.specs.Sources.{Source, Answers, IsAccepted}
 use Rattle.silqc.specs.declared.status.Status.{Status}
 use Rattle.silqc.specs.declared.status.Status.TheVariants.{Done, Words, ReadFault, Syntax, Names, Typing, Unsupported, Limit, Cycle, OverBudget, WriteFault, Memory, Unbuilt}
 use Rattle.silqc.specs.Answer.{most, PassesLimit, PassesInWalk}
@@ -190,3 +190,9 @@ pub check_text_ends : (fault : TextFault) → ((f : CompileFault) → fault ≢ 
 check_text_ends (texts.Parse f) c = parse_ends None f
 check_text_ends (texts.Check f) c = check_ends None (fault_as f)
 check_text_ends (texts.Compile f) c = absurd (c f refl)
+
+pub accepted_tells : (old new : Option (List ℕ)) (s : Source) → length s.text ≤ 1048576 → IsUtf8 s.text → IsAccepted s → Tells old new Done None s
+accepted_tells old new s short utf8 h = (no_fault old new None s short utf8 h.1.no_fault, h)
+
+pub put_tells : (old new : Option (List ℕ)) (budget : ℕ) (s : Source) → length s.text ≤ 1048576 → IsUtf8 s.text → PutsText budget old new s → Tells old new Done (Some budget) s
+put_tells old new budget s short utf8 h = (no_fault old new (Some budget) s short utf8 h.1.checked.no_fault, h)
