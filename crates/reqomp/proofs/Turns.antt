@@ -22,7 +22,7 @@ use Rattle.reqomp.specs.Level.{IsLevel, AreMoves, last_level, level_graph}
 use Rattle.reqomp.specs.LevelGraph.{IsLevelGraphOf}
 use Rattle.reqomp.specs.Grouping.{vertices_of, AreGroups}
 use Rattle.reqomp.specs.Search.{HasWidth, IsWidthOf, NoneFitsBelow, IsFirstFit, IsLeastBelow}
-use Rattle.reqomp.specs.Trying.{AreRedone, HasOrderMoves, IsPlanOf, IsOutcome}
+use Rattle.reqomp.specs.Trying.{HasOrderMoves, IsPlanOf, IsOutcome}
 use Rattle.reqomp.proofs.EqualMarks.{equally_marked}
 use Rattle.reqomp.proofs.LevelSlots.{level_graph_is_same}
 use Rattle.reqomp.proofs.LevelZero.{level_zero}
@@ -37,8 +37,8 @@ module _ (f : FlatForm) where
     none_by_cycle cycle c = (level_width f k).by_cycle cycle (((orders_of_level f (marked_at f k) g (level_graph_is_same f (marked_at f k) g is)).cycle cycle).0 c)
 
     -- the moves of its ready order
-    pub moves_by_order : (groups : Groups) (ids : List VertexId) (moves : List Move) → AreRedone f (marked_at f k) groups.items.items → IsOrderOf g ids → ((order : List Vertex) → AreVerticesOf g ids order → AreMoves f (marked_at f k) order moves) → HasOrderMoves f k moves
-    moves_by_order groups ids moves redone o are =
+    pub moves_by_order : (ids : List VertexId) (moves : List Move) → IsOrderOf g ids → ((order : List Vertex) → AreVerticesOf g ids order → AreMoves f (marked_at f k) order moves) → HasOrderMoves f k moves
+    moves_by_order ids moves o are =
         let q = ((orders_of_level f (marked_at f k) g (level_graph_is_same f (marked_at f k) g is)).ids ids).0 o in
         record { order = q.order; ready = q.ready; groups = are q.order q.ids_of }
 
