@@ -20,3 +20,5 @@ pub mod Passing
 pub mod Grouping
 pub mod Growth
 pub mod LevelArena
+pub mod LevelRows
+pub mod GroupEdges
