@@ -1,5 +1,5 @@
 -- The edges of groups, added one after another.
-use Rattle.std.proofs.Common.{◌≡◌, ℕ, ◌+◌, ◌<◌, ◌≤◌, Bool, true, false, List, length, slice_get, Some, Contains, refl, sym, ap, ◌∙◌, subst, inl, inr, arith}
+use Rattle.std.proofs.Common.{◌≡◌, ℕ, ◌+◌, ◌<◌, ◌≤◌, Bool, true, false, List, length, slice_get, Some, Contains, sym, ap, ◌∙◌, subst, inl, inr, arith}
 use Rattle.std.proofs.lemmas.Bool.{cases_eq}
 use Rattle.std.proofs.lemmas.Option.{slice_get_within}
 use Rattle.flat_core.specs.declared.step.WireId.{WireId}
@@ -8,16 +8,15 @@ use Rattle.flat_core.specs.Form.{FlatForm}
 use Rattle.flat_core.specs.Ends.{KeepsEnds}
 use Rattle.graph_core.specs.declared.vertex.Vertex.{Vertex}
 use Rattle.graph_core.specs.declared.vertex.EdgeKind.{EdgeKind}
-use Rattle.graph_core.specs.declared.vertex.EdgeKind.TheVariants.{Control, Availability}
+use Rattle.graph_core.specs.declared.vertex.EdgeKind.TheVariants.{Availability}
 use Rattle.graph_core.specs.declared.graph.VertexId.{VertexId}
-use Rattle.graph_core.specs.declared.graph.Arrow.{Arrow}
 use Rattle.graph_core.specs.Arena.{Arena, IsVertexOf}
 use Rattle.graph_core.specs.Circuit.{IsVertex, Uses, Edge}
 use Rattle.graph_core.proofs.Places.{contains_at, place_of, at_unique}
 use Rattle.reqomp.specs.declared.groups.Group.{Group}
 use Rattle.reqomp.specs.Simple.{marked_at}
 use Rattle.reqomp.specs.Contracted.{alike, TakenEdge, own_edge, before_again, after_again}
-use Rattle.reqomp.specs.Growing.{HasGrown, IsSoundFor, MayCopyBefore, MayCopyAfter, HasCopiedBefore, HasCopiedAfter, HasGroupEdges}
+use Rattle.reqomp.specs.Growing.{HasGrown, MayCopyBefore, MayCopyAfter, HasCopiedBefore, HasCopiedAfter, HasGroupEdges}
 use Rattle.reqomp.specs.Grouping.{IsGroup}
 use Rattle.reqomp.proofs.Growth.{grown_arrow}
 use Rattle.reqomp.proofs.LevelArena.{again_of, again_vertex}

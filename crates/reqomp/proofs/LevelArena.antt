@@ -1,7 +1,7 @@
 -- The arena of a level: its ids, its places in the circuit graph, and that its edges are those of the level's graph.
-use Rattle.std.proofs.Common.{◌≡◌, ℕ, ◌+◌, ◌<◌, ◌≤◌, ◌⊎◌, List, length, slice_get, slice_set, get_or, Option, Some, None, Contains, refl, sym, ap, ◌∙◌, subst, inl, inr, arith, length-set, get_or-set_same, get_or-set_other}
+use Rattle.std.proofs.Common.{◌≡◌, ℕ, ◌+◌, ◌<◌, ◌⊎◌, List, length, slice_get, slice_set, get_or, Some, Contains, refl, sym, ap, ◌∙◌, subst, inl, inr, arith, length-set, get_or-set_same, get_or-set_other}
 use Rattle.std.proofs.lemmas.Bool.{cases_eq}
-use Rattle.std.proofs.lemmas.Option.{same_Some, slice_get_within}
+use Rattle.std.proofs.lemmas.Option.{slice_get_within}
 use Rattle.flat_core.specs.declared.step.WireId.{WireId}
 use Rattle.flat_core.specs.declared.step.StepId.{StepId}
 use Rattle.flat_core.specs.Form.{FlatForm}
@@ -13,7 +13,7 @@ use Rattle.graph_core.specs.declared.vertex.EdgeKind.TheVariants.{Control, Avail
 use Rattle.graph_core.specs.declared.graph.VertexId.{VertexId}
 use Rattle.graph_core.specs.Arena.{Arena, IsArena, IsVertexOf}
 use Rattle.graph_core.specs.Circuit.{IsVertex, Uses, Edge}
-use Rattle.graph_core.proofs.Places.{contains_at, place_of, at_map, from_map, at_unique}
+use Rattle.graph_core.proofs.Places.{contains_at, place_of, from_map, at_unique}
 use Rattle.unqomp.specs.GraphOf.{HasArrowOf, HasVertices, HasEdges, IsGraphOf}
 use Rattle.reqomp.specs.declared.groups.Group.{Group}
 use Rattle.reqomp.specs.declared.groups.Groups.{Groups}
@@ -21,13 +21,12 @@ use Rattle.reqomp.specs.declared.places.Places.{Places}
 use Rattle.reqomp.specs.Simple.{marked_at}
 use Rattle.reqomp.specs.Level.{IsKept, IsRedone}
 use Rattle.reqomp.specs.LevelGraph.{IsKeptEdge, IsLevelGraphOf}
-use Rattle.reqomp.specs.Planning.{GiveMoves, no_moves, more_moves}
 use Rattle.reqomp.specs.Contracted.{IsAgain, alike, TakenEdge, own_edge, before_again, after_again}
 use Rattle.flat_core.proofs.Kept.{keeps_ends}
-use Rattle.reqomp.specs.Growing.{IsIdTable, ArePlaces, IsSoundFor, HasGroupEdges, GroupsGiveLevelGraph}
+use Rattle.reqomp.specs.Growing.{ArePlaces, IsSoundFor, HasGroupEdges, GroupsGiveLevelGraph}
 use Rattle.reqomp.specs.Grouping.{vertices_of, IsGroup, AreGroups}
 use Rattle.reqomp.proofs.Contracted.{contracted_edges, marked_dropped, free_rests, rests_marked}
-use Rattle.reqomp.proofs.Growth.{one_id, same_id}
+use Rattle.reqomp.proofs.Growth.{one_id}
 
 -- the id of one more vertex is noted
 places_kept : (rows : List VertexId) (s t : StepId) (id new : VertexId) → s.number ≡ t.number ⊎ (s.number ≡ t.number → ⊥) → s.number < length rows → (s.number ≡ t.number → new ≡ id) → ((s.number ≡ t.number → ⊥) → get_or rows t.number id ≡ id) → get_or (slice_set rows s.number new) t.number id ≡ id

@@ -7,7 +7,7 @@ use Rattle.flat_core.specs.declared.step.WireId.{WireId}
 use Rattle.flat_core.specs.Form.{FlatForm}
 use Rattle.graph_core.specs.declared.vertex.Vertex.{Vertex}
 use Rattle.graph_core.specs.declared.graph.VertexId.{VertexId}
-use Rattle.graph_core.specs.Arena.{Arena, IsArena, IsVertexOf}
+use Rattle.graph_core.specs.Arena.{Arena, IsArena}
 use Rattle.graph_core.proofs.Places.{place_of, at_map, from_map, at_unique}
 use Rattle.reqomp.specs.declared.groups.Group.{Group}
 use Rattle.reqomp.specs.declared.groups.Groups.{Groups}

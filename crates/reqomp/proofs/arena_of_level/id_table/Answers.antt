@@ -1,6 +1,6 @@
-use Rattle.std.proofs.Common.{◌≡◌, ◌∙◌, ap, sym, slice_get, Some, None, replicate, refl, length, arith}
+use Rattle.std.proofs.Common.{◌≡◌, slice_get, Some, refl, length, arith}
 use Rattle.std.proofs.lemmas.Option.{slice_get_read, slice_get_within}
-use Rattle.reqomp.proofs.LevelRows.{rows_start, rows_more, rows_end}
+use Rattle.reqomp.proofs.LevelRows.{rows_more, rows_end}
 use Rattle.reqomp.proofs.arena_of_level.id_table.Goals as goal
 
 pub index_mut-requires : goal.index_mut-requires

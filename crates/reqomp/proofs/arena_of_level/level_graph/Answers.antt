@@ -1,4 +1,4 @@
-use Rattle.std.proofs.Common.{◌≤◌, List, length, slice_get, subst, sym, ap, ◌∙◌, arith}
+use Rattle.std.proofs.Common.{List, length, slice_get, subst, sym, ap, ◌∙◌, arith}
 use Rattle.reqomp.specs.declared.groups.Group.{Group}
 use Rattle.reqomp.specs.Simple.{marked_at}
 use Rattle.reqomp.specs.Growing.{ArePlaced, IsIdTable}

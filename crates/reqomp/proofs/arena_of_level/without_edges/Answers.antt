@@ -1,8 +1,7 @@
-use Rattle.std.proofs.Common.{◌≡◌, List, [], ◌∷◌, ◌++◌, slice_get, Some, Contains, refl, subst, sym, ap, ◌∙◌, take, length, arith}
+use Rattle.std.proofs.Common.{◌≡◌, List, [], ◌∷◌, ◌++◌, slice_get, Some, Contains, refl, subst, ap, ◌∙◌, length, arith}
 use Rattle.std.proofs.lemmas.Option.{slice_get_read}
 use Rattle.graph_core.specs.declared.vertex.Vertex.{Vertex}
 use Rattle.graph_core.specs.Arena.{Arena}
-use Rattle.reqomp.specs.Grouping.{vertices_of}
 use Rattle.reqomp.proofs.LevelRows.{first_fresh, first_more, first_all}
 use Rattle.reqomp.proofs.arena_of_level.without_edges.Goals as goal
 

@@ -5,9 +5,9 @@ use Rattle.graph_core.proofs.Places.{at_map}
 use Rattle.reqomp.specs.declared.groups.Group.{Group}
 use Rattle.reqomp.specs.Simple.{marked_at}
 use Rattle.reqomp.specs.Growing.{IsSoundFor}
-use Rattle.reqomp.specs.Grouping.{vertices_of, IsGroup}
-use Rattle.reqomp.proofs.Growth.{still_vertex, table_grown, grown_twice, grown_same}
-use Rattle.reqomp.proofs.GroupEdges.{groups_start, groups_more, groups_end}
+use Rattle.reqomp.specs.Grouping.{IsGroup}
+use Rattle.reqomp.proofs.Growth.{still_vertex, grown_twice}
+use Rattle.reqomp.proofs.GroupEdges.{groups_more, groups_end}
 use Rattle.reqomp.proofs.growing.Growing.add_all_edges.Goals as goal
 
 pub add_group_edges-requires-clause-group : goal.add_group_edges-requires-clause-group

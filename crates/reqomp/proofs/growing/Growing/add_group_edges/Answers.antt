@@ -1,12 +1,11 @@
-use Rattle.std.proofs.Common.{◌≡◌, ℕ, ◌<◌, List, true, false, length, slice_get, slice_index_or, Some, refl, subst, sym, ap, ◌∙◌, arith}
+use Rattle.std.proofs.Common.{◌≡◌, ℕ, ◌<◌, List, true, false, length, slice_get, slice_index_or, Some, subst, sym, ap, ◌∙◌, arith}
 use Rattle.std.proofs.lemmas.Option.{slice_get-get_or, slice_get_within}
 use Rattle.flat_core.specs.declared.step.StepId.{StepId}
 use Rattle.flat_core.proofs.Kept.{keeps_ends}
-use Rattle.graph_core.specs.Arena.{IsVertexOf}
 use Rattle.reqomp.specs.Simple.{marked_at}
 use Rattle.reqomp.specs.Contracted.{alike}
 use Rattle.reqomp.specs.Growing.{IsSoundFor, MayCopyBefore, MayCopyAfter}
-use Rattle.reqomp.proofs.Growth.{still_vertex, table_grown, grown_twice}
+use Rattle.reqomp.proofs.Growth.{still_vertex, grown_twice}
 use Rattle.reqomp.proofs.GroupEdges.{may_before, may_after, may_own, may_before_again, may_after_again, again_step, again_there, edges_start, edges_more, edges_end}
 use Rattle.reqomp.proofs.growing.Growing.add_group_edges.Goals as goal
 
