@@ -5,7 +5,8 @@ ghost use Rattle.graph_core.specs.declared.vertex.Vertex.{Vertex};
 ghost use Rattle.graph_core.specs.Arena.{Arena, IsVertexOf};
 ghost use Rattle.unqomp.specs.GraphOf.{IsGraphOf};
 ghost use Rattle.reqomp.specs.declared.groups.Group.{Group};
-ghost use Rattle.reqomp.specs.Growing.{AreOnce, ArePlaced, ArePlaces, IsIdTable, HasGrown, IsSoundFor, MayCopyBefore, MayCopyAfter, HasCopiedBefore, HasCopiedAfter, HasGroupEdges};
+ghost use Rattle.reqomp.specs.Growing.{AreOnce, ArePlaced, ArePlaces, IsIdTable, HasGrown, IsSoundFor};
+ghost use Rattle.reqomp.specs.Growing.{MayCopyBefore, MayCopyAfter, HasCopiedBefore, HasCopiedAfter, HasGroupEdges};
 ghost use Rattle.reqomp.specs.Grouping.{vertices_of, IsGroup, AreGroups};
 ghost use Rattle.reqomp.specs.LevelGraph.{IsLevelGraphOf};
 ghost use Rattle.reqomp.specs.Simple.{marked_at};
@@ -64,13 +65,17 @@ impl Growing {
         requires sound { IsSoundFor flat.now (marked_at flat.now self.old.level) self.old.graph }
         requires at { at.number < length circuit.now.vertices }
         requires id { id.number < length self.old.graph.vertices }
-        requires before { (x v : Vertex) → IsVertexOf circuit.now at x → IsVertexOf self.old.graph id v → MayCopyBefore flat.now (marked_at flat.now self.old.level) false x v }
-        requires after { (x u : Vertex) → IsVertexOf circuit.now at x → IsVertexOf self.old.graph id u → MayCopyAfter flat.now (marked_at flat.now self.old.level) x u }
+        requires before { (x v : Vertex) → IsVertexOf circuit.now at x → IsVertexOf self.old.graph id v
+            → MayCopyBefore flat.now (marked_at flat.now self.old.level) false x v }
+        requires after { (x u : Vertex) → IsVertexOf circuit.now at x → IsVertexOf self.old.graph id u
+            → MayCopyAfter flat.now (marked_at flat.now self.old.level) x u }
         ensures level { self.new.level ≡ self.old.level }
         ensures grown { HasGrown self.old.graph self.new.graph }
         ensures sound { IsSoundFor flat.now (marked_at flat.now self.old.level) self.new.graph }
-        ensures before { OnOk result ((x v : Vertex) → IsVertexOf circuit.now at x → IsVertexOf self.old.graph id v → HasCopiedBefore flat.now false x v self.new.graph) }
-        ensures after { OnOk result ((x u : Vertex) → IsVertexOf circuit.now at x → IsVertexOf self.old.graph id u → HasCopiedAfter flat.now x u self.new.graph) }
+        ensures before { OnOk result ((x v : Vertex) → IsVertexOf circuit.now at x → IsVertexOf self.old.graph id v
+            → HasCopiedBefore flat.now false x v self.new.graph) }
+        ensures after { OnOk result ((x u : Vertex) → IsVertexOf circuit.now at x → IsVertexOf self.old.graph id u
+            → HasCopiedAfter flat.now x u self.new.graph) }
     {
         self.copy_before(flat, circuit, ids, at, id, false)?;
         self.copy_after(flat, circuit, ids, at, id)
@@ -119,7 +124,8 @@ impl Growing {
         requires table { IsIdTable circuit.now self.old.graph ids.now }
         requires sound { IsSoundFor flat.now (marked_at flat.now self.old.level) self.old.graph }
         requires places { ArePlaces flat.now circuit.now (length circuit.now.vertices) places.now }
-        requires groups { (i : ℕ) (group : Group) → slice_get groups.now i ≡ Some group → IsGroup flat.now (marked_at flat.now self.old.level) circuit.now group }
+        requires groups { (i : ℕ) (group : Group) → slice_get groups.now i ≡ Some group
+            → IsGroup flat.now (marked_at flat.now self.old.level) circuit.now group }
         requires vertices { self.old.graph.vertices ≡ vertices_of groups.now }
         ensures grown { HasGrown self.old.graph self.new.graph }
         ensures sound { IsSoundFor flat.now (marked_at flat.now self.old.level) self.new.graph }

@@ -20,7 +20,7 @@ pub struct Places {
 }
 
 impl Places {
-    /// The places of the steps in a circuit graph.
+    /// The places of the steps in a circuit graph. It fails only where memory runs out.
     pub fn new(alloc: Global, flat: &Flat, circuit: &Graph) -> Result<Places, AllocError>
         requires circuit { IsGraphOf flat.now circuit.now }
         ensures { IfOk result (λ places. ArePlaces flat.now circuit.now (length circuit.now.vertices) places) }
@@ -56,7 +56,8 @@ impl Places {
     pub fn beside(&self, v: Vertex, at: VertexId, t: StepId) -> VertexId
         requires forward_row { t.number < length self.now.forward.items }
         requires reverse_row { t.number < length self.now.reverse.items }
-        ensures { (f : FlatForm) (circuit : Arena) → IsGraphOf f circuit → ArePlaces f circuit (length circuit.vertices) self.now → IsVertexOf circuit at v → IsVertex f (alike v t) → IsVertexOf circuit result (alike v t) }
+        ensures { (f : FlatForm) (circuit : Arena) → IsGraphOf f circuit → ArePlaces f circuit (length circuit.vertices) self.now
+            → IsVertexOf circuit at v → IsVertex f (alike v t) → IsVertexOf circuit result (alike v t) }
     {
         match v {
             Vertex::Forward(_) => self.forward[t.number as usize],

@@ -24,7 +24,9 @@ id_table-requires-clause-few c =
 pub id_table-requires-clause-groups : goal.id_table-requires-clause-groups
 id_table-requires-clause-groups c =
     let f = c.args.flat.now in
-    subst (ArePlaced c.args.circuit.now) (sym c.deref-2.ensures.value) (are_placed f (marked_at f c.args.marks.now.level) c.args.circuit.now (length c.args.circuit.now.vertices) c.args.groups.now c.requires.groups)
+    let marked = marked_at f c.args.marks.now.level in
+    subst (ArePlaced c.args.circuit.now) (sym c.deref-2.ensures.value)
+    (are_placed f marked c.args.circuit.now (length c.args.circuit.now.vertices) c.args.groups.now c.requires.groups)
 
 pub add_all_edges-requires-clause-table : goal.add_all_edges-requires-clause-table
 add_all_edges-requires-clause-table c =
@@ -32,11 +34,13 @@ add_all_edges-requires-clause-table c =
     (c.in_ok-ids.ensures c.in_ok-graph.graph (c.in_ok-graph.ensures.vertices ∙ ap vertices_of (c.deref.ensures.value ∙ sym c.deref-2.ensures.value)))
 
 pub add_all_edges-requires-clause-groups : goal.add_all_edges-requires-clause-groups
-add_all_edges-requires-clause-groups c = λ i group e. c.requires.groups.each i group (ap (λ (l : List Group). slice_get l i) (sym c.deref-4.ensures.value) ∙ e)
+add_all_edges-requires-clause-groups c = λ i group e.
+    c.requires.groups.each i group (ap (λ (l : List Group). slice_get l i) (sym c.deref-4.ensures.value) ∙ e)
 
 pub returns-clause-edges : goal.returns-clause-edges
 returns-clause-edges c =
-    groups_give_level_graph c.args.flat.now c.args.marks.now.level c.steps-steps.ensures.sound c.args.circuit.now c.requires.circuit c.args.groups.now c.requires.groups c.add_all_edges.new.self.graph
+    groups_give_level_graph c.args.flat.now c.args.marks.now.level c.steps-steps.ensures.sound c.args.circuit.now c.requires.circuit
+    c.args.groups.now c.requires.groups c.add_all_edges.new.self.graph
     (c.add_all_edges.ensures.grown.vertices ∙ c.in_ok-graph.ensures.vertices ∙ ap vertices_of c.deref.ensures.value)
     c.add_all_edges.ensures.sound
     (λ i group e. c.in_ok-add_all_edges.ensures.edges i group (ap (λ (l : List Group). slice_get l i) c.deref-4.ensures.value ∙ e))

@@ -14,8 +14,9 @@ copy_after-requires-clause-may c = λ x u p q.
 
 pub returns-clause-before : goal.returns-clause-before
 returns-clause-before c =
+    let kept = before_kept c.args.flat.now c.copy_before.new.self.graph c.copy_after.new.self.graph c.copy_after.ensures.grown false in
     on_ok_weaker c.copy_after.result
-    (λ _. λ x v p q. before_kept c.args.flat.now c.copy_before.new.self.graph c.copy_after.new.self.graph c.copy_after.ensures.grown false x v (c.in_ok-copy_before.ensures.copied x v p q))
+    (λ _. λ x v p q. kept x v (c.in_ok-copy_before.ensures.copied x v p q))
     c.copy_after.ensures.copied
 
 pub returns-clause-after : goal.returns-clause-after
