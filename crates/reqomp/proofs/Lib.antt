@@ -22,3 +22,5 @@ pub mod Growth
 pub mod LevelArena
 pub mod GroupMoves
 pub mod Turns
+pub mod LevelRows
+pub mod GroupEdges
