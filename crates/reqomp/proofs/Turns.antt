@@ -85,10 +85,13 @@ module _ (f : FlatForm) where
 
       -- a level that does not fit
       pub over : (p : Plan) → IsPlanOf f k p → budget < p.width → IsOutcome f budget (suc k) (Over (min least p.width))
-      over p is above = (wider p is above, elim (cases_lt p.width least) [
-        | inl l ↦ subst (λ (n : ℕ). IsLeastBelow f (suc k) (Some n)) (sym (let m : min least p.width ≡ p.width = omega arith in m)) ((least_width f).less k least p.width lowest (found_width k p is) (omega arith))
-        | inr g ↦ subst (λ (n : ℕ). IsLeastBelow f (suc k) (Some n)) (sym (let m : min least p.width ≡ least = omega arith in m)) ((least_width f).more k least p.width lowest (found_width k p is) g)
-      ])
+      over p is above = (
+        wider p is above,
+        elim (cases_lt p.width least) [
+          | inl l ↦ subst (λ (n : ℕ). IsLeastBelow f (suc k) (Some n)) (sym (let m : min least p.width ≡ p.width = omega arith in m)) ((least_width f).less k least p.width lowest (found_width k p is) (omega arith))
+          | inr g ↦ subst (λ (n : ℕ). IsLeastBelow f (suc k) (Some n)) (sym (let m : min least p.width ≡ least = omega arith in m)) ((least_width f).more k least p.width lowest (found_width k p is) g)
+        ],
+      )
 
       -- a level with as many marked wires as the one before is that level
       module _ (j : ℕ) (next : k ≡ suc j) (within : j ≤ last_level) (same : length (marked_at f k) ≡ length (marked_at f j)) where

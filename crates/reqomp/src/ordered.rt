@@ -108,12 +108,6 @@ pub fn ordered_moves(
     let graph = level_graph(alloc, flat, circuit, marks, groups)?;
     match order_if_any(alloc, &graph)? {
         None => Ok(None),
-        Some(ids) => Ok(Some(moves_of_groups(
-            alloc,
-            flat,
-            &graph,
-            &groups.items,
-            &ids,
-        )?)),
+        Some(ids) => Ok(Some(moves_of_groups(alloc, flat, &graph, &groups.items, &ids)?)),
     }
 }

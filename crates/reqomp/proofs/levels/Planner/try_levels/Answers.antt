@@ -21,8 +21,7 @@ pub returns : goal.returns
 returns c =
     let f = c.args.flat.now in
     let end = c.loop-level.auto.level-end (omega arith) in
-    let last : c.loop-level.level ≡ 17 = omega arith in
-    (
+    let last : c.loop-level.level ≡ 17 = omega arith in (
       subst (NoneFitsBelow f c.args.budget) last c.loop-level.invariant.none,
       subst (λ (n : ℕ). IsLeastBelow f n (Some c.loop-level.least)) last c.loop-level.invariant.least,
     )
