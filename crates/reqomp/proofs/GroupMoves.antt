@@ -1,5 +1,5 @@
 -- The moves of groups, one after another.
-use Rattle.std.proofs.Common.{◌≡◌, ℕ, ◌+◌, ◌<◌, ◌≤◌, Option, None, IsSome, Bor, List, [], ◌∷◌, ◌++◌, map, reverse, length, take, get_or, slice_get, Some, Contains, refl, sym, ap, ◌∙◌, subst, append_assoc, arith, take_all}
+use Rattle.std.proofs.Common.{◌≡◌, ℕ, ◌+◌, ◌<◌, ◌≤◌, Option, None, IsSome, Bor, List, [], ◌∷◌, ◌++◌, map, reverse, length, take, get_or, slice_get, Some, refl, sym, ap, ◌∙◌, subst, append_assoc, arith, take_all}
 use Rattle.std.proofs.lemmas.List.{append-nil, take_more}
 use Rattle.std.proofs.lemmas.Option.{slice_get_within, get_or_from_slice_get, same_Some}
 use Rattle.std.specs.Option.{option_copied}

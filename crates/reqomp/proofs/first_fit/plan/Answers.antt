@@ -1,5 +1,4 @@
-use Rattle.std.proofs.Common.{◌≡◌, List, refl, sym, subst, ap}
-use Rattle.graph_core.specs.declared.vertex.Vertex.{Vertex}
+use Rattle.std.proofs.Common.{◌≡◌, subst}
 use Rattle.graph_core.specs.Circuit.{circuit_graph}
 use Rattle.graph_core.specs.Digraph.{IsCycle}
 use Rattle.topo_order.specs.GivenCycle.{IsGivenCycle}

@@ -1,6 +1,6 @@
 use Rattle.std.proofs.Common.{◌≡◌, length, sym, subst, arith}
 use Rattle.reqomp.specs.Simple.{marked_at}
-use Rattle.reqomp.specs.Trying.{AreRedone, HasOrderMoves}
+use Rattle.reqomp.specs.Trying.{AreRedone}
 use Rattle.reqomp.proofs.Turns.{none_by_cycle, moves_by_order, counted_moves}
 use Rattle.reqomp.proofs.ordered.ordered_moves.Goals as goal
 

@@ -1,4 +1,4 @@
-use Rattle.std.proofs.Common.{◌≡◌, ℕ, suc, ◌+◌, ◌≤◌, Some, arith, sym, subst}
+use Rattle.std.proofs.Common.{◌≡◌, ℕ, suc, ◌+◌, Some, arith, subst}
 use Rattle.reqomp.specs.Search.{NoneFitsBelow, IsLeastBelow}
 use Rattle.reqomp.proofs.levels.Planner.try_levels.Goals as goal
 
