@@ -1,7 +1,7 @@
 -- The arena of a level: its ids, its places in the circuit graph, and that its edges are those of the level's graph.
-use Rattle.std.proofs.Common.{◌≡◌, ℕ, ◌+◌, ◌<◌, ◌≤◌, ◌⊎◌, List, length, slice_get, slice_set, get_or, Option, Some, None, Contains, refl, sym, ap, ◌∙◌, subst, inl, inr, arith, length-set, get_or-set_same, get_or-set_other}
+use Rattle.std.proofs.Common.{◌≡◌, ℕ, ◌+◌, ◌<◌, ◌⊎◌, List, length, slice_get, slice_set, get_or, Some, Contains, refl, sym, ap, ◌∙◌, subst, inl, inr, arith, length-set, get_or-set_same, get_or-set_other}
 use Rattle.std.proofs.lemmas.Bool.{cases_eq}
-use Rattle.std.proofs.lemmas.Option.{same_Some, slice_get_within}
+use Rattle.std.proofs.lemmas.Option.{slice_get_within}
 use Rattle.flat_core.specs.declared.step.WireId.{WireId}
 use Rattle.flat_core.specs.declared.step.StepId.{StepId}
 use Rattle.flat_core.specs.Form.{FlatForm}
@@ -13,21 +13,20 @@ use Rattle.graph_core.specs.declared.vertex.EdgeKind.TheVariants.{Control, Avail
 use Rattle.graph_core.specs.declared.graph.VertexId.{VertexId}
 use Rattle.graph_core.specs.Arena.{Arena, IsArena, IsVertexOf}
 use Rattle.graph_core.specs.Circuit.{IsVertex, Uses, Edge}
-use Rattle.graph_core.proofs.Places.{contains_at, place_of, at_map, from_map, at_unique}
+use Rattle.graph_core.proofs.Places.{contains_at, place_of, from_map, at_unique}
 use Rattle.unqomp.specs.GraphOf.{HasArrowOf, HasVertices, HasEdges, IsGraphOf}
 use Rattle.reqomp.specs.declared.groups.Group.{Group}
 use Rattle.reqomp.specs.declared.groups.Groups.{Groups}
-use Rattle.reqomp.specs.declared.growing.Places.{Places}
+use Rattle.reqomp.specs.declared.places.Places.{Places}
 use Rattle.reqomp.specs.Simple.{marked_at}
 use Rattle.reqomp.specs.Level.{IsKept, IsRedone}
 use Rattle.reqomp.specs.LevelGraph.{IsKeptEdge, IsLevelGraphOf}
-use Rattle.reqomp.specs.Planning.{GiveMoves, no_moves, more_moves}
 use Rattle.reqomp.specs.Contracted.{IsAgain, alike, TakenEdge, own_edge, before_again, after_again}
 use Rattle.flat_core.proofs.Kept.{keeps_ends}
-use Rattle.reqomp.specs.Growing.{IsIdTable, ArePlaces, IsSoundFor, HasGroupEdges, GroupsGiveLevelGraph}
+use Rattle.reqomp.specs.Growing.{ArePlaces, IsSoundFor, HasGroupEdges, GroupsGiveLevelGraph}
 use Rattle.reqomp.specs.Grouping.{vertices_of, IsGroup, AreGroups}
 use Rattle.reqomp.proofs.Contracted.{contracted_edges, marked_dropped, free_rests, rests_marked}
-use Rattle.reqomp.proofs.Growth.{one_id, same_id}
+use Rattle.reqomp.proofs.Growth.{one_id}
 
 -- the id of one more vertex is noted
 places_kept : (rows : List VertexId) (s t : StepId) (id new : VertexId) → s.number ≡ t.number ⊎ (s.number ≡ t.number → ⊥) → s.number < length rows → (s.number ≡ t.number → new ≡ id) → ((s.number ≡ t.number → ⊥) → get_or rows t.number id ≡ id) → get_or (slice_set rows s.number new) t.number id ≡ id
@@ -167,70 +166,6 @@ module _ (f : FlatForm) (ok : KeepsEnds f) (k : ℕ) (circuit : Arena) (is : IsG
 
     pub level_arena : IsLevelGraphOf f (marked_at f k) g
     level_arena = record { vertices = level_vertices; edges = level_edges }
-
--- each vertex gives a move at least
-pub few_groups : (f : FlatForm) (marked : List WireId) (vs : List Vertex) (n : ℕ) → GiveMoves f marked vs n → length vs ≤ n
-few_groups f marked vs n no_moves = omega arith
-few_groups f marked vs n (more_moves {rest = rest} {n = m} r g) = let l = few_groups f marked rest m g in omega arith
-
--- the rows of the first n groups
-pub record AreRows (circuit : Arena) (groups : Groups) (n : ℕ) (ids : List (Option VertexId)) : Type 0 where
-  pub as_many : length ids ≡ length circuit.vertices
-  pub only : (id x : VertexId) → get_or ids id.number None ≡ Some x → (group : Group) × (slice_get groups.items.items x.number ≡ Some group) × (group.at ≡ id)
-  pub all : (i : ℕ) (group : Group) → i < n → slice_get groups.items.items i ≡ Some group → get_or ids group.at.number None ≡ Some (record { number = i })
-
-module _ (f : FlatForm) (marked : List WireId) (circuit : Arena) (ok : IsArena circuit) (groups : Groups) (are : AreGroups f marked circuit (length circuit.vertices) groups) where
-  -- two groups with one id are one
-  same_group : (i j : ℕ) (a b : Group) → slice_get groups.items.items i ≡ Some a → slice_get groups.items.items j ≡ Some b → a.at ≡ b.at → i ≡ j
-  same_group i j a b p q e =
-      let x = are.each i a p in
-      let y = are.each j b q in
-      let same : a.vertex ≡ b.vertex = at_unique circuit.vertices a.at.number a.vertex b.vertex x.at (ap (λ (id : VertexId). slice_get circuit.vertices id.number) e ∙ y.at) in
-      are.some.once i j b.vertex (at_map (λ (g : Group). g.vertex) groups.items.items i a p ∙ ap (λ (v : Vertex). Some v) same) (at_map (λ (g : Group). g.vertex) groups.items.items j b q)
-
-  pub rows_more : (n : ℕ) (group : Group) (ids : List (Option VertexId)) (new : VertexId) → new.number ≡ n → slice_get groups.items.items n ≡ Some group → AreRows circuit groups n ids → AreRows circuit groups (n + 1) (slice_set ids group.at.number (Some new))
-  rows_more n group ids new ne at rows = record {
-    as_many = length-set ids group.at.number (Some new) ∙ rows.as_many;
-    only = λ id x e. elim (cases_eq id.number group.at.number) [
-      | inl s ↦
-          let read : Some new ≡ Some x = sym (ap (λ (k : ℕ). get_or (slice_set ids group.at.number (Some new)) k None) s ∙ get_or-set_same ids group.at.number (Some new) None within) ∙ e in
-          let same : new ≡ x = same_Some new x read in
-          (group, ap (λ (y : VertexId). slice_get groups.items.items y.number) (sym same) ∙ ap (λ (k : ℕ). slice_get groups.items.items k) ne ∙ at, same_id group.at id (sym s))
-      | inr o ↦ rows.only id x (sym (get_or-set_other ids group.at.number id.number (Some new) None o) ∙ e)
-    ];
-    all = λ i g l h. elim (cases_eq g.at.number group.at.number) [
-      | inl s ↦
-          let same : i ≡ n = same_group i n g group h at (same_id g.at group.at s) in
-          ap (λ (k : ℕ). get_or (slice_set ids group.at.number (Some new)) k None) s ∙ get_or-set_same ids group.at.number (Some new) None within ∙ ap (λ (k : ℕ). Some (record { number = k })) (ne ∙ sym same)
-      | inr o ↦ get_or-set_other ids group.at.number g.at.number (Some new) None o ∙ rows.all i g (less i g h o l) h
-    ];
-  }
-    where
-      within : group.at.number < length ids
-      within = let a = are.early n group at in let m = rows.as_many in omega arith
-
-      less : (i : ℕ) (g : Group) → slice_get groups.items.items i ≡ Some g → (g.at.number ≡ group.at.number → ⊥) → i < n + 1 → i < n
-      less i g h o l = elim (cases_eq i n) [
-        | inl e ↦
-            let same : g ≡ group = at_unique groups.items.items i g group h (ap (λ (k : ℕ). slice_get groups.items.items k) e ∙ at) in
-            absurd (o (ap (λ (x : Group). x.at.number) same))
-        | inr ne ↦ omega arith
-      ]
-
-  pub rows_end : (n : ℕ) (ids : List (Option VertexId)) → length groups.items.items ≤ n → AreRows circuit groups n ids → (g : Arena) → g.vertices ≡ vertices_of groups.items.items → IsIdTable circuit g ids
-  rows_end n ids l rows g vertices = record {
-    as_many = rows.as_many;
-    only = λ id x e.
-        let o = rows.only id x e in
-        let h = are.each x.number o.0 o.1 in
-        (o.0.vertex, ap (λ (y : VertexId). slice_get circuit.vertices y.number) (sym o.2) ∙ h.at, ap (λ (vs : List Vertex). slice_get vs x.number) vertices ∙ at_map (λ (y : Group). y.vertex) groups.items.items x.number o.0 o.1);
-    all = λ id x v p q.
-        let m = from_map (λ (y : Group). y.vertex) groups.items.items x.number v (ap (λ (vs : List Vertex). slice_get vs x.number) (sym vertices) ∙ q) in
-        let h = are.each x.number m.0 m.1 in
-        let inside = slice_get_within groups.items.items x.number m.0 m.1 in
-        let same : m.0.at.number ≡ id.number = ok.one_id m.0.at.number id.number v (subst (λ (y : Vertex). slice_get circuit.vertices m.0.at.number ≡ Some y) m.2 h.at) p in
-        ap (λ (k : ℕ). get_or ids k None) (sym same) ∙ rows.all x.number m.0 (omega arith) m.1;
-  }
 
 pub groups_give_level_graph : GroupsGiveLevelGraph
 groups_give_level_graph f k flat circuit is groups are g vertices sound whole = level_arena f (keeps_ends f flat) k circuit is groups are g vertices sound whole

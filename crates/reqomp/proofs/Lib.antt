@@ -20,3 +20,7 @@ pub mod Passing
 pub mod Grouping
 pub mod Growth
 pub mod LevelArena
+pub mod GroupMoves
+pub mod Turns
+pub mod LevelRows
+pub mod GroupEdges

@@ -14,18 +14,27 @@ use Rattle.graph_core.specs.Circuit.{Uses, Edge}
 use Rattle.flat_core.specs.Sound.{IsFlat}
 use Rattle.unqomp.specs.GraphOf.{HasArrowOf, IsGraphOf}
 use Rattle.reqomp.specs.declared.groups.Group.{Group}
-use Rattle.reqomp.specs.declared.growing.Places.{Places}
+use Rattle.reqomp.specs.declared.places.Places.{Places}
 use Rattle.reqomp.specs.declared.groups.Groups.{Groups}
 use Rattle.reqomp.specs.Simple.{marked_at}
 use Rattle.reqomp.specs.LevelGraph.{IsLevelGraphOf}
 use Rattle.reqomp.specs.Contracted.{alike, TakenEdge}
 use Rattle.reqomp.specs.Grouping.{vertices_of, AreGroups}
 
+-- each vertex once
+abbrev pub AreOnce : List Vertex → Type 0
+AreOnce vertices = (i j : ℕ) (v : Vertex) → slice_get vertices i ≡ Some v → slice_get vertices j ≡ Some v → i ≡ j
+
 -- the ids in the level's graph of the vertices of the circuit graph
 pub record IsIdTable (circuit level : Arena) (ids : List (Option VertexId)) : Type 0 where
   pub as_many : length ids ≡ length circuit.vertices
   pub only : (id x : VertexId) → get_or ids id.number None ≡ Some x → (v : Vertex) × IsVertexOf circuit id v × IsVertexOf level x v
   pub all : (id x : VertexId) (v : Vertex) → IsVertexOf circuit id v → IsVertexOf level x v → get_or ids id.number None ≡ Some x
+
+-- some groups stand at the ids of their vertices, each vertex once
+pub record ArePlaced (circuit : Arena) (groups : List Group) : Type 0 where
+  pub at : (i : ℕ) (group : Group) → slice_get groups i ≡ Some group → IsVertexOf circuit group.at group.vertex
+  pub once : AreOnce (vertices_of groups)
 
 -- the ids in the circuit graph of the steps, done and undone, as far as its first n vertices tell them
 pub record ArePlaces (f : FlatForm) (circuit : Arena) (n : ℕ) (places : Places) : Type 0 where

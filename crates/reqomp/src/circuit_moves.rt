@@ -19,8 +19,8 @@ use std::alloc::{AllocError, Global};
 use topo_order::{OrderFault, VertexOrder, order};
 use unqomp::graph_of;
 
-// The moves of the vertices of an order.
-fn moves_in_order(
+/// The moves of the vertices of an order.
+pub fn moves_in_order(
     alloc: Global,
     flat: &Flat,
     graph: &Graph,

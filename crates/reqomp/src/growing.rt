@@ -14,13 +14,6 @@ use flat_core::Flat;
 use graph_core::{EdgeKind, Edges, Graph, VertexId};
 use std::alloc::AllocError;
 
-/// The ids in the circuit graph of the steps, done and undone.
-#[derive(Drop)]
-pub struct Places {
-    pub forward: Vec<VertexId>,
-    pub reverse: Vec<VertexId>,
-}
-
 /// The graph of a level, and how many edges it has.
 #[derive(Drop)]
 pub struct Growing {

@@ -4,6 +4,8 @@
 #[cfg(test)]
 mod graphs;
 #[cfg(test)]
+mod levels;
+#[cfg(test)]
 mod plans;
 #[cfg(test)]
 mod rows;
