@@ -133,3 +133,16 @@ other_number (v ∷ vs) x y w f = pick (same_name v.0 x) (other_number vs x y w 
     pick : (b : Bool) → number_of (block_with vs x w) y ≡ number_of vs y → number_of (cond b ((v.0, w) ∷ vs) (v ∷ block_with vs x w)) y ≡ number_of (v ∷ vs) y
     pick true ih = refl
     pick false ih = ap (λ o. cond (same_name v.0 y) (Some 0) (option_map suc o)) ih
+
+-- the first variable with a name is one of the block
+pub number_within : {A : Type 0} (vs : Block A) (x : NameId) (i : ℕ) → number_of vs x ≡ Some i → i < length vs
+number_within [] x i e = absurd (grind (arith, e))
+number_within (v ∷ vs) x i e = go (same_name v.0 x) e (number_within vs x)
+  where
+    behind : (o : Option ℕ) → number_of vs x ≡ o → option_map suc o ≡ Some i → ((k : ℕ) → number_of vs x ≡ Some k → k < length vs) → i < suc (length vs)
+    behind None n h ih = absurd (grind (arith, h))
+    behind (Some k) n h ih = let z : suc k ≡ i = some_is (suc k) i h in let l = ih k n in omega (arith, z, l)
+
+    go : (b : Bool) → cond b (Some 0) (option_map suc (number_of vs x)) ≡ Some i → ((k : ℕ) → number_of vs x ≡ Some k → k < length vs) → i < suc (length vs)
+    go true h ih = let z : 0 ≡ i = some_is 0 i h in omega (arith, z)
+    go false h ih = behind (number_of vs x) refl h ih

@@ -1,15 +1,16 @@
 -- Where variables stand, as it is told.
 use Rattle.std.proofs.Common.{◌≡◌, ℕ, zero, suc, ◌+◌, ◌<◌, ◌≤◌, ◌⊎◌, inl, inr, Bool, true, false, cond, nat_eq, ◌||◌, Option, Some, None, List, [], ◌∷◌, ◌++◌, length, slice_get, take, drop, reverse, set, get_or, refl, sym, ap, ◌∙◌, subst, arith}
 use Rattle.std.specs.Option.{option_map}
+use Rattle.std.specs.Prelude.{Result, Ok, Err, OnOk, OnErr}
 use Rattle.std.proofs.lemmas.Bool.{eqb-true, eq-eqb}
-use Rattle.std.proofs.lemmas.List.{reverse-append, drop_all, drop_more, get_or-drop}
+use Rattle.std.proofs.lemmas.List.{reverse-append, get_or-drop}
 use Rattle.silq_tree.specs.declared.node.NameId.{NameId}
 use Rattle.silq_types.specs.Types.{same_name}
 use Rattle.silq_mean.specs.Env.{Block, Env, is_in_block, block_with, is_in_reach}
 use Rattle.flat_steps.specs.declared.variables.Place.{Place}
 use Rattle.flat_steps.specs.Reach.{number_of, is_named, IsInnermost, IsPlace, Tells}
 use Rattle.flat_steps.proofs.Numbers.{not_in, no_number, named_in, first_named, with_numbers, new_number, other_number}
-use Rattle.flat_steps.proofs.Places.{reach_at_end, reverse_at}
+use Rattle.flat_steps.proofs.Places.{reach_at_end, reverse_at, at_block}
 
 -- ---- equal names and places
 
@@ -19,7 +20,7 @@ equal_names x y e = λ i. record { number = eqb-true x.number y.number e i }
 same_again : (x : NameId) → same_name x x ≡ true
 same_again x = eq-eqb x.number x.number refl
 
-at : ℕ → ℕ → Place
+abbrev at : ℕ → ℕ → Place
 at i j = record { block = i; number = j }
 
 same_place : (p q : Place) → Some p ≡ Some q → p ≡ q
@@ -34,17 +35,6 @@ pub within : {A : Type 0} (bs : List (Block A)) (i : ℕ) (x : NameId) → is_in
 within [] i x e = absurd (grind (arith, e))
 within (b ∷ bs) zero x e = omega arith
 within (b ∷ bs) (suc i) x e = let l = within bs i x e in omega (arith, l)
-
-front : {A : Type 0} (bs : List (Block A)) (b : Block A) (i : ℕ) → i < length bs → get_or (bs ++ b ∷ []) i [] ≡ get_or bs i []
-front [] b i l = absurd (omega (arith, l))
-front (c ∷ bs) b zero l = refl
-front (c ∷ bs) b (suc i) l = front bs b i (omega (arith, l))
-
-opened : {A : Type 0} (bs : List (Block A)) (i : ℕ) → get_or (bs ++ [] ∷ []) i [] ≡ get_or bs i []
-opened [] zero = refl
-opened [] (suc i) = refl
-opened (b ∷ bs) zero = refl
-opened (b ∷ bs) (suc i) = opened bs i
 
 here_or : {A : Type 0} (bs : List (Block A)) (i : ℕ) (new : Block A) (k : ℕ) → (i ≡ k) ⊎ (get_or (set bs i new) k [] ≡ get_or bs k [])
 here_or [] i new k = inr refl
@@ -137,20 +127,6 @@ told_place told bs x p t e n = record {
 
 -- ---- what is told stays true
 
-pub tells_none : {A : Type 0} (told : ℕ → Option Place) → Tells {A} told []
-tells_none told x i j e = absurd (grind (arith, e))
-
-pub tells_open : {A : Type 0} (told : ℕ → Option Place) (bs now : List (Block A)) → Tells told bs → now ≡ bs ++ [] ∷ [] → Tells told now
-tells_open told bs now t is x i j e = t x i j (ap (λ b. number_of b x) (sym (opened bs i)) ∙ ap (λ z. number_of (get_or z i []) x) (sym is) ∙ e)
-
-named_within : {A : Type 0} (bs : List (Block A)) (i j : ℕ) (x : NameId) → number_of (get_or bs i []) x ≡ Some j → i < length bs
-named_within [] i j x e = absurd (grind (arith, e))
-named_within (b ∷ bs) zero j x e = omega arith
-named_within (b ∷ bs) (suc i) j x e = let l = named_within bs i j x e in omega (arith, l)
-
-pub tells_close : {A : Type 0} (told : ℕ → Option Place) (bs now : List (Block A)) (b : Block A) → Tells told bs → bs ≡ now ++ b ∷ [] → Tells told now
-tells_close told bs now b t is x i j e = t x i j (ap (λ z. number_of (get_or z i []) x) is ∙ ap (λ c. number_of c x) (front now b i (named_within now i j x e)) ∙ e)
-
 pub tells_with : {A : Type 0} (told : ℕ → Option Place) (bs : List (Block A)) (x : NameId) (p : Place) (w : A) (b new : Block A) → Tells told bs → IsPlace bs x p → get_or bs p.block [] ≡ b → new ≡ block_with b x w → Tells told (set bs p.block new)
 tells_with told bs x p w b new t h at is y i j e = t y i j (sym (set_numbers bs p.block new y i same) ∙ e)
   where
@@ -191,41 +167,26 @@ tells_new told after bs x i w b new p t h l here is place up y k j e = up y.numb
         ap (λ b. cond b (Some p) (told y.number)) f
         ∙ t y k j (sym (set_numbers bs i new y k (ap (λ c. number_of c y) is ∙ other_number b x y w f ∙ ap (λ c. number_of c y) (sym here))) ∙ e)
 
+-- a block that stays as it is changes nothing
+tells_same : {A : Type 0} (told : ℕ → Option Place) (bs : List (Block A)) (i : ℕ) (new : Block A) → Tells told bs → new ≡ get_or bs i [] → Tells told (set bs i new)
+tells_same told bs i new t is y k j e = t y k j (sym (set_numbers bs i new y k (ap (λ c. number_of c y) is)) ∙ e)
+
+-- a place is told first, and then there is memory for the variable or not
+pub tells_added : {A E : Type 0} (told after : ℕ → Option Place) (bs : List (Block A)) (x : NameId) (i : ℕ) (w : A) (b new : Block A) (p : Place) (r : Result (Unit {0}) E) → Tells told bs → is_in_reach (reverse bs) x ≡ false → i < length bs → get_or bs i [] ≡ b → p ≡ record { block = i; number = length b }
+    → ((n : ℕ) → after n ≡ cond (nat_eq x.number n) (Some p) (told n)) → OnOk r (new ≡ block_with b x w) → OnErr r (new ≡ b) → Tells after (set bs i new)
+tells_added told after bs x i w b new p (Ok u) t h l here place up ok err = tells_new told after bs x i w b new p t h l here ok place up
+tells_added told after bs x i w b new p (Err e) t h l here place up ok err = tells_same after bs i new (tells_elsewhere told after bs x p t h up) (err ∙ sym here)
+
+-- ---- the variable at its place
+
+pub number_there : {A : Type 0} (bs : List (Block A)) (x : NameId) (p : Place) (b : Block A) → IsPlace bs x p → b ≡ get_or bs p.block b → number_of b x ≡ Some p.number
+number_there bs x p b h e = ap (λ c. number_of c x) (sym (at_block bs p.block b h.innermost.there e)) ∙ h.first
+
 -- ---- the places of parameters
 
 -- the places of the variables from a number on are told
 abbrev pub TellsFrom : {A : Type 0} → (ℕ → Option Place) → Block A → ℕ → Type 0
 TellsFrom told vs n = (x : NameId) (j : ℕ) → number_of (drop n vs) x ≡ Some j → told x.number ≡ Some (record { block = 0; number = n + j })
-
-pub tells_from_end : {A : Type 0} (told : ℕ → Option Place) (vs : Block A) (n : ℕ) → n ≡ length vs → TellsFrom told vs n
-tells_from_end told vs n l x j e = absurd (none_is_some j (sym (ap (λ z. number_of z x) (drop_all n vs (omega (arith, l)))) ∙ e))
-
-pub tells_from_before : {A : Type 0} (told after : ℕ → Option Place) (vs : Block A) (n m : ℕ) (v : NameId × A) (p : Place) → TellsFrom told vs m → m ≡ n + 1 → n < length vs → v ≡ get_or vs n v → p ≡ record { block = 0; number = n }
-    → ((k : ℕ) → after k ≡ cond (nat_eq v.0.number k) (Some p) (told k)) → TellsFrom after vs n
-tells_from_before told after vs n m v p t next l here place up x j e = up x.number ∙ go (same_name v.0 x) refl
-  where
-    split : drop n vs ≡ v ∷ drop (n + 1) vs
-    split = drop_more vs n v l ∙ ap (λ z. z ∷ drop (n + 1) vs) (sym here)
-
-    all : cond (same_name v.0 x) (Some 0) (option_map suc (number_of (drop (n + 1) vs) x)) ≡ Some j
-    all = sym (ap (λ z. number_of z x) split) ∙ e
-
-    behind : (o : Option ℕ) → number_of (drop (n + 1) vs) x ≡ o → option_map suc o ≡ Some j → told x.number ≡ Some (at 0 (n + j))
-    behind None f s = absurd (grind (arith, s))
-    behind (Some k) f s =
-        let q : suc k ≡ j = grind (arith, s) in
-        let r : m + k ≡ n + j = omega (arith, q, next) in
-        t x k (ap (λ z. number_of (drop z vs) x) next ∙ f) ∙ ap (λ z. Some (at 0 z)) r
-
-    go : (b : Bool) → same_name v.0 x ≡ b → cond (nat_eq v.0.number x.number) (Some p) (told x.number) ≡ Some (at 0 (n + j))
-    go true f =
-        let s : Some 0 ≡ Some j = sym (ap (λ b. cond b (Some 0) (option_map suc (number_of (drop (n + 1) vs) x))) f) ∙ all in
-        let q : 0 ≡ j = grind (arith, s) in
-        let r : n ≡ n + j = omega (arith, q) in
-        ap (λ b. cond b (Some p) (told x.number)) f ∙ ap Some (place ∙ ap (at 0) r)
-    go false f =
-        ap (λ b. cond b (Some p) (told x.number)) f
-        ∙ behind (number_of (drop (n + 1) vs) x) refl (sym (ap (λ b. cond b (Some 0) (option_map suc (number_of (drop (n + 1) vs) x))) f) ∙ all)
 
 pub tells_parameters : {A : Type 0} (told : ℕ → Option Place) (vs : Block A) (n : ℕ) → TellsFrom told vs n → n ≡ 0 → Tells told (vs ∷ [])
 tells_parameters told vs n t z x zero j e =

@@ -96,20 +96,6 @@ impl Block {
         Ok(Block { items })
     }
 
-    // Where its variables stand, as those of the outermost block.
-    fn places(&self, alloc: Global) -> Result<IndexMap<u32, Place>, AllocError>
-        ensures { IfOk result (λ places. Tells (λ (n : ℕ). get nat_eq places n) (self.now ∷ [])) }
-    {
-        let mut places = IndexMap::new(alloc);
-        let mut number = self.items.len();
-        while number > 0 {
-            number -= 1;
-            let name = self.items[number].0;
-            places.insert(name.number, Place { block: 0, number })?;
-        }
-        Ok(places)
-    }
-
     // Whether the variable with this number is there and has the name.
     fn is_named(&self, number: usize, name: NameId) -> bool
         ensures { result ≡ is_named name (slice_get self.now number) }
@@ -147,6 +133,23 @@ impl Block {
         self.items.push((name, known))?;
         Ok(())
     }
+}
+
+// Where the variables of the outermost block stand.
+fn places_in(
+    alloc: Global,
+    variables: &[(NameId, Known)],
+) -> Result<IndexMap<u32, Place>, AllocError>
+    ensures { IfOk result (λ places. Tells (λ (n : ℕ). get nat_eq places n) (variables.now ∷ [])) }
+{
+    let mut places = IndexMap::new(alloc);
+    let mut number = variables.len();
+    while number > 0 {
+        number -= 1;
+        let name = variables[number].0;
+        places.insert(name.number, Place { block: 0, number })?;
+    }
+    Ok(places)
 }
 
 // Whether a variable with the name stands at the place.
@@ -192,7 +195,7 @@ impl Variables {
         ensures { IfOk result (λ v. v ≡ paired names.now values ∷ []) }
     {
         let block = Block::of_values(alloc, names, values)?;
-        let places = block.places(alloc)?;
+        let places = places_in(alloc, block.items.as_slice())?;
         let mut blocks = Vec::new(alloc);
         blocks.push(block)?;
         Ok(Variables { blocks, places })
