@@ -1,9 +1,7 @@
 //! The flat form of a program.
 
-ghost use Rattle.std.specs.Prelude.{◌<◌, length};
-
 use crate::notation::spell;
-use check_fun::check::{Checked, check};
+use check_fun::check::check;
 use flat_build::flatten;
 use silq_io::LimitFault;
 use silq_parse::parse;
@@ -28,11 +26,13 @@ pub fn form_of(
     entry: &str,
     statics: &[i64],
 ) -> Result<String, AllocError> {
-    let Ok(program) = parse(alloc, text) else {
-        return String::from_str(alloc, "no program");
+    let program = match parse(alloc, text) {
+        Ok(program) => program,
+        Err(_) => return String::from_str(alloc, "no program"),
     };
-    let Ok(checked) = check(alloc, program, entry, statics) else {
-        return String::from_str(alloc, "refused");
+    let checked = match check(alloc, program, entry, statics) {
+        Ok(checked) => checked,
+        Err(_) => return String::from_str(alloc, "refused"),
     };
     let key = &checked.entry;
     match flatten(&checked.library, key.fun.number, key.statics.as_slice()) {

@@ -7,8 +7,6 @@
 //! A step is `X4` (wire 4 is flipped), `X4(0)`, `X4(0,!1)` (where wire 0 is 1 and wire 1 is 0), `H4`, `H4(0)`, `P3(0)` (three eighths of a
 //! turn where wire 0 is 1) or `M4=2` (wire 4 is measured into outcome 2).
 
-ghost use Rattle.std.specs.Prelude.{◌<◌, length};
-
 use flat_core::{End, Flat, Lit, Step, StepId, WireId, WireList, WireLists};
 use std::alloc::{AllocError, Global};
 
