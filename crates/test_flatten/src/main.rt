@@ -12,13 +12,10 @@ use std::alloc::{AllocError, Global};
 use std::io::{self, BufRead, BufReader};
 use test_lines::text_of;
 
-// The values of the static parameters of an entry.
-fn statics_of<'a>(
-    alloc: Global,
-    words: impl Iterator<Item = &'a str>,
-) -> Result<Vec<i64>, AllocError> {
+// The values of the static parameters of an entry, divided by blanks.
+fn statics_of(alloc: Global, words: &str) -> Result<Vec<i64>, AllocError> {
     let mut values = Vec::new(alloc);
-    for word in words {
+    for word in words.split_ascii_whitespace() {
         values.push(word.parse::<i64>().unwrap_or(-1))?;
     }
     Ok(values)
@@ -27,7 +24,7 @@ fn statics_of<'a>(
 // The form of a row's program.
 fn answer(alloc: Global, words: &str, text: &str) -> Result<String, AllocError> {
     let (entry, rest) = words.split_once(' ').unwrap_or((words, ""));
-    let statics = statics_of(alloc, rest.split_ascii_whitespace())?;
+    let statics = statics_of(alloc, rest)?;
     form_of(alloc, text, entry, &statics)
 }
 

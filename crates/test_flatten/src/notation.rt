@@ -23,11 +23,9 @@ fn letter(end: End) -> char {
 // The letters of all wires.
 fn ends(alloc: Global, flat: &Flat) -> Result<String, AllocError> {
     let mut letters = String::new(alloc);
-    for number in 0..flat.wires() {
-        let wire = WireId {
-            number: number as u32,
-        };
-        letters.push(letter(flat.end(wire)))?;
+    let wires = u32::try_from(flat.wires()).unwrap_or(0);
+    for number in 0..wires {
+        letters.push(letter(flat.end(WireId { number })))?;
     }
     Ok(letters)
 }

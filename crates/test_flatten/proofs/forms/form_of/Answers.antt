@@ -5,20 +5,29 @@ use Rattle.silq_compile.proofs.Entries.{entry_fine, funs_below}
 use Rattle.test_flatten.proofs.forms.form_of.Goals as goal
 
 pub check-requires : goal.check-requires
-check-requires g c =
+check-requires c =
     let parsed = c.in-Ok.ensures.program.parsed in
     funs_below 0 _ _ parsed.funs_in_order (omega (arith, parsed.funs_are_all))
 
 pub flatten-requires-clause-fine : goal.flatten-requires-clause-fine
-flatten-requires-clause-fine g c = (entry_fine c.args.text.now c.args.entry.now c.args.statics.now c.in-Ok.program.tree c.in-Ok.program.names c.in-Ok.program.funs c.in-Ok.ensures.fine c.in-Ok.ensures.program
-    c.in-Ok-check.checked.library c.in-Ok-check.ensures.library c.in-Ok-check.checked.entry.fun.number c.as_slice.result.now
-    (record { entry = c.in-Ok-check.ensures.accepted.0; met = c.in-Ok-check.checked.known }) c.in-Ok-check.ensures.accepted.1 c.in-Ok-check.ensures.found
-    (c.as_slice.ensures ∙ c.in-Ok-check.ensures.values)).0
+flatten-requires-clause-fine c =
+    let program = c.in-Ok.program in
+    let checked = c.in-Ok-check.checked in
+    let told = c.in-Ok-check.ensures in
+    let accepted = record { entry = told.accepted.0; met = checked.known } in
+    let same = c.as_slice.ensures ∙ told.values in
+    (entry_fine c.args.text.now c.args.entry.now c.args.statics.now program.tree program.names program.funs c.in-Ok.ensures.fine
+    c.in-Ok.ensures.program checked.library told.library checked.entry.fun.number c.as_slice.result.now accepted told.accepted.1
+    told.found same).0
 
 pub flatten-requires-clause-ends : goal.flatten-requires-clause-ends
-flatten-requires-clause-ends g c =
-    let well = entry_fine c.args.text.now c.args.entry.now c.args.statics.now c.in-Ok.program.tree c.in-Ok.program.names c.in-Ok.program.funs c.in-Ok.ensures.fine c.in-Ok.ensures.program
-        c.in-Ok-check.checked.library c.in-Ok-check.ensures.library c.in-Ok-check.checked.entry.fun.number c.as_slice.result.now
-        (record { entry = c.in-Ok-check.ensures.accepted.0; met = c.in-Ok-check.checked.known }) c.in-Ok-check.ensures.accepted.1 c.in-Ok-check.ensures.found
-        (c.as_slice.ensures ∙ c.in-Ok-check.ensures.values) in
-    ends_fit (job_at c.in-Ok-check.checked.library c.in-Ok-check.checked.entry.fun.number c.as_slice.result.now) well.0 well.1
+flatten-requires-clause-ends c =
+    let program = c.in-Ok.program in
+    let checked = c.in-Ok-check.checked in
+    let told = c.in-Ok-check.ensures in
+    let accepted = record { entry = told.accepted.0; met = checked.known } in
+    let same = c.as_slice.ensures ∙ told.values in
+    let well = entry_fine c.args.text.now c.args.entry.now c.args.statics.now program.tree program.names program.funs
+    c.in-Ok.ensures.fine c.in-Ok.ensures.program checked.library told.library checked.entry.fun.number c.as_slice.result.now
+    accepted told.accepted.1 told.found same in
+    ends_fit (job_at checked.library checked.entry.fun.number c.as_slice.result.now) well.0 well.1
