@@ -1,4 +1,5 @@
 use Rattle.std.proofs.Common.{◌∙◌, arith}
+use Rattle.check_fun.specs.Program.{Accepted}
 use Rattle.flat_build.specs.Seen.{job_at}
 use Rattle.flat_laws.proofs.EndsWhole.{ends_fit}
 use Rattle.silq_compile.proofs.Entries.{entry_fine, funs_below}
@@ -14,7 +15,7 @@ flatten-requires-clause-fine c =
     let program = c.in-Ok.program in
     let checked = c.in-Ok-check.checked in
     let told = c.in-Ok-check.ensures in
-    let accepted = record { entry = told.accepted.0; met = checked.known } in
+    let accepted : Accepted = record { entry = told.accepted.0; met = checked.known } in
     let same = c.as_slice.ensures ∙ told.values in
     (entry_fine c.args.text.now c.args.entry.now c.args.statics.now program.tree program.names program.funs c.in-Ok.ensures.fine
     c.in-Ok.ensures.program checked.library told.library checked.entry.fun.number c.as_slice.result.now accepted told.accepted.1
@@ -25,7 +26,7 @@ flatten-requires-clause-ends c =
     let program = c.in-Ok.program in
     let checked = c.in-Ok-check.checked in
     let told = c.in-Ok-check.ensures in
-    let accepted = record { entry = told.accepted.0; met = checked.known } in
+    let accepted : Accepted = record { entry = told.accepted.0; met = checked.known } in
     let same = c.as_slice.ensures ∙ told.values in
     let well = entry_fine c.args.text.now c.args.entry.now c.args.statics.now program.tree program.names program.funs
     c.in-Ok.ensures.fine c.in-Ok.ensures.program checked.library told.library checked.entry.fun.number c.as_slice.result.now
