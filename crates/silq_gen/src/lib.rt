@@ -1,0 +1,7 @@
+#![tactic(auto)]
+//! Generated programs: sources of any size, the same at each run, to try the compiler on.
+
+mod line;
+pub mod program;
+
+pub use program::generated;
