@@ -12,6 +12,9 @@ pub const VALUES: u32 = 65_536;
 // Bits that the parameter `a` has.
 const BITS: u32 = 8;
 
+// Kinds of lines.
+const KINDS: u32 = 4;
+
 /// The value behind this one.
 pub fn next_value(value: u32) -> u32
     requires { value < VALUES }
@@ -77,7 +80,8 @@ pub fn add_line(text: &mut String, line: u32, value: u32) -> Result<(), AllocErr
     ensures { IfOk result (λ _. string_bytes text.new ≡ string_bytes text.old ++ line_text line value) }
 {
     let bit = first_bit(value);
-    match value / 64 % 4 {
+    // The digits above those of the two bits tell the kind of line.
+    match value / (BITS * BITS) % KINDS {
         0 => add_hadamard(text),
         1 => add_flip(text, line, bit, second_bit(value)),
         2 => add_phase(text, bit),

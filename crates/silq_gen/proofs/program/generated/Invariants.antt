@@ -9,5 +9,5 @@ abbrev pub invariant-loop-line : goal.invariant-loop-line
 invariant-loop-line l = record {
   text : string_bytes l.text ≡ codes "def main(const a:B^8, x:B):B {\n" ++ lines_text l.number l.line;
   value : l.value ≡ value_at l.number l.line;
-  below : l.value < 65536
+  below : l.value < 65536;
 }
