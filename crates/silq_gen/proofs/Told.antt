@@ -1,12 +1,12 @@
 -- What the definition says of bits, of lengths and of the number 7.
-use Rattle.std.proofs.Common.{◌≡◌, ◌≢◌, ℕ, zero, suc, ◌+◌, ◌*◌, ◌/◌, ◌%◌, ◌^◌, ◌<◌, ◌≤◌, ◌++◌, Bool, true, false, List, [], length, refl, sym, arith, lit<, lit≤}
-use Rattle.std.specs.Prelude.{◌==◌, codes, decimal}
+use Rattle.std.proofs.Common.{◌≡◌, ◌≢◌, ℕ, zero, suc, ◌+◌, ◌*◌, ◌/◌, ◌%◌, ◌<◌, ◌≤◌, Bool, true, false, length, refl, sym, arith, lit<, lit≤}
+use Rattle.std.specs.Prelude.{◌==◌, decimal}
 use Rattle.std.specs.Fmt.{digits}
 use Rattle.std.proofs.lemmas.Bool.{eqb-false}
 use Rattle.std.proofs.lemmas.Nat.{mod_below}
 use Rattle.std.proofs.lemmas.List.{length-append}
 use Rattle.std.proofs.lemmas.Fmt.{length-decimal-le}
-use Rattle.silq_gen.specs.Generated.{first_bit, second_bit, hadamard_line, flip_line, phase_line, controlled_line, line_text, lines_text, generated, value_at, kind}
+use Rattle.silq_gen.specs.Generated.{first_bit, second_bit, flip_line, phase_line, controlled_line, line_text, lines_text, value_at, kind}
 use Rattle.silq_gen.specs.Laws.{BitsDiffer, ProgramsAreShort, SevenIsAsTold}
 
 pub told_seven : SevenIsAsTold

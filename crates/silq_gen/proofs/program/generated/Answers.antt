@@ -1,4 +1,4 @@
-use Rattle.std.proofs.Common.{◌≡◌, ℕ, ◌+◌, arith}
+use Rattle.std.proofs.Common.{◌≡◌, ◌+◌, arith}
 use Rattle.std.specs.Prelude.{codes}
 use Rattle.silq_gen.specs.Generated.{value_at}
 use Rattle.silq_gen.proofs.Added.{value_more, lines_more, whole_text}
