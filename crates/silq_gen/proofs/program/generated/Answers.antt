@@ -9,7 +9,8 @@ loop-line-preserved c =
     let next : c.next_value-value.result ≡ value_at c.args.number (c.loop-line.line + 1) =
     value_more c.args.number c.loop-line.line _ _ c.loop-line.invariant.value c.next_value-value.ensures.next in
     record {
-      text = lines_more (codes "def main(const a:B^8, x:B):B {\n") _ _ c.args.number c.loop-line.line _ c.loop-line.invariant.text next c.in_ok-add_line.ensures;
+      text = lines_more (codes "def main(const a:B^8, x:B):B {\n") _ _ c.args.number c.loop-line.line _ c.loop-line.invariant.text next
+          c.in_ok-add_line.ensures;
       value = next;
       below = c.next_value-value.ensures.below;
     }
