@@ -1,0 +1,2 @@
+mod Count
+mod Parts
