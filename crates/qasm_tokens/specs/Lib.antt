@@ -1,0 +1,5 @@
+pub mod Words
+pub mod Tokens
+pub mod Table
+pub mod Grammar
+pub mod Items
