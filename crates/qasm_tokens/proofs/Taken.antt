@@ -6,8 +6,10 @@ use Rattle.grammar_core.specs.Decided.{IsApart}
 use Rattle.grammar_core.proofs.Viable.{viable_begins, taken_viable}
 use Rattle.qasm_tokens.specs.declared.kind.Kind.{Kind}
 use Rattle.qasm_tokens.specs.declared.kind.Kind.TheVariants as k
-use Rattle.qasm_tokens.specs.Table.{Symbol, Expect, AName, IndexPart, UnderIf, MoreBarrier, Unread, table, begin, can_be_empty, end_item, operand, a_text}
-use Rattle.qasm_tokens.specs.Table.Symbol.{Items as AllItems}
+use Rattle.qasm_tokens.specs.declared.symbol.Symbol.{Symbol}
+use Rattle.qasm_tokens.specs.declared.symbol.Symbol.TheVariants.{Expect, AName, IndexPart, UnderIf, MoreBarrier, Unread}
+use Rattle.qasm_tokens.specs.Table.{table, begin, can_be_empty, end_item, operand, a_text}
+use Rattle.qasm_tokens.specs.declared.symbol.Symbol.TheVariants.{Items as AllItems}
 use Rattle.qasm_tokens.specs.Grammar as g
 use Rattle.qasm_tokens.specs.Grammar.{Name, Any, bit, register, Anys, last, and_more, Plain, one, cx, cz, ccx, include, qreg, creg, plain, measure, condition, barrier, Refused, definition, reset, lower, upper, other_file, if_measure, if_reset, if_barrier, if_lower, if_upper, none, more, refused, any_kinds, anys_kinds, plain_kinds, if_kinds, item_kinds, refused_kinds, items_kinds, text_kinds, IsText, BeginsText, TableFollowsGrammar}
 use Rattle.qasm_tokens.proofs.Tested.{reaches, the_table}

@@ -6,7 +6,9 @@ use Rattle.grammar_core.specs.Check.{symbol_test, AreAll, item}
 use Rattle.grammar_core.proofs.Checked.{decided}
 use Rattle.qasm_tokens.specs.declared.kind.Kind.{Kind}
 use Rattle.qasm_tokens.specs.declared.kind.Kind.TheVariants as k
-use Rattle.qasm_tokens.specs.Table.{Symbol, Expect, AName, Items, AFile, IndexPart, UnderIf, MoreBarrier, Unread, table, kind_number, same_kind}
+use Rattle.qasm_tokens.specs.declared.symbol.Symbol.{Symbol}
+use Rattle.qasm_tokens.specs.declared.symbol.Symbol.TheVariants.{Expect, AName, Items, AFile, IndexPart, UnderIf, MoreBarrier, Unread}
+use Rattle.qasm_tokens.specs.Table.{table, kind_number, same_kind}
 
 -- every kind, each at its number
 abbrev pub kinds : List Kind

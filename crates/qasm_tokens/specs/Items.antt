@@ -5,7 +5,8 @@ use Rattle.silq_lex.specs.declared.token.Place.{Place}
 use Rattle.grammar_core.specs.Table.{advance, may_stop}
 use Rattle.qasm_tokens.specs.declared.kind.Kind.TheVariants as k
 use Rattle.qasm_tokens.specs.Tokens.{Token, Mark, token, line}
-use Rattle.qasm_tokens.specs.Table.{Symbol, table, same_kind}
+use Rattle.qasm_tokens.specs.declared.symbol.Symbol.{Symbol}
+use Rattle.qasm_tokens.specs.Table.{table, same_kind}
 
 -- the marks before the first Syntax, and its place: that of the first token that cannot come, or the text's end
 pub record Reach : Type 0 where

@@ -5,24 +5,8 @@ use Rattle.gate_core.specs.declared.gate.OneKind.TheVariants as one
 use Rattle.grammar_core.specs.Table.{Grammar}
 use Rattle.qasm_tokens.specs.declared.kind.Kind.{Kind}
 use Rattle.qasm_tokens.specs.declared.kind.Kind.TheVariants as k
-
-pub data Symbol : Type 0 where
-  -- one sign, number or word
-  Expect : Kind → Symbol
-  -- a register's name: any word that starts with a lower-case letter
-  AName : Symbol
-  -- items up to the text's end
-  Items : Symbol
-  -- the name of a file
-  AFile : Symbol
-  -- an index, or none
-  IndexPart : Symbol
-  -- what an `if` holds
-  UnderIf : Symbol
-  -- further operands of a barrier
-  MoreBarrier : Symbol
-  -- what stands behind a form that is refused by name: anything
-  Unread : Symbol
+use Rattle.qasm_tokens.specs.declared.symbol.Symbol.{Symbol}
+use Rattle.qasm_tokens.specs.declared.symbol.Symbol.TheVariants.{Expect, AName, Items, AFile, IndexPart, UnderIf, MoreBarrier, Unread}
 
 -- each kind has a number of its own
 abbrev pub one_number : OneKind → ℕ

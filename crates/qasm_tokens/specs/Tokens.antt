@@ -52,12 +52,16 @@ marks_within zero at (c ∷ cs) = []
 marks_within (suc n) at (c ∷ cs) =
     put_in_front (front_of c cs) at (λ text. marks_within n (behind_all at text) (drop (length text) (c ∷ cs)))
 
+-- the marks of characters of which the first has this place
+abbrev pub marks_from : Place → List ℕ → List Mark
+marks_from at cs = marks_within (length cs) at cs
+
 abbrev pub start : Place
 start = record { start = 0; line = 1; col = 1 }
 
 -- the marks of a text
 abbrev pub marks_of : List ℕ → List Mark
-marks_of cs = marks_within (length cs) start cs
+marks_of cs = marks_from start cs
 
 -- the place behind a text's last character
 abbrev pub end_of : List ℕ → Place

@@ -1,7 +1,14 @@
 #![tactic(auto)]
 //! The tokens of OpenQASM 2.0, and the items that they make as far as the grammar goes.
 
+mod class;
+mod cursor;
 pub mod kind;
 pub mod laws;
+pub mod symbol;
+pub mod token;
+mod words;
 
 pub use kind::Kind;
+pub use token::Token;
+pub use words::number;
