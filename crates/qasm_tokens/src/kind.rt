@@ -3,7 +3,7 @@
 use gate_core::OneKind;
 
 /// What a token is to the grammar.
-#[derive(Clone, Copy, PartialEq, Eq)]
+#[derive(Clone, Copy)]
 pub enum Kind {
     /// `OPENQASM`.
     OpenQasm,

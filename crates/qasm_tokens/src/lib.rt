@@ -5,10 +5,12 @@ mod class;
 mod cursor;
 pub mod kind;
 pub mod laws;
+pub mod same;
 pub mod symbol;
 pub mod token;
 mod words;
 
 pub use kind::Kind;
+pub use same::same_kind;
 pub use token::Token;
 pub use words::number;

@@ -1,10 +1,11 @@
 //! The grammar as a table: what is expected behind each token.
 
 ghost use Rattle.std.specs.Prelude.{◌≡◌, [], true, false, MatchOption};
-ghost use Rattle.qasm_tokens.specs.Table.{begin, begin_gate, can_be_empty, is_name, same_kind};
+ghost use Rattle.qasm_tokens.specs.Table.{begin, begin_gate, can_be_empty, is_name};
 ghost use Rattle.qasm_tokens.specs.declared.symbol.Symbol.TheVariants as symbols;
 
 use crate::kind::Kind;
+use crate::same::same_kind;
 
 /// What the grammar expects at a place.
 #[derive(Clone, Copy)]
@@ -197,13 +198,6 @@ fn begin_more(kind: Kind) -> Option<&'static [Symbol]>
         Kind::Comma => Some(&OPERANDS),
         _ => None,
     }
-}
-
-/// Whether the kinds are the same.
-pub fn same_kind(expected: Kind, kind: Kind) -> bool
-    ensures { result ≡ same_kind expected kind }
-{
-    expected == kind
 }
 
 /// Nothing further, where the token may come.

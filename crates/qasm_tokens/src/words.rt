@@ -1,9 +1,9 @@
 //! The kinds of words, numbers and names of files.
 
-ghost use Rattle.std.specs.Prelude.{◌≡◌, ◌^◌, ◌<◌, true};
+ghost use Rattle.std.specs.Prelude.{◌≡◌, ◌^◌, ◌<◌, true, nat_lt, option_map, bytes_eq, find as list_find};
 ghost use Rattle.std.specs.Str.{chars};
 ghost use Rattle.silq_lex.specs.Kinds.{is_number, number_of};
-ghost use Rattle.qasm_tokens.specs.Words.{file_kind, number_kind, word_kind};
+ghost use Rattle.qasm_tokens.specs.Words.{file_kind, number_kind, word_kind, words};
 ghost use Rattle.qasm_tokens.specs.Spelling.{found, written};
 
 use crate::class::is_lower;
@@ -50,15 +50,30 @@ fn find(words: &[(&str, Kind)], text: &str) -> Option<Kind>
     None
 }
 
+/// The kind of a word that has one of its own.
+fn named(text: &str) -> Option<Kind>
+    ensures { result ≡ option_map (λ w. w.1) (list_find (λ w. bytes_eq w.0 (chars text.now)) words) }
+{
+    find(&WORDS, text)
+}
+
 /// The kind of a word, with its first letter.
 pub(crate) fn kind_of_word(first: char, text: &str) -> Kind
     ensures { result ≡ word_kind first (chars text.now) }
 {
-    match find(&WORDS, text) {
+    match named(text) {
         Some(kind) => kind,
         None if is_lower(first) => Kind::Lower,
         None => Kind::Upper,
     }
+}
+
+/// Whether a number has at most 32 bits.
+fn fits(digits: &str) -> bool
+    requires { is_number (chars digits.now) ≡ true }
+    ensures { result ≡ nat_lt (number_of (chars digits.now)) (2 ^ 32) }
+{
+    digits.parse::<u32>().is_ok()
 }
 
 /// The kind of a number.
@@ -66,7 +81,7 @@ pub(crate) fn kind_of_number(digits: &str) -> Kind
     requires { is_number (chars digits.now) ≡ true }
     ensures { result ≡ number_kind (chars digits.now) }
 {
-    if digits.parse::<u32>().is_ok() {
+    if fits(digits) {
         Kind::Number
     } else {
         Kind::TooGreat
