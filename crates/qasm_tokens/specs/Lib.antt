@@ -6,3 +6,7 @@ pub mod Items
 pub mod Classes
 pub mod Spelling
 pub mod Cursors
+pub mod Signs
+pub mod Stacks
+pub mod Upcoming
+pub mod Taken

@@ -3,13 +3,17 @@
 
 mod class;
 mod cursor;
+pub mod item;
 pub mod kind;
 pub mod laws;
 pub mod same;
+mod scanner;
+mod stack;
 pub mod symbol;
 pub mod token;
 mod words;
 
+pub use item::{Ending, ItemReader, Taken};
 pub use kind::Kind;
 pub use same::same_kind;
 pub use token::Token;

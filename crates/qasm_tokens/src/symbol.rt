@@ -28,6 +28,14 @@ pub enum Symbol {
     Unread,
 }
 
+/// What is expected of a text.
+pub(crate) static TEXT: [Symbol; 4] = [
+    Symbol::Expect(Kind::OpenQasm),
+    Symbol::Expect(Kind::Version),
+    Symbol::Expect(Kind::Semicolon),
+    Symbol::Items,
+];
+
 static NOTHING: [Symbol; 0] = [];
 
 static UNREAD: [Symbol; 1] = [Symbol::Unread];
