@@ -70,7 +70,7 @@ fn ending_of(stack: &[Symbol], end: Place) -> Ending
 impl<'s> Taken<'s> {
     /// Adds a token. Whether the item ends with it.
     fn add_token(&mut self, stack: &mut Vec<Symbol>, token: Token<'s>) -> Result<bool, AllocError>
-        ensures { IfOk result (λ ends. AddsToken self.old (reverse stack.old.items) token ends self.new (reverse stack.new.items)) }
+        ensures { IfOk result (λ ends. AddsToken self.old (reverse stack.old.items) token.entry ends self.new (reverse stack.new.items)) }
     {
         if !step(stack, token.kind)? {
             self.ending = Ending::Syntax(token.at);
@@ -86,7 +86,7 @@ impl<'s> Taken<'s> {
 
     /// Adds a token or a line. Whether the item ends with it.
     fn add(&mut self, stack: &mut Vec<Symbol>, mark: Mark<'s>) -> Result<bool, AllocError>
-        ensures { IfOk result (λ ends. Adds self.old (reverse stack.old.items) mark ends self.new (reverse stack.new.items)) }
+        ensures { IfOk result (λ ends. Adds self.old (reverse stack.old.items) mark.entry ends self.new (reverse stack.new.items)) }
     {
         match mark {
             Mark::Token(token) => self.add_token(stack, token),
