@@ -62,7 +62,7 @@ piece_proper c cs =
     (either (is_digit c) number others (digits_proper c cs) (either (c == 34) (file_at c cs) (sign_at c cs) (file_proper c cs) (sign_proper c cs))))
 
 -- a blank, a comment and a token have a character
-front_proper : (c : ℕ) (cs : List ℕ) → 0 < length (front_text (front_of c cs))
+pub front_proper : (c : ℕ) (cs : List ℕ) → 0 < length (front_text (front_of c cs))
 front_proper c cs = by_blank (is_blank c) (starts_with nat_eq (c ∷ cs) (codes "//"))
   where
     by_blank : (b s : Bool) → 0 < length (front_text (cond b (blank c) (cond s (comment (c ∷ run (λ d. not (d == 10)) cs)) (one (piece_at c cs)))))

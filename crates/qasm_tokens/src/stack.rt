@@ -14,7 +14,7 @@ pub(crate) fn put(stack: &mut Vec<Symbol>, symbols: &[Symbol]) -> Result<(), All
     ensures { OnOk result (reverse stack.new.items ≡ symbols.now ++ reverse stack.old.items) }
 {
     let mut left = symbols;
-    while let [rest @ .., last] = left {
+    while let Some((last, rest)) = left.split_last() {
         stack.push(*last)?;
         left = rest;
     }
