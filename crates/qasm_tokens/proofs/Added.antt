@@ -1,5 +1,5 @@
 -- What marks add to items.
-use Rattle.std.proofs.Common.{◌≡◌, ℕ, Bool, true, false, cond, ◌&&◌, List, [], ◌∷◌, ◌++◌, map, append-nil, append_assoc, reverse, refl, sym, ◌∙◌, ap}
+use Rattle.std.proofs.Common.{◌≡◌, ℕ, Bool, true, false, cond, ◌&&◌, ◌||◌, List, [], ◌∷◌, ◌++◌, map, append-nil, append_assoc, reverse, refl, sym, ◌∙◌, ap}
 use Rattle.std.specs.Prelude.{Option, Some, None, ◌≢◌, if◌then◌else◌}
 use Rattle.std.specs.List.{list_all, list_any}
 use Rattle.std.proofs.lemmas.List.{reverse-append}
@@ -10,7 +10,7 @@ use Rattle.qasm_tokens.specs.declared.kind.Kind.TheVariants as k
 use Rattle.qasm_tokens.specs.declared.symbol.Symbol.{Symbol}
 use Rattle.qasm_tokens.specs.Tokens.{Token, Mark, token, line}
 use Rattle.qasm_tokens.specs.Table.{table, same_kind, can_be_empty}
-use Rattle.qasm_tokens.specs.Items.{Item, Reach, reach, reach_at, items_of, no_item, with_token, with_text}
+use Rattle.qasm_tokens.specs.Items.{Item, Reach, reach, reach_at, items_of, is_whole, no_item, with_token, with_text}
 use Rattle.qasm_tokens.specs.Upcoming.{Upcoming, upcoming_in, put_before, with_parts}
 use Rattle.qasm_tokens.specs.Stacks.{Steps}
 
@@ -136,3 +136,24 @@ end_items lines ts xs end ms e = ap (λ z. put_before lines ts (items_of (reach 
 pub end_syntax : (xs : List Symbol) (end : Place) (ms : List Mark) → ms ≡ [] → (reach end xs ms).syntax ≡ (if may_stop table xs then None else Some end)
 unfolding reach
 end_syntax xs end ms e = ap (λ z. (reach end xs z).syntax) e
+
+-- ---- whether an item has its semicolon
+
+pub whole_push : (ts : List Token) (t : Token) (b : Bool) → is_whole ts ≡ false → same_kind k.Semicolon t.kind ≡ b → is_whole (ts ++ (t ∷ [])) ≡ b
+whole_push [] t b w s = ap (λ d. d || false) s ∙ of b
+  where
+    of : (b : Bool) → (b || false) ≡ b
+    of true = refl
+    of false = refl
+whole_push (x ∷ ts) t b w s = by_first (same_kind k.Semicolon x.kind) w (λ v. whole_push ts t b v s)
+  where
+    by_first : (d : Bool) → (d || is_whole ts) ≡ false → (is_whole ts ≡ false → is_whole (ts ++ (t ∷ [])) ≡ b) → (d || is_whole (ts ++ (t ∷ []))) ≡ b
+    by_first true e f = cc
+    by_first false e f = f e
+
+pub put_nothing : (r : Reach) → upcoming_in r ≡ with_parts [] [] r
+put_nothing r = λ i. record { items = none (items_of r.marks) (some_item r.marks) i; syntax = r.syntax }
+  where
+    none : (is : List Item) → is ≢ [] → is ≡ put_before [] [] is
+    none [] h = absurd (h refl)
+    none (i ∷ is) h = refl

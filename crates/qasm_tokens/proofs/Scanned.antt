@@ -1,21 +1,26 @@
 -- What a cursor reads.
-use Rattle.std.proofs.Common.{◌≡◌, ℕ, ◌<◌, ◌≤◌, Bool, true, false, cond, not, ◌==◌, ◌&&◌, ◌||◌, List, [], ◌∷◌, ◌++◌, length, drop, nat_eq, length-append, append_assoc, refl, sym, ◌∙◌, ap, arith}
-use Rattle.std.specs.Prelude.{Option, Some, None, is_some}
-use Rattle.std.specs.List.{starts_with, list_any}
+use Rattle.std.proofs.Common.{◌≡◌, ℕ, ◌<◌, ◌≤◌, Bool, true, false, cond, not, ◌==◌, ◌&&◌, ◌||◌, List, [], ◌∷◌, ◌++◌, length, drop, nat_eq, length-append, append_assoc, refl, sym, ◌∙◌, ap, subst, arith}
+use Rattle.std.specs.Prelude.{Option, Some, None, is_some, find, option_map, unwrap_or, codes, bytes_eq, nat_lt, ◌^◌}
+use Rattle.std.specs.List.{starts_with, list_any, list_all}
 use Rattle.std.proofs.Math.Seq.{drop-append_seam}
 use Rattle.silq_lex.specs.Runs.{run, past}
-use Rattle.silq_lex.specs.Characters.{is_digit}
-use Rattle.silq_lex.specs.Kinds.{is_number}
+use Rattle.silq_lex.specs.Characters.{is_digit, is_blank}
+use Rattle.silq_lex.specs.Kinds.{is_number, number_of}
 use Rattle.silq_lex.specs.Tokens.{behind_all}
 use Rattle.silq_lex.proofs.Longests.{all_run}
 use Rattle.silq_lex.proofs.Passing.{behind_all-append}
-use Rattle.silq_lex.proofs.Texts.{and_true}
-use Rattle.std.proofs.lemmas.Bool.Decides.{Decides-eqb}
+use Rattle.silq_lex.proofs.Texts.{and_true, and_left, and_right}
+use Rattle.std.proofs.lemmas.Bool.Decides.{Decides-eqb, nat_tests}
 use Rattle.qasm_tokens.specs.declared.token.Mark.{Mark}
 use Rattle.qasm_tokens.specs.declared.cursor.Cursor.{Cursor}
-use Rattle.qasm_tokens.specs.Words.{digits_at}
-use Rattle.qasm_tokens.specs.Tokens.{Front, front_of, front_text, mark_at, marks_from}
-use Rattle.qasm_tokens.specs.Cursors.{Passes, PassesMark, GivesNext, ReadsFront, ahead, upcoming, end_place, mark_list, mark_of}
+use Rattle.qasm_tokens.specs.Words.{Piece, piece, piece_at, digits_at, file_at, sign_at, file_kind, words, signs, goes_on, is_letter, is_lower}
+use Rattle.qasm_tokens.specs.Table.{same_kind}
+use Rattle.qasm_tokens.specs.declared.kind.Kind.{Kind}
+use Rattle.qasm_tokens.specs.declared.kind.Kind.TheVariants as k
+use Rattle.qasm_tokens.specs.Tokens as tokens
+use Rattle.silq_lex.specs.declared.token.Place.{Place}
+use Rattle.qasm_tokens.specs.Tokens.{front_of, front_text, mark_at, marks_from, blank, comment, one}
+use Rattle.qasm_tokens.specs.Cursors.{Passes, PassesMark, GivesNext, ReadsFront, IsSpelledMark, ahead, upcoming, end_place, mark_list, mark_of, word_at, number_at}
 use Rattle.qasm_tokens.proofs.Steps.{marks_from-nil, marks_from-cons, front_proper}
 
 -- digits of a number
@@ -35,6 +40,87 @@ quote_behind (c ∷ cs) = of (c == 34) refl (quote_behind cs)
         → starts_with nat_eq (cond (not b) (past (λ d. not (d == 34)) cs) (c ∷ cs)) (34 ∷ []) ≡ (b || list_any (λ d. d == 34) cs)
     of true e h = let d : c ≡ 34 = (Decides-eqb c 34).0 e in rw d refl
     of false e h = h
+
+-- ---- numbers have at most 32 bits
+
+abbrev IsSpelledPiece : Piece → Type 0
+IsSpelledPiece p = p.kind ≡ k.Number → (is_number p.text ≡ true) × (number_of p.text < 2 ^ 32)
+
+abbrev no_number : Kind → Bool
+no_number kind = not (same_kind kind k.Number)
+
+other_spelled : (p : Piece) → no_number p.kind ≡ true → IsSpelledPiece p
+other_spelled p n e = let m : false ≡ true = ap no_number (sym e) ∙ n in absurd (cc)
+
+found_other : (test : List ℕ × Kind → Bool) (ws : List (List ℕ × Kind)) (other : Kind) → list_all (λ w. no_number w.1) ws ≡ true → no_number other ≡ true
+    → no_number (unwrap_or (option_map (λ w. w.1) (find test ws)) other) ≡ true
+found_other test [] other h o = o
+found_other test (w ∷ ws) other h o = by_test (test w) (found_other test ws other (and_right _ _ h) o)
+  where
+    by_test : (b : Bool) → no_number (unwrap_or (option_map (λ w. w.1) (find test ws)) other) ≡ true
+        → no_number (unwrap_or (option_map (λ w. w.1) (cond b (Some w) (find test ws))) other) ≡ true
+    by_test true i = and_left _ _ h
+    by_test false i = i
+
+found_sign : (test : List ℕ × Kind → Bool) (ws : List (List ℕ × Kind)) (other : Piece) → list_all (λ w. no_number w.1) ws ≡ true → no_number other.kind ≡ true
+    → no_number (unwrap_or (option_map (λ s. piece s.1 s.0) (find test ws)) other).kind ≡ true
+found_sign test [] other h o = o
+found_sign test (w ∷ ws) other h o = by_test (test w) (found_sign test ws other (and_right _ _ h) o)
+  where
+    by_test : (b : Bool) → no_number (unwrap_or (option_map (λ s. piece s.1 s.0) (find test ws)) other).kind ≡ true
+        → no_number (unwrap_or (option_map (λ s. piece s.1 s.0) (cond b (Some w) (find test ws))) other).kind ≡ true
+    by_test true i = and_left _ _ h
+    by_test false i = i
+
+lower_or_upper : (b : Bool) → no_number (cond b k.Lower k.Upper) ≡ true
+lower_or_upper true = refl
+lower_or_upper false = refl
+
+library_or_other : (b : Bool) → no_number (cond b k.Library k.OtherFile) ≡ true
+library_or_other true = refl
+library_or_other false = refl
+
+kind_fits : (n : ℕ) (b : Bool) → nat_lt n (2 ^ 32) ≡ b → cond b k.Number k.TooGreat ≡ k.Number → n < 2 ^ 32
+kind_fits n true h e = grind (arith, nat_tests)
+kind_fits n false h e = cc
+
+number_spelled : (c : ℕ) (cs : List ℕ) → is_digit c ≡ true → IsSpelledPiece (number_at c cs)
+number_spelled c cs d e = (digits_are_number c cs d, kind_fits (number_of (digits_at c cs)) (nat_lt (number_of (digits_at c cs)) (2 ^ 32)) refl e)
+
+either : (b : Bool) (p q : Piece) → (b ≡ true → IsSpelledPiece p) → IsSpelledPiece q → IsSpelledPiece (cond b p q)
+either true p q f g = f refl
+either false p q f g = g
+
+piece_spelled : (c : ℕ) (cs : List ℕ) → IsSpelledPiece (piece_at c cs)
+piece_spelled c cs =
+    let others : Piece = cond (c == 34) (file_at c cs) (sign_at c cs) in
+    let digits : Piece = cond (is_digit c) (number_at c cs) others in
+    let version : Piece = piece k.Version (codes "2.0") in
+    let name : Piece = piece (file_kind (c ∷ (run (λ d. not (d == 34)) cs ++ (34 ∷ [])))) (c ∷ (run (λ d. not (d == 34)) cs ++ (34 ∷ []))) in
+    let stray : Piece = piece k.Stray (c ∷ []) in
+    either (is_letter c) (word_at c cs) (cond (starts_with nat_eq (c ∷ cs) (codes "2.0")) version digits)
+    (λ e. other_spelled (word_at c cs) (found_other (λ w. bytes_eq w.0 (c ∷ run goes_on cs)) words (cond (is_lower c) k.Lower k.Upper) refl (lower_or_upper (is_lower c))))
+    (either (starts_with nat_eq (c ∷ cs) (codes "2.0")) version digits (λ e. other_spelled version refl)
+    (either (is_digit c) (number_at c cs) others (number_spelled c cs)
+    (either (c == 34) (file_at c cs) (sign_at c cs)
+    (λ e. either (list_any (λ d. d == 34) cs) name stray (λ f. other_spelled name (library_or_other _)) (other_spelled stray refl))
+    (other_spelled (sign_at c cs) (found_sign (λ s. starts_with nat_eq (c ∷ cs) s.0) signs stray refl refl)))))
+
+abbrev pub FirstSpelled : List tokens.Mark → Type 0
+FirstSpelled [] = Unit {0}
+FirstSpelled (m ∷ ms) = IsSpelledMark m
+
+front_spelled : (c : ℕ) (cs : List ℕ) (at : Place) → FirstSpelled (mark_at (front_of c cs) at)
+front_spelled c cs at = by_blank (is_blank c) (starts_with nat_eq (c ∷ cs) (codes "//"))
+  where
+    by_column : (b : Bool) (text : List ℕ) → FirstSpelled (cond b (tokens.line text ∷ []) [])
+    by_column true text = tt
+    by_column false text = tt
+
+    by_blank : (b s : Bool) → FirstSpelled (mark_at (cond b (blank c) (cond s (comment (c ∷ run (λ d. not (d == 10)) cs)) (one (piece_at c cs)))) at)
+    by_blank true s = tt
+    by_blank false true = by_column (at.col == 1) (c ∷ run (λ d. not (d == 10)) cs)
+    by_blank false false = piece_spelled c cs
 
 -- what stands at the front was passed: the marks behind it follow
 pub front_passed : (from to : Cursor) (c : ℕ) (cs : List ℕ) → ahead from ≡ c ∷ cs → Passes from to (front_text (front_of c cs))
@@ -72,7 +158,7 @@ pub given_next : (self here next : Cursor) (c : ℕ) (read : Option Mark × Curs
 given_next self here next c (None, to) s e f l p r = cc
 given_next self here next c (Some m, to) s e f l p r =
     let short : length (ahead to) < length (ahead here) = front_shorter here to c (ahead next) r.passes in
-    (marks_join self here to (Some m) e f (mark_passed here next to c (Some m) p r), omega arith)
+    (marks_join self here to (Some m) e f (mark_passed here next to c (Some m) p r), omega arith, let P : List tokens.Mark → Type 0 = FirstSpelled in subst P (sym r.mark) (front_spelled c (ahead next) here.place))
 
 -- where no mark was read, the same marks come
 pub record Goes (self to : Cursor) : Type 0 where

@@ -1,5 +1,5 @@
 -- What a cursor has before it, and what it has passed.
-use Rattle.std.specs.Prelude.{◌≡◌, ℕ, ◌<◌, ◌≤◌, List, [], ◌∷◌, ◌++◌, Option, Some, None, length, nat_eq, false}
+use Rattle.std.specs.Prelude.{◌≡◌, ℕ, ◌<◌, ◌≤◌, List, [], ◌∷◌, ◌++◌, Option, Some, None, length, nat_eq, true, false, ◌^◌}
 use Rattle.std.specs.List.{starts_with}
 use Rattle.silq_lex.specs.Runs.{run}
 use Rattle.std.specs.Str.{chars}
@@ -10,6 +10,8 @@ use Rattle.qasm_tokens.specs.declared.token.Mark.{Mark}
 use Rattle.qasm_tokens.specs.declared.token.Mark.TheVariants as marks
 use Rattle.qasm_tokens.specs.declared.cursor.Cursor.{Cursor}
 use Rattle.qasm_tokens.specs.declared.kind.Kind.{Kind}
+use Rattle.qasm_tokens.specs.declared.kind.Kind.TheVariants as k
+use Rattle.silq_lex.specs.Kinds.{is_number, number_of}
 use Rattle.qasm_tokens.specs.Words.{Piece, piece, word_kind, number_kind, digits_at, goes_on}
 use Rattle.qasm_tokens.specs.Tokens as tokens
 use Rattle.qasm_tokens.specs.Tokens.{front_text, mark_at, marks_from}
@@ -75,7 +77,12 @@ pub record PassesMark (from : Cursor) (mark : List tokens.Mark) (to : Cursor) : 
   pub marks : upcoming from ≡ mark ++ upcoming to
   pub end : end_place from ≡ end_place to
 
+-- a number has at most 32 bits
+abbrev pub IsSpelledMark : tokens.Mark → Type 0
+IsSpelledMark (tokens.token t) = t.kind ≡ k.Number → (is_number t.text ≡ true) × (number_of t.text < 2 ^ 32)
+IsSpelledMark (tokens.line text) = Unit {0}
+
 -- the next mark was read, or none is left
 abbrev pub GivesNext : Cursor → Option Mark → Cursor → Type 0
 GivesNext from None to = (upcoming from ≡ []) × (end_place from ≡ to.place)
-GivesNext from (Some m) to = PassesMark from (mark_of m ∷ []) to × (length (ahead to) < length (ahead from))
+GivesNext from (Some m) to = PassesMark from (mark_of m ∷ []) to × (length (ahead to) < length (ahead from)) × IsSpelledMark (mark_of m)

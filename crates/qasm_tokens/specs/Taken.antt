@@ -1,5 +1,6 @@
 -- Items that were taken.
-use Rattle.std.specs.Prelude.{◌≡◌, ◌≢◌, ℕ, ◌^◌, ◌<◌, Bool, true, false, List, [], ◌∷◌, Option, Some, None, if◌then◌else◌, map}
+use Rattle.std.specs.Prelude.{◌≡◌, ◌≢◌, ℕ, ◌^◌, ◌<◌, Bool, true, false, List, [], ◌∷◌, Option, Some, None, if◌then◌else◌, map, ◌&&◌}
+use Rattle.std.specs.List.{All}
 use Rattle.std.specs.Str.{chars}
 use Rattle.silq_lex.specs.declared.token.Place.{Place}
 use Rattle.silq_lex.specs.Kinds.{is_number, number_of}
@@ -15,8 +16,8 @@ use Rattle.qasm_tokens.specs.declared.item.Taken.{Taken}
 use Rattle.qasm_tokens.specs.Tokens as tokens
 use Rattle.qasm_tokens.specs.Tokens.{marks_of, end_of, line}
 use Rattle.qasm_tokens.specs.Table.{table, a_text}
-use Rattle.qasm_tokens.specs.Items.{Item, Reach, reach}
-use Rattle.qasm_tokens.specs.Cursors.{token_of, mark_of, upcoming, end_place}
+use Rattle.qasm_tokens.specs.Items.{Item, Reach, reach, is_whole}
+use Rattle.qasm_tokens.specs.Cursors.{token_of, mark_of, upcoming, end_place, IsSpelledMark}
 use Rattle.qasm_tokens.specs.Upcoming.{Upcoming, upcoming_in, with_parts}
 
 -- the item that was taken
@@ -69,3 +70,11 @@ AddsToken old xs t ends new ys = AddsBy ends old xs (tokens.token (token_of t)) 
 
 abbrev pub Adds : Taken → List Symbol → Mark → Bool → Taken → List Symbol → Type 0
 Adds old xs mark ends new ys = AddsBy ends old xs (mark_of mark) new ys
+
+-- whether the item has its semicolon is told
+abbrev pub TellsWhole : Taken → Bool → Taken → Type 0
+TellsWhole old ends new = is_whole (item_of old).tokens ≡ false → is_whole (item_of new).tokens ≡ (ends && is_at_semicolon new.ending)
+
+-- numbers have at most 32 bits, before and after
+abbrev pub KeepsSpelled : Taken → Mark → Taken → Type 0
+KeepsSpelled old mark new = All IsSpelled (item_of old).tokens → IsSpelledMark (mark_of mark) → All IsSpelled (item_of new).tokens

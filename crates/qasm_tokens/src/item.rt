@@ -1,10 +1,11 @@
 //! The items of a text, one after another.
 
-ghost use Rattle.std.specs.Prelude.{◌≡◌, ◌^◌, ◌-◌, ◌<◌, length, reverse, IfOk};
+ghost use Rattle.std.specs.Prelude.{◌≡◌, ◌^◌, ◌-◌, ◌<◌, length, reverse, IfOk, OnOk};
 ghost use Rattle.std.specs.List.{All};
 ghost use Rattle.std.specs.Str.{chars};
+ghost use Rattle.qasm_tokens.specs.declared.token.Mark.TheVariants as marks;
 ghost use Rattle.qasm_tokens.specs.Items.{is_whole};
-ghost use Rattle.qasm_tokens.specs.Taken.{Takes, Adds, AddsToken, IsSpelled, ending_of, is_at_semicolon, item_of, items_in, still};
+ghost use Rattle.qasm_tokens.specs.Taken.{Takes, Adds, AddsToken, TellsWhole, KeepsSpelled, IsSpelled, ending_of, is_at_semicolon, item_of, items_in, still};
 
 use crate::cursor::Cursor;
 use crate::kind::Kind;
@@ -70,7 +71,9 @@ fn ending_of(stack: &[Symbol], end: Place) -> Ending
 impl<'s> Taken<'s> {
     /// Adds a token. Whether the item ends with it.
     fn add_token(&mut self, stack: &mut Vec<Symbol>, token: Token<'s>) -> Result<bool, AllocError>
-        ensures { IfOk result (λ ends. AddsToken self.old (reverse stack.old.items) token.entry ends self.new (reverse stack.new.items)) }
+        ensures item { IfOk result (λ ends. AddsToken self.old (reverse stack.old.items) token.entry ends self.new (reverse stack.new.items)) }
+        ensures whole { IfOk result (λ ends. TellsWhole self.old ends self.new) }
+        ensures numbers { OnOk result (KeepsSpelled self.old (marks.Token token.entry) self.new) }
     {
         if !step(stack, token.kind)? {
             self.ending = Ending::Syntax(token.at);
@@ -86,7 +89,9 @@ impl<'s> Taken<'s> {
 
     /// Adds a token or a line. Whether the item ends with it.
     fn add(&mut self, stack: &mut Vec<Symbol>, mark: Mark<'s>) -> Result<bool, AllocError>
-        ensures { IfOk result (λ ends. Adds self.old (reverse stack.old.items) mark.entry ends self.new (reverse stack.new.items)) }
+        ensures item { IfOk result (λ ends. Adds self.old (reverse stack.old.items) mark.entry ends self.new (reverse stack.new.items)) }
+        ensures whole { IfOk result (λ ends. TellsWhole self.old ends self.new) }
+        ensures numbers { OnOk result (KeepsSpelled self.old mark.entry self.new) }
     {
         match mark {
             Mark::Token(token) => self.add_token(stack, token),
