@@ -1,7 +1,7 @@
 -- What marks add to items.
-use Rattle.std.proofs.Common.{◌≡◌, ℕ, Bool, true, false, cond, ◌&&◌, ◌||◌, List, [], ◌∷◌, ◌++◌, map, append-nil, append_assoc, reverse, refl, sym, ◌∙◌, ap}
-use Rattle.std.specs.Prelude.{Option, Some, None, ◌≢◌, if◌then◌else◌}
-use Rattle.std.specs.List.{list_all, list_any}
+use Rattle.std.proofs.Common.{◌≡◌, ℕ, Bool, true, false, cond, ◌&&◌, ◌||◌, List, [], ◌∷◌, ◌++◌, append-nil, append_assoc, reverse, refl, sym, ◌∙◌, ap}
+use Rattle.std.specs.Prelude.{Some, None, ◌≢◌, if◌then◌else◌}
+use Rattle.std.specs.List.{list_all}
 use Rattle.std.proofs.lemmas.List.{reverse-append}
 use Rattle.silq_lex.specs.declared.token.Place.{Place}
 use Rattle.grammar_core.specs.Table.{advance, may_stop}
@@ -11,7 +11,7 @@ use Rattle.qasm_tokens.specs.declared.symbol.Symbol.{Symbol}
 use Rattle.qasm_tokens.specs.Tokens.{Token, Mark, token, line}
 use Rattle.qasm_tokens.specs.Table.{table, same_kind, can_be_empty}
 use Rattle.qasm_tokens.specs.Items.{Item, Reach, reach, reach_at, items_of, is_whole, no_item, with_token, with_text}
-use Rattle.qasm_tokens.specs.Upcoming.{Upcoming, upcoming_in, put_before, with_parts}
+use Rattle.qasm_tokens.specs.Upcoming.{upcoming_in, put_before, with_parts}
 use Rattle.qasm_tokens.specs.Stacks.{Steps}
 
 -- ---- the stack

@@ -1,12 +1,11 @@
 -- How an item ends with the text.
-use Rattle.std.proofs.Common.{◌≡◌, Bool, true, false, cond, List, [], ◌∷◌, refl, sym, ◌∙◌, ap}
+use Rattle.std.proofs.Common.{◌≡◌, Bool, true, false, cond, List, [], ◌∷◌, refl, ◌∙◌, ap}
 use Rattle.std.specs.Prelude.{Option, Some, None}
 use Rattle.grammar_core.specs.Table.{may_stop}
 use Rattle.silq_lex.specs.declared.token.Place.{Place}
 use Rattle.qasm_tokens.specs.declared.token.Mark.{Mark}
 use Rattle.qasm_tokens.specs.declared.symbol.Symbol.{Symbol}
 use Rattle.qasm_tokens.specs.declared.cursor.Cursor.{Cursor}
-use Rattle.qasm_tokens.specs.declared.item.Ending.{Ending}
 use Rattle.qasm_tokens.specs.declared.item.Ending.TheVariants.{TextEnd, Syntax}
 use Rattle.qasm_tokens.specs.declared.item.Taken.{Taken}
 use Rattle.qasm_tokens.specs.Table.{table}

@@ -1,5 +1,5 @@
 -- What a cursor reads.
-use Rattle.std.proofs.Common.{◌≡◌, ℕ, ◌<◌, ◌≤◌, Bool, true, false, cond, not, ◌==◌, ◌&&◌, ◌||◌, List, [], ◌∷◌, ◌++◌, length, drop, nat_eq, length-append, append_assoc, refl, sym, ◌∙◌, ap, subst, arith}
+use Rattle.std.proofs.Common.{◌≡◌, ℕ, ◌<◌, ◌≤◌, Bool, true, false, cond, not, ◌==◌, ◌||◌, List, [], ◌∷◌, ◌++◌, length, drop, nat_eq, length-append, refl, sym, ◌∙◌, ap, subst, arith}
 use Rattle.std.specs.Prelude.{Option, Some, None, is_some, find, option_map, unwrap_or, codes, bytes_eq, nat_lt, ◌^◌}
 use Rattle.std.specs.List.{starts_with, list_any, list_all}
 use Rattle.std.proofs.Math.Seq.{drop-append_seam}
@@ -20,7 +20,7 @@ use Rattle.qasm_tokens.specs.declared.kind.Kind.TheVariants as k
 use Rattle.qasm_tokens.specs.Tokens as tokens
 use Rattle.silq_lex.specs.declared.token.Place.{Place}
 use Rattle.qasm_tokens.specs.Tokens.{front_of, front_text, mark_at, marks_from, blank, comment, one}
-use Rattle.qasm_tokens.specs.Cursors.{Passes, PassesMark, GivesNext, ReadsFront, IsSpelledMark, ahead, upcoming, end_place, mark_list, mark_of, word_at, number_at}
+use Rattle.qasm_tokens.specs.Cursors.{Passes, PassesMark, GivesNext, ReadsFront, IsSpelledMark, ahead, upcoming, end_place, mark_list, word_at, number_at}
 use Rattle.qasm_tokens.proofs.Steps.{marks_from-nil, marks_from-cons, front_proper}
 
 -- digits of a number
@@ -130,9 +130,9 @@ front_passed from to c cs e p =
     let behind : drop (length text) (c ∷ cs) ≡ ahead to = ap (drop (length text)) (sym e ∙ p.characters) ∙ drop-append_seam text (ahead to) in
     record {
       marks =
-        ap (marks_from from.place) e ∙ marks_from-cons from.place c cs
-        ∙ ap (λ (z : List ℕ). mark_at (front_of c cs) from.place ++ marks_from (behind_all from.place text) z) behind
-        ∙ ap (λ z. mark_at (front_of c cs) from.place ++ marks_from z (ahead to)) (sym p.place);
+          ap (marks_from from.place) e ∙ marks_from-cons from.place c cs
+          ∙ ap (λ (z : List ℕ). mark_at (front_of c cs) from.place ++ marks_from (behind_all from.place text) z) behind
+          ∙ ap (λ z. mark_at (front_of c cs) from.place ++ marks_from z (ahead to)) (sym p.place);
       end = ap (behind_all from.place) p.characters ∙ behind_all-append text (ahead to) from.place ∙ ap (λ z. behind_all z (ahead to)) (sym p.place);
     }
 

@@ -9,7 +9,7 @@ use Rattle.silq_lex.specs.declared.token.Place.{Place}
 use Rattle.qasm_tokens.specs.declared.kind.Kind.{Kind}
 use Rattle.qasm_tokens.specs.declared.kind.Kind.TheVariants as k
 use Rattle.qasm_tokens.specs.Words.{Piece, piece, piece_at, sign_at, file_at, file_kind, digits_at, number_kind, word_kind, signs, is_letter, goes_on}
-use Rattle.qasm_tokens.specs.Tokens.{Mark, Front, blank, comment, one, front_of, front_text, mark_at, marks_within, marks_from}
+use Rattle.qasm_tokens.specs.Tokens.{Front, blank, comment, one, front_of, front_text, mark_at, marks_within, marks_from}
 
 -- a token has a character
 abbrev IsProper : Piece → Type 0

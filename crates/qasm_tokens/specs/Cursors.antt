@@ -1,5 +1,5 @@
 -- What a cursor has before it, and what it has passed.
-use Rattle.std.specs.Prelude.{◌≡◌, ℕ, ◌<◌, ◌≤◌, List, [], ◌∷◌, ◌++◌, Option, Some, None, length, nat_eq, true, false, ◌^◌}
+use Rattle.std.specs.Prelude.{◌≡◌, ℕ, ◌<◌, List, [], ◌∷◌, ◌++◌, Option, Some, None, length, nat_eq, true, false, ◌^◌}
 use Rattle.std.specs.List.{starts_with}
 use Rattle.silq_lex.specs.Runs.{run}
 use Rattle.std.specs.Str.{chars}

@@ -56,7 +56,7 @@ piece kind text = record { kind = kind; text = text }
 abbrev pub file_at : ℕ → List ℕ → Piece
 file_at c cs =
     (λ (name : List ℕ). if list_any (λ d. d == 34) cs then piece (file_kind (c ∷ (name ++ (34 ∷ [])))) (c ∷ (name ++ (34 ∷ []))) else piece k.Stray (c ∷ []))
-        (run (λ d. not (d == 34)) cs)
+    (run (λ d. not (d == 34)) cs)
 
 abbrev pub sign_at : ℕ → List ℕ → Piece
 sign_at c cs = unwrap_or (option_map (λ s. piece s.1 s.0) (find (λ s. starts_with nat_eq (c ∷ cs) s.0) signs)) (piece k.Stray (c ∷ []))

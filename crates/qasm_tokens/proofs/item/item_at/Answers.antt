@@ -1,4 +1,4 @@
-use Rattle.std.proofs.Common.{◌≡◌, ◌++◌, ◌∷◌, [], List, map, reverse, refl, sym, ◌∙◌, ap}
+use Rattle.std.proofs.Common.{List, reverse, refl, ◌∙◌, ap}
 use Rattle.std.proofs.lemmas.List.Elements.{All-nil}
 use Rattle.qasm_tokens.specs.declared.symbol.Symbol.{Symbol}
 use Rattle.qasm_tokens.specs.Items.{reach}

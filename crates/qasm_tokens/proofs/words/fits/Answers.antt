@@ -1,11 +1,9 @@
-use Rattle.std.proofs.Common.{◌≡◌, ◌<◌, ◌^◌, Bool, true, cond, length, nat_lt, ap, sym, ◌∙◌}
+use Rattle.std.proofs.Common.{◌≡◌, ◌<◌, true, length, ◌∙◌}
 use Rattle.std.specs.List.{list_all}
 use Rattle.std.specs.Str.{chars}
 use Rattle.std.proofs.lemmas.Str.Parse.{parse_digits}
 use Rattle.silq_lex.specs.Characters.{is_digit}
-use Rattle.silq_lex.specs.Kinds.{number_of}
 use Rattle.silq_lex.proofs.Texts.{digits_model, number_digits, digits-chars}
-use Rattle.qasm_tokens.specs.declared.kind.Kind.TheVariants as k
 use Rattle.qasm_tokens.proofs.Spelled.{number_fits}
 use Rattle.qasm_tokens.proofs.words.fits.Goals as goal
 
@@ -17,4 +15,3 @@ returns c =
     let long : 0 < length c.args.digits.now = rw e at d.1 in
     c.is_ok.ensures.value
     ∙ rw e (number_fits c.parse.result _ c.args.digits.now long (parse_digits digits_model 32 c.args.digits.now _ c.parse.ensures.value.0 all))
-

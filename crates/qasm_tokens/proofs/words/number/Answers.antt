@@ -1,4 +1,4 @@
-use Rattle.std.proofs.Common.{◌≡◌, ◌<◌, ◌^◌, true, length, ◌∙◌, refl, sym, ap}
+use Rattle.std.proofs.Common.{◌≡◌, ◌<◌, ◌^◌, true, length, refl}
 use Rattle.std.specs.List.{list_all}
 use Rattle.std.specs.Str.{chars}
 use Rattle.std.proofs.lemmas.Str.Parse.{parse_digits}
@@ -25,4 +25,4 @@ returns c =
     let long : 0 < length c.args.digits.now = rw e at d.1 in
     let fits : number_of c.args.digits.now < 2 ^ 32 = rw e at c.requires.fits in
     let p = number_parsed c.parse.result (number_of c.args.digits.now) c.args.digits.now long fits (parse_digits digits_model 32 c.args.digits.now _ c.parse.ensures.value.0 all) in
-    cc (p, c.unwrap.ensures, ap number_of e)
+    cc (p, c.unwrap.ensures)

@@ -1,5 +1,4 @@
-use Rattle.std.proofs.Common.{◌≡◌, ℕ, ◌∷◌, [], List, true, false, cond, not, ◌==◌, ◌∙◌, ap, sym, refl, arith}
-use Rattle.std.specs.Str.{chars}
+use Rattle.std.proofs.Common.{◌≡◌, ℕ, ◌∷◌, [], List, true, false, not, ◌==◌, ap, refl, arith}
 use Rattle.std.proofs.lemmas.Bool.Decides.{nat_tests}
 use Rattle.silq_lex.specs.Runs.{run}
 use Rattle.qasm_tokens.specs.Tokens.{line}

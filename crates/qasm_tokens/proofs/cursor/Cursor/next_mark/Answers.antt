@@ -1,5 +1,4 @@
-use Rattle.std.proofs.Common.{◌≡◌, ◌<◌, ◌≤◌, length, sym, ◌∙◌, true, false, arith}
-use Rattle.std.specs.Prelude.{is_some}
+use Rattle.std.proofs.Common.{◌<◌, ◌≤◌, length, sym, ◌∙◌, arith}
 use Rattle.qasm_tokens.specs.Cursors.{ahead}
 use Rattle.qasm_tokens.proofs.Scanned.{given_next, gap_passed, front_shorter, none_left}
 use Rattle.qasm_tokens.proofs.cursor.Cursor.next_mark.Goals as goal

@@ -1,8 +1,8 @@
-use Rattle.std.proofs.Common.{◌≡◌, ℕ, ◌∷◌, [], ◌++◌, List, true, false, not, ◌==◌, nat_eq, ◌∙◌, ap, sym, refl, append_assoc}
+use Rattle.std.proofs.Common.{◌≡◌, ◌∷◌, [], ◌++◌, true, false, not, ◌==◌, nat_eq, ◌∙◌, ap, sym, refl}
 use Rattle.std.specs.List.{starts_with, list_any}
-use Rattle.silq_lex.specs.Runs.{run, past}
+use Rattle.silq_lex.specs.Runs.{run}
 use Rattle.qasm_tokens.specs.Words.{file_kind}
-use Rattle.qasm_tokens.specs.Cursors.{Passes, ahead}
+use Rattle.qasm_tokens.specs.Cursors.{ahead}
 use Rattle.qasm_tokens.proofs.Passing.{passes_on, passes_join}
 use Rattle.qasm_tokens.proofs.Scanned.{quote_behind}
 use Rattle.qasm_tokens.proofs.cursor.Cursor.quoted.Goals as goal

@@ -1,11 +1,9 @@
 use Rattle.std.proofs.Common.{◌≡◌, ◌++◌, ◌∷◌, [], List, true, false, map, reverse, sym, ◌∙◌, ap}
-use Rattle.std.specs.List.{All}
 use Rattle.std.proofs.lemmas.List.{map-append}
 use Rattle.std.proofs.lemmas.List.Elements.{All-push}
-use Rattle.silq_lex.specs.declared.token.Place.{Place}
 use Rattle.qasm_tokens.specs.declared.token.Token.{Token}
 use Rattle.qasm_tokens.specs.Tokens as tokens
-use Rattle.qasm_tokens.specs.Items.{Item, Reach, reach, items_of, is_whole}
+use Rattle.qasm_tokens.specs.Items.{Item, reach, items_of, is_whole}
 use Rattle.qasm_tokens.specs.Upcoming.{with_parts}
 use Rattle.qasm_tokens.specs.Taken.{IsSpelled, item_of}
 use Rattle.qasm_tokens.specs.Cursors.{token_of}
