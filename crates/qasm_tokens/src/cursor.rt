@@ -1,6 +1,7 @@
 //! A place in a text, with the text from there on.
 
-ghost use Rattle.std.specs.Prelude.{◌≡◌, ℕ, ◌+◌, ◌-◌, ◌^◌, ◌<◌, ◌≤◌, false, List, [], ◌∷◌, ◌++◌, length, nat_eq, MatchOption, IfNone, IfSome, encode_utf8, encode_utf8_all};
+ghost use Rattle.std.specs.Prelude.{◌≡◌, ℕ, ◌+◌, ◌-◌, ◌^◌, ◌<◌, ◌≤◌, false, List};
+ghost use Rattle.std.specs.Prelude.{[], ◌∷◌, ◌++◌, length, nat_eq, MatchOption, IfNone, IfSome, encode_utf8, encode_utf8_all};
 ghost use Rattle.std.specs.Str.{chars};
 ghost use Rattle.std.specs.List.{starts_with};
 ghost use Rattle.silq_lex.specs.Tokens.{behind, behind_all};
