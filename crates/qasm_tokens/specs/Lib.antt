@@ -1,0 +1,12 @@
+pub mod Words
+pub mod Tokens
+pub mod Table
+pub mod Grammar
+pub mod Items
+pub mod Classes
+pub mod Spelling
+pub mod Cursors
+pub mod Signs
+pub mod Stacks
+pub mod Upcoming
+pub mod Taken
