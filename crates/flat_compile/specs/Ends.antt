@@ -1,5 +1,5 @@
 -- How the compilation of a job ends.
-use Rattle.std.specs.Prelude.{◌≡◌, ℕ, ◌<◌, ◌≤◌, List, Option, None, Some}
+use Rattle.std.specs.Prelude.{◌≡◌, ℕ, suc, List, Option, None, Some}
 use Rattle.silq_io.specs.declared.limit.OverLimit.{OverLimit}
 use Rattle.silq_io.specs.Sinks.{Adds, Breaks}
 use Rattle.silq_mean.specs.Table.{Job}
@@ -10,16 +10,18 @@ use Rattle.graph_core.specs.Circuit.{circuit_graph}
 use Rattle.topo_order.specs.GivenCycle.{IsGivenCycle}
 use Rattle.move_plan.specs.declared.moves.Move.{Move}
 use Rattle.move_plan.specs.Live.{width}
-use Rattle.reqomp.specs.Level.{IsLevel}
+use Rattle.reqomp.specs.Level.{IsLevel, last_level}
+use Rattle.reqomp.specs.Search.{Fits, IsFirstFit, IsLeastBelow}
+use Rattle.graph_core.specs.Digraph.{IsAcyclic, IsCycle}
 use Rattle.plan_write.specs.Text.{plan_text}
 use Rattle.flat_compile.specs.declared.cycle.CyclePlace.{CyclePlace}
 use Rattle.flat_compile.specs.Places.{ArePlacesOf}
 
--- the text is that of the moves of level 0, on as many qubits as they need, which the budget has
+-- the text is that of the moves of the first level that fits the budget, on as many qubits as they need
 pub record IsTextOf (budget : ℕ) (text : List ℕ) (f : FlatForm) : Type 0 where
+  pub level : ℕ
   pub moves : List Move
-  pub level : IsLevel f 0 moves
-  pub fits : width f moves ≤ budget
+  pub first : IsFirstFit f budget level moves
   pub is : text ≡ plan_text f moves (width f moves)
 
 -- it was put whole
@@ -34,14 +36,14 @@ BreaksPlan budget old new f = (text : List ℕ) × IsTextOf budget text f × Bre
 pub record HasGivenCycle (places : List CyclePlace) (f : FlatForm) : Type 0 where
   pub vertices : List Vertex
   pub given : IsGivenCycle (circuit_graph f) vertices
+  pub cycle : IsCycle (circuit_graph f) vertices
   pub told : ArePlacesOf f vertices places
 
--- level 0 is there, and needs more qubits than the budget has: so many
+-- the circuit graph has no cycle, no level fits the budget, and this is the least width of the levels that are there and not too long
 pub record NeedsMore (budget least : ℕ) (f : FlatForm) : Type 0 where
-  pub moves : List Move
-  pub level : IsLevel f 0 moves
-  pub is : least ≡ width f moves
-  pub more : budget < least
+  pub acyclic : IsAcyclic (circuit_graph f)
+  pub none : (level : ℕ) (moves : List Move) → IsLevel f level moves → ¬ Fits f budget moves
+  pub least_is : IsLeastBelow f (suc last_level) (Some least)
 
 -- a job passes no limit, and this holds of its flat form
 abbrev pub OfFlat : (FlatForm → Type 0) → Job → Type 0

@@ -10,8 +10,7 @@ ghost use Rattle.graph_core.specs.Circuit.{circuit_graph};
 ghost use Rattle.graph_core.specs.Digraph.{IsCycle};
 ghost use Rattle.topo_order.specs.GivenCycle.{IsGivenCycle};
 ghost use Rattle.move_plan.specs.Live.{width};
-ghost use Rattle.move_plan.specs.Progress.{IsPlan};
-ghost use Rattle.reqomp.specs.Level.{IsLevel};
+ghost use Rattle.reqomp.specs.Search.{IsFirstFit};
 ghost use Rattle.flat_compile.specs.Ends.{BreaksPlan, HasGivenCycle, NeedsMore, OfFlat, PassesFirst, PutsPlan};
 ghost use Rattle.flat_compile.specs.declared.cycle.CyclePlace.{CyclePlace};
 ghost use Rattle.flat_compile.specs.declared.fault.CompileFault.TheVariants as faults;
@@ -22,15 +21,14 @@ use check_scope::Library;
 use flat_build::flatten;
 use flat_core::Flat;
 use graph_core::Vertex;
-use move_plan::{Move, Plan, Rows};
+use move_plan::Plan;
 use plan_write::{WriteFault, write_plan};
-use reqomp::level_zero_moves;
+use reqomp::{PlanFault, plan};
 use silq_io::{LimitFault, Sink};
-use std::alloc::{AllocError, Global};
-use topo_order::OrderFault;
+use std::alloc::Global;
 
 /// Compiles a function with static values as an entry, within a budget of qubits, and puts the text of its circuit: its flat form,
-/// the moves of level 0, which recomputes nothing, and their gates.
+/// the moves of the first level of recomputation, from 0 to 16, that fits the budget, and their gates.
 ///
 /// Nothing is put before all refusals but that of the sink are past; want of memory alone may come at any time before that.
 pub fn compile<S: Sink>(
@@ -66,40 +64,20 @@ pub fn compile<S: Sink>(
     put_plan(alloc, &flat, &plan, budget, out)
 }
 
-// The moves of level 0 with their width, which the budget has, or why there are none.
+// The plan of the first level that fits the budget, or why there is none.
 fn plan_of(alloc: Global, flat: &Flat, budget: u32) -> Result<Plan, CompileFault>
-    ensures level { IfOk result (λ p. IsLevel flat.now 0 p.moves) }
+    ensures first { IfOk result (λ p. IsFirstFit flat.now budget p.level p.moves) }
     ensures width { IfOk result (λ p. p.width ≡ width flat.now p.moves) }
-    ensures fits { IfOk result (λ p. p.width ≤ budget) }
     ensures cycle { (places : List CyclePlace) → IsErrOf result (faults.Cycle places) → HasGivenCycle places flat.now }
     ensures over_budget { (least : ℕ) → IsErrOf result (faults.OverBudget least) → NeedsMore budget least flat.now }
     ensures others { IfErr result (λ fault. fault ≢ faults.Failed × ((over : OverLimit) → fault ≢ faults.Limit over)) }
 {
-    let moves = match level_zero_moves(alloc, flat) {
-        Ok(moves) => moves,
-        Err(OrderFault::Memory) => return Err(CompileFault::Memory),
-        Err(OrderFault::Cycle(cycle)) => return Err(cycle_fault(alloc, flat, cycle.vertices())),
-    };
-    let Ok(width) = width_of(alloc, flat, moves.as_slice()) else {
-        return Err(CompileFault::Memory);
-    };
-    if width > budget as usize {
-        return Err(CompileFault::OverBudget { least: width });
+    match plan(alloc, flat, budget) {
+        Ok(plan) => Ok(plan),
+        Err(PlanFault::Memory) => Err(CompileFault::Memory),
+        Err(PlanFault::Cycle(cycle)) => Err(cycle_fault(alloc, flat, cycle.vertices())),
+        Err(PlanFault::OverBudget { least }) => Err(CompileFault::OverBudget { least }),
     }
-    Ok(Plan {
-        moves,
-        width,
-        level: 0,
-    })
-}
-
-// How many qubits a valid list of moves needs.
-fn width_of(alloc: Global, flat: &Flat, moves: &[Move]) -> Result<usize, AllocError>
-    requires { IsPlan flat.now moves.now }
-    ensures { IfOk result (λ wide. wide ≡ width flat.now moves.now) }
-{
-    let mut rows = Rows::new(alloc, flat)?;
-    Ok(rows.width(flat, moves))
 }
 
 // The fault of a circuit graph with this cycle.
@@ -125,9 +103,8 @@ fn put_plan<S: Sink>(
     out: &mut S,
 ) -> Result<(), CompileFault>
     requires few { budget ≤ 100000 }
-    requires level { IsLevel flat.now 0 plan.now.moves }
+    requires first { IsFirstFit flat.now budget plan.now.level plan.now.moves }
     requires width { plan.now.width ≡ width flat.now plan.now.moves }
-    requires fits { plan.now.width ≤ budget }
     ensures done { OnOk result (PutsPlan budget (S.put_so_far out.old) (S.put_so_far out.new) flat.now) }
     ensures failed { IsErrOf result faults.Failed → Rose (S.faults out.old) (S.faults out.new) }
     ensures broken { IsErrOf result faults.Failed → BreaksPlan budget (S.put_so_far out.old) (S.put_so_far out.new) flat.now }

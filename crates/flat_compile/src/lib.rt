@@ -1,5 +1,6 @@
 #![tactic(auto)]
-//! From a checked entry to the text of its circuit: the flat form, the moves of level 0, and their gates.
+//! From a checked entry to the text of its circuit: the flat form, the moves of the first level
+//! of recomputation that fits the budget, and their gates.
 
 pub mod cycle;
 pub mod entry;

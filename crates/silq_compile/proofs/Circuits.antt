@@ -22,8 +22,8 @@ compiles budget text j fine ends h =
     record {
       circuit = plan_circuit (flattened j).form h.1.moves wide;
       written = h.1.is;
-      gives = plans_give j h.1.moves wide fine ends h.0 h.1.level.valid (omega arith);
-      fits = h.1.fits;
+      gives = plans_give j h.1.moves wide fine ends h.0 h.1.first.level.valid (omega arith);
+      fits = h.1.first.fits.narrow;
       planned = h;
     }
 

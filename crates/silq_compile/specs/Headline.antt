@@ -10,7 +10,7 @@ use Rattle.flat_compile.specs.declared.fault.CompileFault.TheVariants.{Memory, L
 use Rattle.silq_compile.specs.Sources.{Source, OfAccepted}
 
 -- The text is the written text of a circuit that gives on each honest input, for each choice of the outcome bits, exactly the amplitudes that
--- the job means, with every other qubit at zero, on at most the budget's qubits. It is that of level 0's moves.
+-- the job means, with every other qubit at zero, on at most the budget's qubits. It is that of the moves of the first level that fits.
 pub record Compiles (budget : ℕ) (text : List ℕ) (j : Job) : Type 0 where
   pub circuit : Spelled
   pub written : text ≡ written_text circuit.qubits circuit.outcomes circuit.ins circuit.gates circuit.outs

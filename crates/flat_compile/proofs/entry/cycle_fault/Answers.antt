@@ -5,4 +5,4 @@ use Rattle.flat_compile.proofs.entry.cycle_fault.Goals as goal
 pub returns-in-Ok-clause-cycle : goal.returns-in-Ok-clause-cycle
 returns-in-Ok-clause-cycle c = λ places is.
     let same : c.in-Ok.places ≡ places = cc in
-    record { vertices = c.args.vertices.now; given = c.requires.given; told = subst (ArePlacesOf c.args.flat.now c.args.vertices.now) same c.in-Ok.ensures }
+    record { vertices = c.args.vertices.now; given = c.requires.given; cycle = c.requires.cycle; told = subst (ArePlacesOf c.args.flat.now c.args.vertices.now) same c.in-Ok.ensures }
