@@ -1,0 +1,4 @@
+pub mod Ordered
+pub mod Reach
+pub mod Shown
+pub mod Steps
