@@ -1,4 +1,5 @@
 pub mod Ordered
+pub mod Ran
 pub mod Reach
 pub mod Shown
 pub mod Steps

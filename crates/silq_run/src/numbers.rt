@@ -73,7 +73,7 @@ impl Numbers {
     }
 
     /// Whether they are the same numbers in the same order.
-    #[tactic(auto, using(crate::proofs::Updates::same_items))]
+    #[tactic(auto, using(crate::proofs::Combined::same_items))]
     pub(crate) fn same(&self, other: &Numbers) -> bool
         ensures { result ≡ all_equal self.now other.now }
     {

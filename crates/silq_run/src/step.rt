@@ -5,7 +5,7 @@ use silq_tree::{BinaryOp, NameId, UnaryOp, UpdateOp};
 use silq_types::{Need, Scalar};
 
 /// A step of a program.
-pub(crate) enum Step<'a> {
+pub enum Step<'a> {
     /// The value of a static expression.
     GiveStatic(i64),
     /// A number with a type.

@@ -257,7 +257,7 @@ impl Term {
     }
 
     /// Whether a variable is equal to the last value.
-    #[tactic(auto, using(crate::proofs::Updates::gone_unequal))]
+    #[tactic(auto, using(crate::proofs::Combined::gone_unequal))]
     pub(crate) fn equals_last(&self, name: NameId) -> Result<bool, AllocError>
         ensures { IfOk result (λ b. b ≡ equals_last name self.now) }
     {

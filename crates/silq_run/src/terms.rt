@@ -15,7 +15,7 @@ use std::marker::Model;
 
 /// Terms in their order.
 #[derive(Drop)]
-pub(crate) struct Terms {
+pub struct Terms {
     items: Vec<Term>,
 }
 
@@ -51,13 +51,6 @@ impl Terms {
         ensures { result ≡ length self.now }
     {
         self.items.len()
-    }
-
-    /// The terms in order.
-    pub(crate) fn as_slice(&self) -> &[Term]
-        ensures { result.now ≡ self.now }
-    {
-        self.items.as_slice()
     }
 
     /// Adds a term at the end.

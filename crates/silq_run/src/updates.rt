@@ -15,7 +15,7 @@ use std::alloc::{AllocError, Global};
 
 impl Value {
     /// The value after an update by another.
-    #[tactic(auto, using(crate::proofs::Updates::added, crate::proofs::Updates::subtracted))]
+    #[tactic(auto, using(crate::proofs::Combined::added, crate::proofs::Combined::subtracted))]
     pub(crate) fn updated(
         &self,
         alloc: Global,
@@ -70,7 +70,7 @@ impl Value {
     }
 
     /// Whether the value is equal to another.
-    #[tactic(auto, using(crate::proofs::Updates::gone_unequal))]
+    #[tactic(auto, using(crate::proofs::Combined::gone_unequal))]
     pub(crate) fn equals(&self, other: &Value) -> Result<bool, AllocError>
         ensures { IfOk result (λ b. b ≡ equal_values self.now other.now) }
     {

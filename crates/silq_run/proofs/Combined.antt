@@ -1,5 +1,5 @@
 -- What updates do to values.
-use Rattle.std.proofs.Common.{◌≡◌, false, ℕ, List, [], ◌∷◌, ◌++◌, ◌==◌, ◌&&◌, drop, refl, sym, ap, ◌∙◌}
+use Rattle.std.proofs.Common.{◌≡◌, ◌<◌, length, arith, false, ℕ, List, [], ◌∷◌, ◌==◌, ◌&&◌, refl, ap}
 use Rattle.std.specs.Cmp.Lexicographic.{pointwise}
 use Rattle.std.specs.Prelude.{nat_eq}
 use Rattle.silq_tree.specs.declared.node.BinaryOp.TheVariants.{Add, Sub}
@@ -30,7 +30,7 @@ same_items [] (y ∷ ys) = refl
 same_items (x ∷ xs) [] = refl
 same_items (x ∷ xs) (y ∷ ys) = ap (λ b. (x == y) && b) (same_items xs ys)
 
-pub no_more : (n : ℕ) (xs : List ℕ) → all_exclusive_or n xs [] ≡ []
+no_more : (n : ℕ) (xs : List ℕ) → all_exclusive_or n xs [] ≡ []
 no_more n [] = refl
 no_more n (x ∷ xs) = refl
 
@@ -39,3 +39,7 @@ gone_unequal (whole z) = refl
 gone_unequal (single k a) = refl
 gone_unequal (array k xs) = refl
 gone_unequal gone = refl
+
+pub none_left : (n : ℕ) (xs ys : List ℕ) → length ys < 1 → all_exclusive_or n xs ys ≡ []
+none_left n xs [] h = no_more n xs
+none_left n xs (y ∷ ys) h = absurd (omega (arith, h))
