@@ -1,5 +1,6 @@
 pub mod Combined
 pub mod Digits
+pub mod Listing
 pub mod Places
 pub mod Room
 pub mod Turned

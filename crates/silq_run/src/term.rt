@@ -1,9 +1,8 @@
 //! Terms, and what steps do to one.
 
 ghost use Rattle.std.specs.Prelude.{◌≡◌, if◌then◌else◌, IfOk, OnOk};
-ghost use Rattle.silq_types.specs.declared.need.Need.{Need};
-ghost use Rattle.silq_mean.specs.Value.{of_one, of_two, repeated, flipped, typed, is_one};
-ghost use Rattle.silq_mean.specs.Effect.{after, received, give_part};
+ghost use Rattle.silq_mean.specs.Value.{of_one, of_two, repeated, flipped, typed, is_one, part};
+ghost use Rattle.silq_mean.specs.Effect.{after, received};
 ghost use Rattle.silq_mean.specs.Term.{push, last, on_last, on_last_two, drop_last, turn, hadamard, value_of, assign_part, update_part, assign_all, take_out, enter, leave, equals_last};
 ghost use Rattle.silq_run.specs.Steps.{meant};
 
@@ -110,7 +109,7 @@ impl Term {
     }
 
     fn give_part(&mut self, alloc: Global, name: NameId, indices: &[i64]) -> Result<(), AllocError>
-        ensures { OnOk result ((need : Need) → self.new ≡ after (give_part need name indices.now) self.old) }
+        ensures { OnOk result (self.new ≡ push self.old (part (value_of self.old.env name) indices.now)) }
     {
         let value = self.shown(alloc, name)?;
         let part = value.part(alloc, indices)?;
