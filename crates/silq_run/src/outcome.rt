@@ -40,7 +40,10 @@ impl Term {
     pub(crate) fn tell(&mut self, bits: &[bool]) -> Result<(), AllocError>
         ensures { OnOk result (self.new ≡ told bits.now self.old) }
     {
-        let measured = self.measured.checked_add(bits.len() as u64).ok_or(AllocError)?;
+        let measured = self
+            .measured
+            .checked_add(bits.len() as u64)
+            .ok_or(AllocError)?;
         self.measured = measured;
         Ok(())
     }

@@ -3,8 +3,8 @@
 ghost use Rattle.std.specs.Prelude.{◌≡◌, [], ◌∷◌, ◌++◌, take, drop, reverse, IfSome, IfNone, IfOk, OnOk};
 ghost use Rattle.silq_mean.specs.Term.{first};
 
-use crate::variables::Variables;
 use crate::value::Value;
+use crate::variables::Variables;
 use std::alloc::{AllocError, Global};
 use std::marker::Model;
 

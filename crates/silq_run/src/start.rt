@@ -32,11 +32,7 @@ impl Value {
 
 impl Term {
     /// The first term: the parameters' values under way, which have these bits.
-    pub(crate) fn begin(
-        alloc: Global,
-        shapes: &[Shape],
-        input: &[bool],
-    ) -> Result<Term, AllocError>
+    pub(crate) fn begin(alloc: Global, shapes: &[Shape], input: &[bool]) -> Result<Term, AllocError>
         ensures { IfOk result (λ t. t ≡ begins (inputs shapes.now input.now)) }
     {
         let values = inputs(alloc, shapes, input)?;
@@ -79,12 +75,7 @@ fn number_of(bits: &[bool]) -> Result<u64, AllocError>
 }
 
 /// So many numbers of a width in turn.
-fn numbers_of(
-    alloc: Global,
-    count: u32,
-    width: u32,
-    bits: &[bool],
-) -> Result<Numbers, AllocError>
+fn numbers_of(alloc: Global, count: u32, width: u32, bits: &[bool]) -> Result<Numbers, AllocError>
     ensures { IfOk result (λ ns. ns ≡ numbers_of count width bits.now) }
 {
     let mut numbers = Numbers::new(alloc);
@@ -101,14 +92,22 @@ fn numbers_of(
 fn front(bits: &[bool], count: usize) -> &[bool]
     ensures { result.now ≡ take count bits.now }
 {
-    if count < bits.len() { &bits[..count] } else { bits }
+    if count < bits.len() {
+        &bits[..count]
+    } else {
+        bits
+    }
 }
 
 /// What stands behind the first bits.
 fn behind(bits: &[bool], count: usize) -> &[bool]
     ensures { result.now ≡ drop count bits.now }
 {
-    if count < bits.len() { &bits[count..] } else { &[] }
+    if count < bits.len() {
+        &bits[count..]
+    } else {
+        &[]
+    }
 }
 
 /// How many bits a value has.
