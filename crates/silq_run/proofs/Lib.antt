@@ -3,4 +3,5 @@ pub mod Digits
 pub mod Listing
 pub mod Places
 pub mod Room
+pub mod Sequences
 pub mod Turned

@@ -1,3 +1,4 @@
+pub mod Laws
 pub mod Ordered
 pub mod Ran
 pub mod Reach

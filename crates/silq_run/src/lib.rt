@@ -12,6 +12,7 @@
 
 mod bits;
 mod fault;
+pub mod laws;
 mod number;
 mod numbers;
 mod outcome;

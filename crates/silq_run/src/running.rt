@@ -1,12 +1,10 @@
 //! All terms under way, and what leaves of an effect do to them.
 
-ghost use Rattle.std.specs.Prelude.{◌≡◌, ◌+◌, ◌++◌, ◌*◌, [], ◌∷◌, length, map, filter, not, nat_lt, IfOk, IfErr, OnOk};
-ghost use Rattle.silq_mean.specs.Value.{is_one};
-ghost use Rattle.silq_mean.specs.Term.{last, drop_last};
+ghost use Rattle.std.specs.Prelude.{◌≡◌, ◌+◌, ◌++◌, ◌*◌, [], ◌∷◌, length, not, nat_lt, IfOk, IfErr, OnOk};
 ghost use Rattle.silq_mean.specs.Effect.{step as step_of, mix, measure, claim, most_terms};
 ghost use Rattle.silq_mean.specs.Table.{inputs, begins};
 ghost use Rattle.silq_run.specs.Steps.{meant};
-ghost use Rattle.silq_run.specs.Ran.{ran, IsRefusal};
+ghost use Rattle.silq_run.specs.Ran.{ran, IsRefusal, first_way, others_of};
 
 use crate::fault::Stop;
 use crate::step::Step;
@@ -122,11 +120,8 @@ impl Running {
 
     /// Begins a choice by the last value: the terms where it is 1 go the first way, while the others wait.
     pub fn first_way(&mut self) -> Result<FirstWay, AllocError>
-        ensures terms { OnOk result (self.new.terms ≡ map drop_last (filter (λ t. is_one (last t)) self.old.terms)) }
-        ensures others { IfOk result (λ w. w.others ≡ map drop_last (filter (λ t. not (is_one (last t))) self.old.terms)) }
-        ensures waiting { IfOk result (λ w. self.new.waiting ≡ self.old.waiting + length w.others) }
-        ensures before { IfOk result (λ w. w.waiting ≡ self.old.waiting) }
-        ensures outcome { OnOk result (self.new.outcome ≡ self.old.outcome) }
+        ensures now { OnOk result (self.new ≡ first_way self.old) }
+        ensures way { IfOk result (λ w. w ≡ record { waiting = self.old.waiting; others = others_of self.old.terms }) }
     {
         let Parted { ones, others } = self.terms.parted(self.alloc)?;
         let waiting = self.waiting;
@@ -137,11 +132,8 @@ impl Running {
 
     /// Goes on with the second way, while the terms of the first one wait.
     pub fn second_way(&mut self, way: FirstWay) -> Result<SecondWay, AllocError>
-        ensures terms { OnOk result (self.new.terms ≡ way.others) }
-        ensures firsts { IfOk result (λ w. w.firsts ≡ self.old.terms) }
-        ensures waiting { OnOk result (self.new.waiting ≡ way.waiting + length self.old.terms) }
-        ensures before { IfOk result (λ w. w.waiting ≡ way.waiting) }
-        ensures outcome { OnOk result (self.new.outcome ≡ self.old.outcome) }
+        ensures now { OnOk result (self.new ≡ record { outcome = self.old.outcome; waiting = way.waiting + length self.old.terms; terms = way.others }) }
+        ensures way { IfOk result (λ w. w ≡ record { waiting = way.waiting; firsts = self.old.terms }) }
     {
         let FirstWay { waiting, others } = way;
         let firsts = mem::replace(&mut self.terms, others);
@@ -151,9 +143,7 @@ impl Running {
 
     /// Ends a choice: the terms of the first way, then those of the second.
     pub fn end_choice(&mut self, way: SecondWay) -> Result<(), AllocError>
-        ensures terms { OnOk result (self.new.terms ≡ way.firsts ++ self.old.terms) }
-        ensures waiting { OnOk result (self.new.waiting ≡ way.waiting) }
-        ensures outcome { OnOk result (self.new.outcome ≡ self.old.outcome) }
+        ensures { OnOk result (self.new ≡ record { outcome = self.old.outcome; waiting = way.waiting; terms = way.firsts ++ self.old.terms }) }
     {
         let SecondWay {
             waiting,
