@@ -5,3 +5,4 @@ pub mod Places
 pub mod Room
 pub mod Sequences
 pub mod Turned
+pub mod Turns

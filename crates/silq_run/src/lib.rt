@@ -11,12 +11,14 @@
 //! program has such a number: its types have at most 64 bits, an index of a number is below its width, and a digit is 0 or 1.
 
 mod bits;
+mod counts;
 mod fault;
 pub mod laws;
 mod number;
 mod numbers;
 mod outcome;
 mod parts;
+mod rows;
 mod running;
 mod stack;
 mod start;
@@ -27,6 +29,7 @@ mod updates;
 mod value;
 mod variables;
 
+pub use counts::{Counts, Excess};
 pub use fault::Stop;
 pub use running::{FirstWay, Running, SecondWay};
 pub use step::Step;

@@ -1,8 +1,8 @@
 //! All terms under way, and what leaves of an effect do to them.
 
-ghost use Rattle.std.specs.Prelude.{◌≡◌, ◌+◌, ◌++◌, ◌*◌, [], ◌∷◌, length, not, nat_lt, IfOk, IfErr, OnOk};
+ghost use Rattle.std.specs.Prelude.{◌≡◌, ◌+◌, ◌++◌, ◌*◌, [], ◌∷◌, length, map, not, nat_lt, IfOk, IfErr, OnOk};
 ghost use Rattle.silq_mean.specs.Effect.{step as step_of, mix, measure, claim, most_terms};
-ghost use Rattle.silq_mean.specs.Table.{inputs, begins};
+ghost use Rattle.silq_mean.specs.Table.{inputs, begins, shown};
 ghost use Rattle.silq_run.specs.Steps.{meant};
 ghost use Rattle.silq_run.specs.Ran.{ran, IsRefusal, first_way, others_of};
 
@@ -71,6 +71,13 @@ impl Running {
             waiting: 0,
             terms,
         })
+    }
+
+    /// What the terms show at the end: the bits of their values under way, and their amplitudes.
+    pub fn rows(&self) -> Result<sum_laws::Terms, AllocError>
+        ensures { IfOk result (λ rows. rows ≡ map shown self.now.terms) }
+    {
+        self.terms.rows(self.alloc)
     }
 
     /// Carries a step out on each term.

@@ -4,7 +4,7 @@ ghost use Rattle.std.specs.Prelude.{◌≡◌, [], ◌∷◌, ◌++◌, length, 
 ghost use Rattle.silq_mean.specs.Effect.{after, all_pass, follow, measure};
 ghost use Rattle.silq_mean.specs.Term.{hadamard, equals_last, last, drop_last};
 ghost use Rattle.silq_mean.specs.Value.{is_one};
-ghost use Rattle.silq_mean.specs.Table.{outcome_of};
+ghost use Rattle.silq_mean.specs.Table.{outcome_of, shown};
 ghost use Rattle.silq_run.specs.Steps.{meant};
 
 use crate::step::Step;
@@ -139,6 +139,18 @@ impl Terms {
             kept.push_measured(alloc, outcome, term)?;
         }
         Ok(kept)
+    }
+
+    /// What the terms show at the end: their bits and their amplitudes.
+    pub(crate) fn rows(&self, alloc: Global) -> Result<sum_laws::Terms, AllocError>
+        ensures { IfOk result (λ rows. rows ≡ map shown self.now) }
+    {
+        let mut rows = sum_laws::Terms::new(alloc);
+        for term in self.items.as_slice() {
+            let row = term.row(alloc)?;
+            rows.push(row)?;
+        }
+        Ok(rows)
     }
 
     // Adds a term after a measurement of its last value, if its bits are the outcomes that come.
