@@ -1,5 +1,5 @@
 -- Binary digits of numbers in memory.
-use Rattle.std.proofs.Common.{◌≡◌, ℕ, zero, suc, ◌+◌, ◌-◌, ◌*◌, ◌/◌, ◌%◌, ◌^◌, ◌<◌, ◌≤◌, bit_xor, refl, sym, ap, ◌∙◌, arith, mod-lt}
+use Rattle.std.proofs.Common.{◌≡◌, ℕ, zero, suc, ◌+◌, ◌*◌, ◌/◌, ◌%◌, ◌^◌, ◌<◌, ◌≤◌, bit_xor, refl, sym, ap, ◌∙◌, arith, mod-lt}
 use Rattle.std.proofs.Math.Nat.{div-eq_of_lt, pow-le-pow_right, mod-one}
 use Rattle.std.proofs.lemmas.Nat.{xor_shr, xor_mod, mod-pow-add}
 use Rattle.silq_mean.specs.Value.{digit, exclusive_or}

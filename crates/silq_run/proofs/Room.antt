@@ -1,9 +1,9 @@
 -- The limit of terms after H.
-use Rattle.std.proofs.Common.{◌≡◌, ℕ, ◌+◌, ◌*◌, Bool, true, false, cond, not, List, [], ◌∷◌, length, flat_map, Result, Ok, Err, refl, sym, ap, ◌∙◌, arith}
+use Rattle.std.proofs.Common.{◌≡◌, ℕ, ◌+◌, ◌*◌, Bool, true, false, cond, not, List, [], ◌∷◌, length, flat_map, Ok, Err, refl, sym, ap, ◌∙◌, arith}
 use Rattle.std.specs.Prelude.{nat_lt}
 use Rattle.silq_types.specs.Rules.{and_then}
 use Rattle.silq_mean.specs.Term.{Term, hadamard, equals_last}
-use Rattle.silq_mean.specs.Effect.{RunFault, TooManyTerms, ForgetFalse, mix, claim, most_terms, all_pass}
+use Rattle.silq_mean.specs.Effect.{TooManyTerms, ForgetFalse, mix, claim, most_terms, all_pass}
 use Rattle.silq_tree.specs.declared.node.NameId.{NameId}
 use Rattle.silq_run.specs.Ran.{State, with_terms, ran}
 

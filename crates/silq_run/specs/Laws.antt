@@ -1,8 +1,7 @@
 -- What all terms at once have to do with the parts of an effect.
-use Rattle.std.specs.Prelude.{◌≡◌, ℕ, Bool, List, [], ◌∷◌, ◌++◌, Ok, Err, Result}
+use Rattle.std.specs.Prelude.{◌≡◌, ℕ, Bool, List, [], ◌∷◌, ◌++◌, Ok}
 use Rattle.silq_types.specs.Rules.{and_then}
-use Rattle.silq_mean.specs.Term.{Term}
-use Rattle.silq_mean.specs.Effect.{Effect, RunFault, ◌>>◌, statement, nothing, choice, run}
+use Rattle.silq_mean.specs.Effect.{Effect, ◌>>◌, statement, choice, run}
 use Rattle.silq_mean.specs.Table.{Job, start, outcome_of}
 use Rattle.silq_run.specs.Ran.{State, ran, with_terms, first_way, second_way}
 

@@ -1,4 +1,4 @@
-use Rattle.std.proofs.Common.{◌≡◌, ℕ, suc, ◌/◌, ◌∷◌, [], ◌++◌, sym, ap, ◌∙◌, append_assoc, arith, Bool, List}
+use Rattle.std.proofs.Common.{ℕ, suc, ◌/◌, ◌++◌, sym, ap, ◌∙◌, append_assoc, arith, Bool, List}
 use Rattle.std.proofs.lemmas.List.{append-nil}
 use Rattle.silq_mean.specs.Value.{low_bits}
 use Rattle.silq_run.proofs.bits.push_number.Goals as goal

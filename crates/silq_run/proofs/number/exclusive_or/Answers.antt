@@ -1,4 +1,4 @@
-use Rattle.std.proofs.Common.{◌%◌, ap, ap₂, ◌∙◌, rules}
+use Rattle.std.proofs.Common.{◌%◌, ap₂, ◌∙◌}
 use Rattle.silq_types.specs.Types.{scalar_bits}
 use Rattle.silq_run.proofs.Digits.{exclusive_low}
 use Rattle.silq_run.proofs.number.exclusive_or.Goals as goal
