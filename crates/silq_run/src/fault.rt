@@ -8,7 +8,7 @@ use std::alloc::AllocError;
 /// Why a run stops.
 #[derive(Clone, Copy, PartialEq, Eq)]
 pub enum Stop {
-    /// No memory; or no room in a word for a number, which no accepted program has.
+    /// No memory; or no room in a word of 64 bits for a number.
     Memory,
     /// More than 1,048,576 terms.
     TooManyTerms,

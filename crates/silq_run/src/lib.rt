@@ -7,8 +7,9 @@
 //! where the condition is 1 go the first way while the others wait, then the others go the second way while those of the first wait, and
 //! then both are joined. So a walk through the tree in the order of the text, which makes these calls, gives what `run` gives.
 //!
-//! Numbers and factors are kept in words of 64 bits. Where a number has no room there the answer is that of want of memory. No accepted
-//! program has such a number: its types have at most 64 bits, an index of a number is below its width, and a digit is 0 or 1.
+//! Numbers and factors are kept in words of 64 bits. Where a number has no room there the answer is that of want of memory. In an accepted
+//! program types have at most 64 bits, an index of a number is below its width, and a digit is 0 or 1, so that none has such a number; that
+//! is not proved here.
 
 mod bits;
 mod counts;

@@ -1,6 +1,6 @@
 //! Numbers of types: a number of n bits is the number from 0 to 2^n - 1 that is equal to it modulo 2^n.
 //!
-//! `AllocError` says that a word of 64 bits has no room for the number. No number of an accepted program is such a one.
+//! `AllocError` says that a word of 64 bits has no room for the number.
 
 ghost use Rattle.std.specs.Prelude.{◌≡◌, ◌+◌, ◌-◌, ◌*◌, ◌%◌, ◌^◌, ◌<◌, ◌≤◌, IfOk, int_lt};
 ghost use Rattle.silq_run.specs.Ordered.{order_place as order_place_of};
