@@ -14,24 +14,33 @@ use Rattle.reqomp.specs.Level.{IsLevel, last_level}
 use Rattle.reqomp.specs.Search.{Fits, IsFirstFit, IsLeastBelow}
 use Rattle.graph_core.specs.Digraph.{IsAcyclic, IsCycle}
 use Rattle.plan_write.specs.Text.{plan_text}
+use Rattle.plan_report.specs.Told.{report_of_plan}
+use Rattle.plan_report.specs.Lines.{report_text}
+use Rattle.flat_compile.specs.declared.output.Output.{Output}
+use Rattle.flat_compile.specs.declared.output.Output.TheVariants.{Text, Report}
 use Rattle.flat_compile.specs.declared.cycle.CyclePlace.{CyclePlace}
 use Rattle.flat_compile.specs.Places.{ArePlacesOf}
 
--- the circuit graph has no cycle, and the text is that of the moves of the first level that fits the budget, on as many qubits as they need
-pub record IsTextOf (budget : ℕ) (text : List ℕ) (f : FlatForm) : Type 0 where
+-- what is put for the moves of a level, on as many qubits as they need
+abbrev pub text_for : Output → FlatForm → List Move → ℕ → List ℕ
+text_for Text f moves level = plan_text f moves (width f moves)
+text_for Report f moves level = report_text (report_of_plan f moves (width f moves) level)
+
+-- the circuit graph has no cycle, and the text is what is put for the moves of the first level that fits the budget
+pub record IsTextOf (output : Output) (budget : ℕ) (text : List ℕ) (f : FlatForm) : Type 0 where
   pub acyclic : IsAcyclic (circuit_graph f)
   pub level : ℕ
   pub moves : List Move
   pub first : IsFirstFit f budget level moves
-  pub is : text ≡ plan_text f moves (width f moves)
+  pub is : text ≡ text_for output f moves level
 
 -- it was put whole
-abbrev pub PutsPlan : ℕ → Option (List ℕ) → Option (List ℕ) → FlatForm → Type 0
-PutsPlan budget old new f = (text : List ℕ) × IsTextOf budget text f × Adds old new text
+abbrev pub PutsPlan : Output → ℕ → Option (List ℕ) → Option (List ℕ) → FlatForm → Type 0
+PutsPlan output budget old new f = (text : List ℕ) × IsTextOf output budget text f × Adds old new text
 
 -- a proper front of it was put
-abbrev pub BreaksPlan : ℕ → Option (List ℕ) → Option (List ℕ) → FlatForm → Type 0
-BreaksPlan budget old new f = (text : List ℕ) × IsTextOf budget text f × Breaks old new text
+abbrev pub BreaksPlan : Output → ℕ → Option (List ℕ) → Option (List ℕ) → FlatForm → Type 0
+BreaksPlan output budget old new f = (text : List ℕ) × IsTextOf output budget text f × Breaks old new text
 
 -- the circuit graph has a cycle, and this is the given one
 pub record HasGivenCycle (places : List CyclePlace) (f : FlatForm) : Type 0 where

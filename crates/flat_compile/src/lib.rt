@@ -5,7 +5,9 @@
 pub mod cycle;
 pub mod entry;
 pub mod fault;
+pub mod output;
 
 pub use cycle::{CyclePlace, CyclePlaces};
 pub use entry::compile;
 pub use fault::CompileFault;
+pub use output::Output;

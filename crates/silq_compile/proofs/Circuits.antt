@@ -14,9 +14,11 @@ use Rattle.flat_compile.specs.Ends.{BreaksPlan, HasGivenCycle, IsTextOf, NeedsMo
 use Rattle.silq_compile.specs.declared.fault.TextFault.{TextFault}
 use Rattle.silq_compile.specs.declared.fault.TextFault.TheVariants.{Compile}
 use Rattle.silq_compile.specs.Sources.{Source, OfAccepted}
-use Rattle.silq_compile.specs.Headline.{Compiles, PutsText, BreaksText, Refuses}
+use Rattle.silq_compile.specs.Headline.{Compiles, IsRight, PutsText, BreaksText, Refuses}
+use Rattle.flat_compile.specs.declared.output.Output.{Output}
+use Rattle.flat_compile.specs.declared.output.Output.TheVariants.{Text, Report}
 
-compiles : (budget : ℕ) (text : List ℕ) (j : Job) → FineJob j → EndsWell j → OfFlat (IsTextOf budget text) j → Compiles budget text j
+compiles : (budget : ℕ) (text : List ℕ) (j : Job) → FineJob j → EndsWell j → OfFlat (IsTextOf Text budget text) j → Compiles budget text j
 compiles budget text j fine ends h =
     let wide : ℕ = width (flattened j).form h.1.moves in
     record {
@@ -27,15 +29,19 @@ compiles budget text j fine ends h =
       planned = h;
     }
 
-module _ (budget : ℕ) (old new : Option (List ℕ)) (source : Source) (j : Job) (well : FineJob j × EndsWell j) (told : (P : Job → Type 0) → P j → OfAccepted P source) where
-  pub text_put : OfFlat (PutsPlan budget old new) j → PutsText budget old new source
-  text_put h = (h.1.0, told (Compiles budget h.1.0) (compiles budget h.1.0 j well.0 well.1 (h.0, h.1.1)), h.1.2)
+is_right : (output : Output) (budget : ℕ) (text : List ℕ) (j : Job) → FineJob j → EndsWell j → OfFlat (IsTextOf output budget text) j → IsRight output budget text j
+is_right Text budget text j fine ends h = compiles budget text j fine ends h
+is_right Report budget text j fine ends h = h
 
-  text_broke : OfFlat (BreaksPlan budget old new) j → BreaksText budget old new source
-  text_broke h = (h.1.0, told (Compiles budget h.1.0) (compiles budget h.1.0 j well.0 well.1 (h.0, h.1.1)), h.1.2)
+module _ (output : Output) (budget : ℕ) (old new : Option (List ℕ)) (source : Source) (j : Job) (well : FineJob j × EndsWell j) (told : (P : Job → Type 0) → P j → OfAccepted P source) where
+  pub text_put : OfFlat (PutsPlan output budget old new) j → PutsText output budget old new source
+  text_put h = (h.1.0, told (IsRight output budget h.1.0) (is_right output budget h.1.0 j well.0 well.1 (h.0, h.1.1)), h.1.2)
+
+  text_broke : OfFlat (BreaksPlan output budget old new) j → BreaksText output budget old new source
+  text_broke h = (h.1.0, told (IsRight output budget h.1.0) (is_right output budget h.1.0 j well.0 well.1 (h.0, h.1.1)), h.1.2)
 
   pub refuses : (fault : CompileFault) → ((over : OverLimit) → fault ≡ Limit over → PassesFirst over j) → ((places : List CyclePlace) → fault ≡ Cycle places → OfFlat (HasGivenCycle places) j)
-      → ((least : ℕ) → fault ≡ OverBudget least → OfFlat (NeedsMore budget least) j) → (fault ≡ Failed → OfFlat (BreaksPlan budget old new) j) → Refuses budget old new source fault
+      → ((least : ℕ) → fault ≡ OverBudget least → OfFlat (NeedsMore budget least) j) → (fault ≡ Failed → OfFlat (BreaksPlan output budget old new) j) → Refuses output budget old new source fault
   refuses Memory l c o b = tt
   refuses (Limit over) l c o b = told (PassesFirst over) (l over refl)
   refuses (Cycle places) l c o b = told (OfFlat (HasGivenCycle places)) (c places refl)

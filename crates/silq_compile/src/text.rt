@@ -16,7 +16,7 @@ ghost use Rattle.silq_compile.specs.declared.fault.TextFault.TheVariants as faul
 
 use crate::fault::TextFault;
 use check_fun::check::check;
-use flat_compile::compile;
+use flat_compile::{Output, compile};
 use silq_io::Sink;
 use silq_parse::parse;
 use std::alloc::Global;
@@ -39,23 +39,24 @@ pub fn check_text(alloc: Global, text: &str, entry: &str, statics: &[i64]) -> Re
 }
 
 /// Compiles the function `entry` of a text with these values of its static parameters, with at most so many qubits, and puts the OpenQASM text
-/// of its circuit. Nothing is put before all refusals but that of the sink are past.
+/// of its circuit, or the report of it. Nothing is put before all refusals but that of the sink are past.
 pub fn compile_text<S: Sink>(
     alloc: Global,
     text: &str,
     entry: &str,
     statics: &[i64],
     budget: u32,
+    output: Output,
     out: &mut S,
 ) -> Result<(), TextFault>
     requires few { budget ≤ 100000 }
     // The headline: the text put is that of a circuit that gives exactly the source's amplitudes, within the budget.
-    ensures done { OnOk result (PutsText budget (S.put_so_far out.old) (S.put_so_far out.new) (record { text = text.now; entry = entry.now; statics = statics.now })) }
+    ensures done { OnOk result (PutsText output budget (S.put_so_far out.old) (S.put_so_far out.new) (record { text = text.now; entry = entry.now; statics = statics.now })) }
 
     // When each refusal comes.
     ensures parse { (f : ParseFaults) → IsErrOf result (faults.Parse f) → (f ≡ parses.Memory) ⊎ (first_fault text.now ≡ Some f) }
     ensures check { (f : CheckFaults) → IsErrOf result (faults.Check f) → IfSome (fault_as f) (λ first. Answers (record { text = text.now; entry = entry.now; statics = statics.now }) (Err first)) }
-    ensures compile { (f : CompileFaults) → IsErrOf result (faults.Compile f) → Refuses budget (S.put_so_far out.old) (S.put_so_far out.new) (record { text = text.now; entry = entry.now; statics = statics.now }) f }
+    ensures compile { (f : CompileFaults) → IsErrOf result (faults.Compile f) → Refuses output budget (S.put_so_far out.old) (S.put_so_far out.new) (record { text = text.now; entry = entry.now; statics = statics.now }) f }
     ensures failed { IsErrOf result (faults.Compile compiles.Failed) → Rose (S.faults out.old) (S.faults out.new) }
 
     // What a refusal leaves.
@@ -77,6 +78,7 @@ pub fn compile_text<S: Sink>(
         key.fun.number,
         key.statics.as_slice(),
         budget,
+        output,
         out,
     ) {
         Ok(()) => Ok(()),

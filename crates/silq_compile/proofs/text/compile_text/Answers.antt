@@ -24,7 +24,7 @@ compile-requires-clause-ends g c = (entry_fine c.args.text.now c.args.entry.now 
 
 pub returns-in-Ok-compile-clause-done : goal.returns-in-Ok-compile-clause-done
 returns-in-Ok-compile-clause-done g c =
-    text_put c.args.budget _ _ (record { text = c.args.text.now; entry = c.args.entry.now; statics = c.args.statics.now }) (job_at c.in-Ok-check.checked.library c.in-Ok-check.checked.entry.fun.number c.as_slice.result.now)
+    text_put c.args.output c.args.budget _ _ (record { text = c.args.text.now; entry = c.args.entry.now; statics = c.args.statics.now }) (job_at c.in-Ok-check.checked.library c.in-Ok-check.checked.entry.fun.number c.as_slice.result.now)
     (entry_fine c.args.text.now c.args.entry.now c.args.statics.now c.in-Ok.program.tree c.in-Ok.program.names c.in-Ok.program.funs c.in-Ok.ensures.fine c.in-Ok.ensures.program
     c.in-Ok-check.checked.library c.in-Ok-check.ensures.library c.in-Ok-check.checked.entry.fun.number c.as_slice.result.now
     (record { entry = c.in-Ok-check.ensures.accepted.0; met = c.in-Ok-check.checked.known }) c.in-Ok-check.ensures.accepted.1 c.in-Ok-check.ensures.found
@@ -37,8 +37,8 @@ returns-in-Ok-compile-clause-done g c =
 
 pub returns-clause-compile : goal.returns-clause-compile
 returns-clause-compile g c = λ f is.
-    subst (Refuses c.args.budget (g.S.Sink.put_so_far c.args.out.now) (g.S.Sink.put_so_far c.compile.new.out) (record { text = c.args.text.now; entry = c.args.entry.now; statics = c.args.statics.now })) (told_as_it_is c.in-Err-compile.fault f is)
-    (refuses c.args.budget _ _ (record { text = c.args.text.now; entry = c.args.entry.now; statics = c.args.statics.now }) (job_at c.in-Ok-check.checked.library c.in-Ok-check.checked.entry.fun.number c.as_slice.result.now)
+    subst (Refuses c.args.output c.args.budget (g.S.Sink.put_so_far c.args.out.now) (g.S.Sink.put_so_far c.compile.new.out) (record { text = c.args.text.now; entry = c.args.entry.now; statics = c.args.statics.now })) (told_as_it_is c.in-Err-compile.fault f is)
+    (refuses c.args.output c.args.budget _ _ (record { text = c.args.text.now; entry = c.args.entry.now; statics = c.args.statics.now }) (job_at c.in-Ok-check.checked.library c.in-Ok-check.checked.entry.fun.number c.as_slice.result.now)
     (entry_fine c.args.text.now c.args.entry.now c.args.statics.now c.in-Ok.program.tree c.in-Ok.program.names c.in-Ok.program.funs c.in-Ok.ensures.fine c.in-Ok.ensures.program
     c.in-Ok-check.checked.library c.in-Ok-check.ensures.library c.in-Ok-check.checked.entry.fun.number c.as_slice.result.now
     (record { entry = c.in-Ok-check.ensures.accepted.0; met = c.in-Ok-check.checked.known }) c.in-Ok-check.ensures.accepted.1 c.in-Ok-check.ensures.found
