@@ -10,6 +10,7 @@ use Rattle.check_fun.specs.Entry.{check_named, number_of_name}
 use Rattle.check_fun.specs.Program.{Accepted}
 use Rattle.silq_mean.specs.Table.{Job}
 use Rattle.silq_compile.specs.Sources.{Source, Answers, OfAccepted, names_in, tree_of}
+use Rattle.silqc.specs.declared.asked.Asked.{Asked}
 use Rattle.silqc.specs.declared.status.Status.{Status}
 use Rattle.silqc.specs.declared.status.Status.TheVariants.{Done, Words, ReadFault, Syntax, Names, Typing, Unsupported, Limit, Cycle, OverBudget, WriteFault, Memory, Unbuilt}
 use Rattle.silqc.specs.Answer.{OfProgram, PassesLimit, most}
@@ -35,13 +36,13 @@ module _ (s : Source) where
   no_fault : {A : Type 0} (fault : FileFault) → first_file_fault s.text ≡ Some fault → first_file_fault s.text ≡ None → A
   no_fault fault e none = absurd (let no : Some fault ≡ None = sym e ∙ none in cc)
 
-  module _ (old new : Option (List ℕ)) (budget : Option ℕ) where
+  module _ (old new : Option (List ℕ)) (asked : Option Asked) where
     -- ---- at a fault
 
     same_fault : (fault other : FileFault) → first_file_fault s.text ≡ Some fault → first_file_fault s.text ≡ Some other → other ≡ fault
     same_fault fault other e f = let both : Some other ≡ Some fault = sym f ∙ e in cc
 
-    pub ends_at_fault : (status : Status) → Tells old new status budget s → EndsAtFault status budget s
+    pub ends_at_fault : (status : Status) → Tells old new status asked s → EndsAtFault status asked s
     ends_at_fault Done told = λ fault e. no_fault fault e told.0
     ends_at_fault Words told = absurd told
     ends_at_fault ReadFault told = λ fault e. inr (inl refl)
@@ -96,11 +97,11 @@ module _ (s : Source) where
     check_ends_by fine old new Memory ends told = inr (inr refl)
     check_ends_by fine old new Unbuilt ends told = absurd told
 
-  module _ (first : Fault) (a : Answers s (Err first)) (fine : first_file_fault s.text ≡ None) (budget : ℕ) where
+  module _ (first : Fault) (a : Answers s (Err first)) (fine : first_file_fault s.text ≡ None) (asked : Asked) where
     of_accepted : {A : Type 0} {P : Job → Type 0} → OfAccepted P s → A
     of_accepted h = not_both first a h.accepted h.checked
 
-    pub refused_ends_by : (old new : Option (List ℕ)) (status : Status) → CanEnd (Some budget) status → Tells old new status (Some budget) s → EndsBy (status_of (Err first)) status
+    pub refused_ends_by : (old new : Option (List ℕ)) (status : Status) → CanEnd (Some asked) status → Tells old new status (Some asked) s → EndsBy (status_of (Err first)) status
     refused_ends_by old new Done ends told = of_accepted told.1.1
     refused_ends_by old new Words ends told = absurd told
     refused_ends_by old new ReadFault ends told = inr (inl refl)
@@ -110,7 +111,7 @@ module _ (s : Source) where
     refused_ends_by old new (Unsupported what line col) ends told = by_answer (Err first) a (Err (unsupported what (record { line = line; col = col }))) (Unsupported what line col) told.1 refl
     refused_ends_by old new (Limit which count) ends told = by_which told.1
       where
-        by_which : PassesLimit which count (Some budget) s → EndsBy (status_of (Err first)) (Limit which count)
+        by_which : PassesLimit which count (Some asked) s → EndsBy (status_of (Err first)) (Limit which count)
         by_which (inl h) = by_limit (Err first) a which count h.0 h.1
         by_which (inr h) = of_accepted h
     refused_ends_by old new (Cycle places) ends told = of_accepted told.1
@@ -119,13 +120,13 @@ module _ (s : Source) where
     refused_ends_by old new Memory ends told = inr (inr refl)
     refused_ends_by old new Unbuilt ends told = absurd told
 
-pub ends_by_answer : (s : Source) (old new : Option (List ℕ)) (budget : Option ℕ) (status : Status) → CanEnd budget status → Tells old new status budget s → EndsByAnswer status budget s
+pub ends_by_answer : (s : Source) (old new : Option (List ℕ)) (asked : Option Asked) (status : Status) → CanEnd asked status → Tells old new status asked s → EndsByAnswer status asked s
 ends_by_answer s old new None status ends told = λ answer h. check_ends_by s answer h.1 h.0 old new status ends told
-ends_by_answer s old new (Some budget) status ends told = λ answer h. by answer h
+ends_by_answer s old new (Some asked) status ends told = λ answer h. by answer h
   where
-    by : (answer : Result Accepted Fault) → OfProgram (λ t. Answers t answer) s → EndsByTyping status (Some budget) answer
+    by : (answer : Result Accepted Fault) → OfProgram (λ t. Answers t answer) s → EndsByTyping status (Some asked) answer
     by (Ok a) h = tt
-    by (Err first) h = refused_ends_by s first h.1 h.0 budget old new status ends told
+    by (Err first) h = refused_ends_by s first h.1 h.0 asked old new status ends told
 
 -- ---- for the command that the words are
 
@@ -133,14 +134,14 @@ module _ (words : List (List ℕ)) (held : List ℕ → Option (List ℕ)) (old 
   pub for_fault : ForSource words held (Tells old new status) → ForSource words held (EndsAtFault status)
   for_fault tells = λ c is. by c (held c.file) (tells c is)
     where
-      by : (c : Command) (o : Option (List ℕ)) → IfSome o (λ bytes. Tells old new status c.budget (source_of c bytes)) → IfSome o (λ bytes. EndsAtFault status c.budget (source_of c bytes))
+      by : (c : Command) (o : Option (List ℕ)) → IfSome o (λ bytes. Tells old new status c.asked (source_of c bytes)) → IfSome o (λ bytes. EndsAtFault status c.asked (source_of c bytes))
       by c None t = tt
-      by c (Some bytes) t = ends_at_fault (source_of c bytes) old new c.budget status t
+      by c (Some bytes) t = ends_at_fault (source_of c bytes) old new c.asked status t
 
-  pub for_answer : ((c : Command) → IsCommand words c → CanEnd c.budget status) → ForSource words held (Tells old new status) → ForSource words held (EndsByAnswer status)
+  pub for_answer : ((c : Command) → IsCommand words c → CanEnd c.asked status) → ForSource words held (Tells old new status) → ForSource words held (EndsByAnswer status)
   for_answer ends tells = λ c is. by c (held c.file) (ends c is) (tells c is)
     where
-      by : (c : Command) (o : Option (List ℕ)) → CanEnd c.budget status → IfSome o (λ bytes. Tells old new status c.budget (source_of c bytes))
-          → IfSome o (λ bytes. EndsByAnswer status c.budget (source_of c bytes))
+      by : (c : Command) (o : Option (List ℕ)) → CanEnd c.asked status → IfSome o (λ bytes. Tells old new status c.asked (source_of c bytes))
+          → IfSome o (λ bytes. EndsByAnswer status c.asked (source_of c bytes))
       by c None can t = tt
-      by c (Some bytes) can t = ends_by_answer (source_of c bytes) old new c.budget status can t
+      by c (Some bytes) can t = ends_by_answer (source_of c bytes) old new c.asked status can t

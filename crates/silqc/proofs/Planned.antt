@@ -11,8 +11,11 @@ use Rattle.graph_core.specs.Circuit.{circuit_graph}
 use Rattle.graph_core.specs.Digraph.{IsAcyclic, IsCycle}
 use Rattle.flat_compile.specs.declared.cycle.CyclePlace.{CyclePlace}
 use Rattle.flat_compile.specs.Ends as plans
-use Rattle.silq_compile.specs.Headline.{Compiles}
+use Rattle.silq_compile.specs.Headline.{IsRight}
 use Rattle.silq_compile.specs.Sources.{Source, Answers, OfAccepted, job_in}
+use Rattle.flat_compile.specs.declared.output.Output.{Output}
+use Rattle.flat_compile.specs.declared.output.Output.TheVariants.{Text, Report}
+use Rattle.silqc.specs.declared.asked.Asked.{Asked}
 use Rattle.silqc.specs.declared.status.Status.{Status}
 use Rattle.silqc.specs.declared.status.Status.TheVariants.{Done, Words, ReadFault, Syntax, Names, Typing, Unsupported, Limit, Cycle, OverBudget, WriteFault, Memory, Unbuilt}
 use Rattle.silqc.specs.Answer.{PassesLimit}
@@ -37,11 +40,11 @@ module _ (status : Status) (budget : ℕ) (j : Job) where
     fits = λ e acyclic level moves first. inr h;
   }
 
-  written : (text : List ℕ) → (status ≡ Done) ⊎ (status ≡ WriteFault) → Compiles budget text j → EndsByJob status budget j
-  written text h c = record {
-    limit = λ passed e. no_other passed (flattened j).over e c.planned.0;
-    cycle = λ e vertices is. absurd (c.planned.1.acyclic vertices is);
-    over_budget = λ e acyclic none. absurd (none c.planned.1.level c.planned.1.moves c.planned.1.first.level c.planned.1.first.fits);
+  written : (output : Output) (text : List ℕ) → (status ≡ Done) ⊎ (status ≡ WriteFault) → plans.OfFlat (plans.IsTextOf output budget text) j → EndsByJob status budget j
+  written output text h c = record {
+    limit = λ passed e. no_other passed (flattened j).over e c.0;
+    cycle = λ e vertices is. absurd (c.1.acyclic vertices is);
+    over_budget = λ e acyclic none. absurd (none c.1.level c.1.moves c.1.first.level c.1.first.fits);
     fits = λ e acyclic level moves first. inl h;
   }
 
@@ -69,7 +72,11 @@ module _ (status : Status) (budget : ℕ) (j : Job) where
     fits = λ e acyclic level moves first. absurd (h.1.none level moves first.level first.fits);
   }
 
-module _ (s : Source) (old new : Option (List ℕ)) (budget : ℕ) (fine : first_file_fault s.text ≡ None) (a : Accepted) (answers : Answers s (Ok a)) where
+planned : (output : Output) (budget : ℕ) (text : List ℕ) (j : Job) → IsRight output budget text j → plans.OfFlat (plans.IsTextOf output budget text) j
+planned Text budget text j h = h.planned
+planned Report budget text j h = h
+
+module _ (s : Source) (old new : Option (List ℕ)) (asked : Asked) (fine : first_file_fault s.text ≡ None) (a : Accepted) (answers : Answers s (Ok a)) where
   abbrev the_job : Job
   the_job = job_in s answers.derivation
 
@@ -85,33 +92,33 @@ module _ (s : Source) (old new : Option (List ℕ)) (budget : ℕ) (fine : first
   faulty : {A : Type 0} (fault : FileFault) → first_file_fault s.text ≡ Some fault → A
   faulty fault e = absurd (let no : Some fault ≡ None = sym e ∙ fine in cc)
 
-  pub ends_by_job : (status : Status) → Tells old new status (Some budget) s → EndsByJob status budget the_job
-  ends_by_job Done told = written Done budget the_job told.1.0 (inl refl) (of_job (Compiles budget told.1.0) told.1.1)
+  pub ends_by_job : (status : Status) → Tells old new status (Some asked) s → EndsByJob status asked.budget the_job
+  ends_by_job Done told = written Done asked.budget the_job asked.output told.1.0 (inl refl) (planned asked.output asked.budget told.1.0 the_job (of_job (IsRight asked.output asked.budget told.1.0) told.1.1))
   ends_by_job Words told = absurd told
-  ends_by_job ReadFault told = by_fault ReadFault budget the_job (inl refl)
+  ends_by_job ReadFault told = by_fault ReadFault asked.budget the_job (inl refl)
   ends_by_job (Syntax cause line col) told = faulty (record { cause = cause; line = line; col = col }) told
   ends_by_job (Names n line col) told = refused _ told.1
   ends_by_job (Typing n line col) told = refused _ told.1
   ends_by_job (Unsupported what line col) told = refused _ told.1
   ends_by_job (Limit which count) told = by told.1
     where
-      by : PassesLimit which count (Some budget) s → EndsByJob (Limit which count) budget the_job
+      by : PassesLimit which count (Some asked) s → EndsByJob (Limit which count) asked.budget the_job
       by (inl h) = refused _ h.0
-      by (inr h) = at_limit (Limit which count) budget the_job (record { which = which; count = count }) refl (of_job (plans.PassesFirst (record { which = which; count = count })) h)
-  ends_by_job (Cycle places) told = at_cycle (Cycle places) budget the_job places refl (of_job (plans.OfFlat (plans.HasGivenCycle places)) told.1)
-  ends_by_job (OverBudget least most) told = over (OverBudget least most) budget the_job least (ap {B = Status} (OverBudget least) told.1.0) (of_job (plans.OfFlat (plans.NeedsMore budget least)) told.1.1)
-  ends_by_job WriteFault told = written WriteFault budget the_job told.1.0 (inr refl) (of_job (Compiles budget told.1.0) told.1.1)
-  ends_by_job Memory told = by_fault Memory budget the_job (inr refl)
+      by (inr h) = at_limit (Limit which count) asked.budget the_job (record { which = which; count = count }) refl (of_job (plans.PassesFirst (record { which = which; count = count })) h)
+  ends_by_job (Cycle places) told = at_cycle (Cycle places) asked.budget the_job places refl (of_job (plans.OfFlat (plans.HasGivenCycle places)) told.1)
+  ends_by_job (OverBudget least most) told = over (OverBudget least most) asked.budget the_job least (ap {B = Status} (OverBudget least) told.1.0) (of_job (plans.OfFlat (plans.NeedsMore asked.budget least)) told.1.1)
+  ends_by_job WriteFault told = written WriteFault asked.budget the_job asked.output told.1.0 (inr refl) (planned asked.output asked.budget told.1.0 the_job (of_job (IsRight asked.output asked.budget told.1.0) told.1.1))
+  ends_by_job Memory told = by_fault Memory asked.budget the_job (inr refl)
   ends_by_job Unbuilt told = absurd told
 
-ends_by_plan : (s : Source) (old new : Option (List ℕ)) (budget : Option ℕ) (status : Status) → Tells old new status budget s → EndsByPlan status budget s
+ends_by_plan : (s : Source) (old new : Option (List ℕ)) (asked : Option Asked) (status : Status) → Tells old new status asked s → EndsByPlan status asked s
 ends_by_plan s old new None status told = tt
-ends_by_plan s old new (Some budget) status told = λ fine a answers. ends_by_job s old new budget fine a answers status told
+ends_by_plan s old new (Some asked) status told = λ fine a answers. ends_by_job s old new asked fine a answers status told
 
 pub for_plan : (words : List (List ℕ)) (held : List ℕ → Option (List ℕ)) (old new : Option (List ℕ)) (status : Status)
     → ForSource words held (Tells old new status) → ForSource words held (EndsByPlan status)
 for_plan words held old new status tells = λ c is. by c (held c.file) (tells c is)
   where
-    by : (c : Command) (o : Option (List ℕ)) → IfSome o (λ bytes. Tells old new status c.budget (source_of c bytes)) → IfSome o (λ bytes. EndsByPlan status c.budget (source_of c bytes))
+    by : (c : Command) (o : Option (List ℕ)) → IfSome o (λ bytes. Tells old new status c.asked (source_of c bytes)) → IfSome o (λ bytes. EndsByPlan status c.asked (source_of c bytes))
     by c None t = tt
-    by c (Some bytes) t = ends_by_plan (source_of c bytes) old new c.budget status t
+    by c (Some bytes) t = ends_by_plan (source_of c bytes) old new c.asked status t

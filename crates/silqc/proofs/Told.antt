@@ -16,6 +16,7 @@ use Rattle.silq_compile.specs.declared.fault.TextFault.{TextFault}
 use Rattle.silq_compile.specs.declared.fault.TextFault.TheVariants as texts
 use Rattle.silq_compile.specs.Headline.{PutsText, Refuses}
 use Rattle.silq_compile.specs.Sources.{Source, Answers, IsAccepted}
+use Rattle.silqc.specs.declared.asked.Asked.{Asked}
 use Rattle.silqc.specs.declared.status.Status.{Status}
 use Rattle.silqc.specs.declared.status.Status.TheVariants.{Done, Words, ReadFault, Syntax, Names, Typing, Unsupported, Limit, Cycle, OverBudget, WriteFault, Memory, Unbuilt}
 use Rattle.silqc.specs.Answer.{most, PassesLimit, PassesInWalk}
@@ -26,8 +27,8 @@ use Rattle.silqc.proofs.Faults.{of_text}
 
 -- ---- what it tells
 
-module _ (old new : Option (List ℕ)) (budget : Option ℕ) (s : Source) (short : length s.text ≤ 1048576) (utf8 : IsUtf8 s.text) where
-  pub parse_tells : (fault : ParseFault) → (fault ≡ parses.Memory) ⊎ (first_fault s.text ≡ Some fault) → Tells old new (parse_status fault) budget s
+module _ (old new : Option (List ℕ)) (asked : Option Asked) (s : Source) (short : length s.text ≤ 1048576) (utf8 : IsUtf8 s.text) where
+  pub parse_tells : (fault : ParseFault) → (fault ≡ parses.Memory) ⊎ (first_fault s.text ≡ Some fault) → Tells old new (parse_status fault) asked s
   parse_tells parses.Memory h = tt
   parse_tells parses.Long (inl e) = absurd (grind (arith, e))
   parse_tells parses.Long (inr e) = of_text s.text (Some parses.Long) short (is_utf8-from_IsUtf8 s.text utf8) e
@@ -41,36 +42,36 @@ module _ (old new : Option (List ℕ)) (budget : Option ℕ) (s : Source) (short
   pub no_fault : first_fault s.text ≡ None → first_file_fault s.text ≡ None
   no_fault e = of_text s.text None short (is_utf8-from_IsUtf8 s.text utf8) e
 
-  rule_tells : (n : ℕ) (at : Spot) (b : Bool) → Answers s (Err (rule n at)) → Tells old new (if b then Typing n at.line at.col else Names n at.line at.col) budget s
+  rule_tells : (n : ℕ) (at : Spot) (b : Bool) → Answers s (Err (rule n at)) → Tells old new (if b then Typing n at.line at.col else Names n at.line at.col) asked s
   rule_tells n at true a = (no_fault a.no_fault, a)
   rule_tells n at false a = (no_fault a.no_fault, a)
 
-  limit_tells : (o : Option ℕ) (which : _) → Answers s (Err (over which)) → PassesLimit which (suc (most which)) o s
+  limit_tells : (o : Option Asked) (which : _) → Answers s (Err (over which)) → PassesLimit which (suc (most which)) o s
   limit_tells None which a = (a, refl)
   limit_tells (Some n) which a = inl (a, refl)
 
-  pub check_tells : (o : Option Fault) → IfSome o (λ first. Answers s (Err first)) → Tells old new (check_status o) budget s
+  pub check_tells : (o : Option Fault) → IfSome o (λ first. Answers s (Err first)) → Tells old new (check_status o) asked s
   check_tells None h = tt
   check_tells (Some (rule n at)) h = rule_tells n at (nat_lt 2 n) h
   check_tells (Some (unsupported what at)) h = (no_fault h.no_fault, h)
-  check_tells (Some (over which)) h = (no_fault h.no_fault, limit_tells budget which h)
+  check_tells (Some (over which)) h = (no_fault h.no_fault, limit_tells asked which h)
 
-pub compile_tells : (old new : Option (List ℕ)) (budget : ℕ) (s : Source) → length s.text ≤ 1048576 → IsUtf8 s.text → (fault : CompileFault) → Refuses budget old new s fault
-    → Tells old new (compile_status budget fault) (Some budget) s
-compile_tells old new budget s short utf8 compiles.Memory h = tt
-compile_tells old new budget s short utf8 (compiles.Limit passed) h = (no_fault old new (Some budget) s short utf8 h.checked.no_fault, inr h)
-compile_tells old new budget s short utf8 (compiles.Cycle places) h = (no_fault old new (Some budget) s short utf8 h.checked.no_fault, h)
-compile_tells old new budget s short utf8 (compiles.OverBudget least) h = (no_fault old new (Some budget) s short utf8 h.checked.no_fault, (refl, h))
-compile_tells old new budget s short utf8 compiles.Failed h = (no_fault old new (Some budget) s short utf8 h.1.checked.no_fault, h)
+pub compile_tells : (old new : Option (List ℕ)) (a : Asked) (s : Source) → length s.text ≤ 1048576 → IsUtf8 s.text → (fault : CompileFault) → Refuses a.output a.budget old new s fault
+    → Tells old new (compile_status a.budget fault) (Some a) s
+compile_tells old new a s short utf8 compiles.Memory h = tt
+compile_tells old new a s short utf8 (compiles.Limit passed) h = (no_fault old new (Some a) s short utf8 h.checked.no_fault, inr h)
+compile_tells old new a s short utf8 (compiles.Cycle places) h = (no_fault old new (Some a) s short utf8 h.checked.no_fault, h)
+compile_tells old new a s short utf8 (compiles.OverBudget least) h = (no_fault old new (Some a) s short utf8 h.checked.no_fault, (refl, h))
+compile_tells old new a s short utf8 compiles.Failed h = (no_fault old new (Some a) s short utf8 h.1.checked.no_fault, h)
 
 -- ---- how it ends
 
-pub parse_ends : (budget : Option ℕ) (fault : ParseFault) → CanEnd budget (parse_status fault)
-parse_ends budget parses.Memory = tt
-parse_ends budget parses.Long = tt
-parse_ends budget (parses.Lex f) = tt
-parse_ends budget (parses.Syntax line col) = tt
-parse_ends budget (parses.Deep line col) = tt
+pub parse_ends : (asked : Option Asked) (fault : ParseFault) → CanEnd asked (parse_status fault)
+parse_ends asked parses.Memory = tt
+parse_ends asked parses.Long = tt
+parse_ends asked (parses.Lex f) = tt
+parse_ends asked (parses.Syntax line col) = tt
+parse_ends asked (parses.Deep line col) = tt
 
 low : (n : ℕ) → nat_lt 2 n ≡ false → n ≤ 2
 low n e = grind (arith, nat_tests)
@@ -78,25 +79,25 @@ low n e = grind (arith, nat_tests)
 high : (n : ℕ) → nat_lt 2 n ≡ true → 2 < n
 high n e = grind (arith, nat_tests)
 
-rule_ends : (budget : Option ℕ) (n : ℕ) (at : Spot) → CanEnd budget (rule_status n at)
-rule_ends budget n at = by (nat_lt 2 n) refl
+rule_ends : (asked : Option Asked) (n : ℕ) (at : Spot) → CanEnd asked (rule_status n at)
+rule_ends asked n at = by (nat_lt 2 n) refl
   where
-    by : (b : Bool) → nat_lt 2 n ≡ b → CanEnd budget (if b then Typing n at.line at.col else Names n at.line at.col)
+    by : (b : Bool) → nat_lt 2 n ≡ b → CanEnd asked (if b then Typing n at.line at.col else Names n at.line at.col)
     by true e = high n e
     by false e = low n e
 
-pub check_ends : (budget : Option ℕ) (o : Option Fault) → CanEnd budget (check_status o)
-check_ends budget None = tt
-check_ends budget (Some (rule n at)) = rule_ends budget n at
-check_ends budget (Some (unsupported what at)) = tt
-check_ends budget (Some (over which)) = tt
+pub check_ends : (asked : Option Asked) (o : Option Fault) → CanEnd asked (check_status o)
+check_ends asked None = tt
+check_ends asked (Some (rule n at)) = rule_ends asked n at
+check_ends asked (Some (unsupported what at)) = tt
+check_ends asked (Some (over which)) = tt
 
-pub compile_ends : (budget : ℕ) (fault : CompileFault) → CanEnd (Some budget) (compile_status budget fault)
-compile_ends budget compiles.Memory = tt
-compile_ends budget (compiles.Limit passed) = tt
-compile_ends budget (compiles.Cycle places) = refl
-compile_ends budget (compiles.OverBudget least) = refl
-compile_ends budget compiles.Failed = refl
+pub compile_ends : (a : Asked) (fault : CompileFault) → CanEnd (Some a) (compile_status a.budget fault)
+compile_ends a compiles.Memory = tt
+compile_ends a (compiles.Limit passed) = tt
+compile_ends a (compiles.Cycle places) = refl
+compile_ends a (compiles.OverBudget least) = refl
+compile_ends a compiles.Failed = refl
 
 -- ---- no fault of a text is one of reading, and only that of the sink one of writing
 
@@ -163,19 +164,19 @@ not_failed budget fault status e other is = other (e ∙ ap {B = Status} (text_s
 
 -- ---- texts
 
-pub text_tells : (old new : Option (List ℕ)) (budget : ℕ) (s : Source) → length s.text ≤ 1048576 → IsUtf8 s.text → (fault : TextFault)
+pub text_tells : (old new : Option (List ℕ)) (a : Asked) (s : Source) → length s.text ≤ 1048576 → IsUtf8 s.text → (fault : TextFault)
     → ((f : ParseFault) → fault ≡ texts.Parse f → (f ≡ parses.Memory) ⊎ (first_fault s.text ≡ Some f))
     → ((f : _) → fault ≡ texts.Check f → IfSome (fault_as f) (λ first. Answers s (Err first)))
-    → ((f : CompileFault) → fault ≡ texts.Compile f → Refuses budget old new s f)
-    → Tells old new (text_status budget fault) (Some budget) s
-text_tells old new budget s short utf8 (texts.Parse f) p t c = parse_tells old new (Some budget) s short utf8 f (p f refl)
-text_tells old new budget s short utf8 (texts.Check f) p t c = check_tells old new (Some budget) s short utf8 (fault_as f) (t f refl)
-text_tells old new budget s short utf8 (texts.Compile f) p t c = compile_tells old new budget s short utf8 f (c f refl)
+    → ((f : CompileFault) → fault ≡ texts.Compile f → Refuses a.output a.budget old new s f)
+    → Tells old new (text_status a.budget fault) (Some a) s
+text_tells old new a s short utf8 (texts.Parse f) p t c = parse_tells old new (Some a) s short utf8 f (p f refl)
+text_tells old new a s short utf8 (texts.Check f) p t c = check_tells old new (Some a) s short utf8 (fault_as f) (t f refl)
+text_tells old new a s short utf8 (texts.Compile f) p t c = compile_tells old new a s short utf8 f (c f refl)
 
-pub text_ends : (budget : ℕ) (fault : TextFault) → CanEnd (Some budget) (text_status budget fault)
-text_ends budget (texts.Parse f) = parse_ends (Some budget) f
-text_ends budget (texts.Check f) = check_ends (Some budget) (fault_as f)
-text_ends budget (texts.Compile f) = compile_ends budget f
+pub text_ends : (a : Asked) (fault : TextFault) → CanEnd (Some a) (text_status a.budget fault)
+text_ends a (texts.Parse f) = parse_ends (Some a) f
+text_ends a (texts.Check f) = check_ends (Some a) (fault_as f)
+text_ends a (texts.Compile f) = compile_ends a f
 
 pub check_text_tells : (old new : Option (List ℕ)) (s : Source) → length s.text ≤ 1048576 → IsUtf8 s.text → (fault : TextFault)
     → ((f : ParseFault) → fault ≡ texts.Parse f → (f ≡ parses.Memory) ⊎ (first_fault s.text ≡ Some f))
@@ -194,5 +195,5 @@ check_text_ends (texts.Compile f) c = absurd (c f refl)
 pub accepted_tells : (old new : Option (List ℕ)) (s : Source) → length s.text ≤ 1048576 → IsUtf8 s.text → IsAccepted s → Tells old new Done None s
 accepted_tells old new s short utf8 h = (no_fault old new None s short utf8 h.1.no_fault, h)
 
-pub put_tells : (old new : Option (List ℕ)) (budget : ℕ) (s : Source) → length s.text ≤ 1048576 → IsUtf8 s.text → PutsText budget old new s → Tells old new Done (Some budget) s
-put_tells old new budget s short utf8 h = (no_fault old new (Some budget) s short utf8 h.1.checked.no_fault, h)
+pub put_tells : (old new : Option (List ℕ)) (a : Asked) (s : Source) → length s.text ≤ 1048576 → IsUtf8 s.text → PutsText a.output a.budget old new s → Tells old new Done (Some a) s
+put_tells old new a s short utf8 h = (no_fault old new (Some a) s short utf8 h.1.checked.no_fault, h)

@@ -9,29 +9,30 @@ use Rattle.flat_compile.specs.declared.cycle.CyclePlace.{CyclePlace}
 use Rattle.flat_compile.specs.Ends as plans
 use Rattle.silq_compile.specs.Headline as headline
 use Rattle.silq_compile.specs.Sources.{Source, Answers, IsAccepted, OfAccepted}
+use Rattle.silqc.specs.declared.asked.Asked.{Asked}
 use Rattle.silqc.specs.Program.{FileFault, first_file_fault}
 
 -- the file has this fault first
-abbrev pub HasFault : FileFault → Option ℕ → Source → Type 0
-HasFault fault budget s = first_file_fault s.text ≡ Some fault
+abbrev pub HasFault : FileFault → Option Asked → Source → Type 0
+HasFault fault asked s = first_file_fault s.text ≡ Some fault
 
 -- the file is the text of a program, of which this holds
 abbrev pub OfProgram : (Source → Type 0) → Source → Type 0
 OfProgram P s = (first_file_fault s.text ≡ None) × P s
 
--- this holds of a compilation with its budget; a check is none
-abbrev pub OfCompile : (ℕ → Source → Type 0) → Option ℕ → Source → Type 0
+-- this holds of a compilation as it was asked for; a check is none
+abbrev pub OfCompile : (Asked → Source → Type 0) → Option Asked → Source → Type 0
 OfCompile P None s = ⊥
-OfCompile P (Some budget) s = P budget s
+OfCompile P (Some a) s = P a s
 
--- all rules hold; and for a compilation, a right text was put whole
-abbrev pub EndsWell : Option (List ℕ) → Option (List ℕ) → Option ℕ → Source → Type 0
+-- all rules hold; and for a compilation, a right text or report was put whole
+abbrev pub EndsWell : Option (List ℕ) → Option (List ℕ) → Option Asked → Source → Type 0
 EndsWell old new None s = IsAccepted s
-EndsWell old new (Some budget) s = headline.PutsText budget old new s
+EndsWell old new (Some a) s = headline.PutsText a.output a.budget old new s
 
 -- a proper front of a right text was put
-abbrev pub BreaksText : Option (List ℕ) → Option (List ℕ) → Option ℕ → Source → Type 0
-BreaksText old new = OfCompile (λ budget s. headline.BreaksText budget old new s)
+abbrev pub BreaksText : Option (List ℕ) → Option (List ℕ) → Option Asked → Source → Type 0
+BreaksText old new = OfCompile (λ a s. headline.BreaksText a.output a.budget old new s)
 
 -- the first broken rule has this number and this place
 abbrev pub BreaksRule : ℕ → ℕ → ℕ → Source → Type 0
@@ -56,14 +57,14 @@ PassesInWalk which count s = Answers s (Err (over which)) × (count ≡ suc (mos
 abbrev pub PassesInForm : LimitKind → ℕ → Source → Type 0
 PassesInForm which count = OfAccepted (plans.PassesFirst (record { which = which; count = count }))
 
-abbrev pub PassesLimit : LimitKind → ℕ → Option ℕ → Source → Type 0
+abbrev pub PassesLimit : LimitKind → ℕ → Option Asked → Source → Type 0
 PassesLimit which count None s = PassesInWalk which count s
-PassesLimit which count (Some budget) s = PassesInWalk which count s ⊎ PassesInForm which count s
+PassesLimit which count (Some a) s = PassesInWalk which count s ⊎ PassesInForm which count s
 
 -- the circuit graph has a cycle, and this is the given one
-abbrev pub HasCycle : List CyclePlace → Option ℕ → Source → Type 0
-HasCycle places = OfCompile (λ budget. OfAccepted (plans.OfFlat (plans.HasGivenCycle places)))
+abbrev pub HasCycle : List CyclePlace → Option Asked → Source → Type 0
+HasCycle places = OfCompile (λ a. OfAccepted (plans.OfFlat (plans.HasGivenCycle places)))
 
 -- the circuit graph has no cycle, and needs more qubits than the budget has: so many at least
-abbrev pub NeedsMore : ℕ → ℕ → Option ℕ → Source → Type 0
-NeedsMore least most = OfCompile (λ budget s. (most ≡ budget) × OfAccepted (plans.OfFlat (plans.NeedsMore budget least)) s)
+abbrev pub NeedsMore : ℕ → ℕ → Option Asked → Source → Type 0
+NeedsMore least most = OfCompile (λ a s. (most ≡ a.budget) × OfAccepted (plans.OfFlat (plans.NeedsMore a.budget least)) s)

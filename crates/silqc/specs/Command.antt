@@ -1,22 +1,29 @@
 -- The commands over a file of source text, and what is said of each.
 use Rattle.std.specs.Prelude.{◌≡◌, ◌≢◌, ℕ, ℤ, List, Option, Some, None, IfSome}
-use Rattle.cli_words.specs.Job.{Job, compile, check, job_of}
+use Rattle.cli_words.specs.Job.{Job, compile, report, check, job_of}
+use Rattle.flat_compile.specs.declared.output.Output.{Output}
+use Rattle.flat_compile.specs.declared.output.Output.TheVariants.{Text, Report}
 use Rattle.silq_compile.specs.Sources.{Source}
+use Rattle.silqc.specs.declared.asked.Asked.{Asked}
 
--- The function of this name in the file of this name, with these values of its static parameters. It is compiled with at most so many
--- qubits, or checked, where there is no budget.
+-- The function of this name in the file of this name, with these values of its static parameters. It is compiled as asked, or checked, where
+-- nothing is asked.
 pub record Command : Type 0 where
   pub file : List ℕ
   pub entry : List ℕ
   pub statics : List ℤ
-  pub budget : Option ℕ
+  pub asked : Option Asked
 
-abbrev pub job_by : Option ℕ → Command → Job
+abbrev pub job_put : Output → ℕ → Command → Job
+job_put Text budget c = compile c.file c.entry c.statics budget
+job_put Report budget c = report c.file c.entry c.statics budget
+
+abbrev pub job_by : Option Asked → Command → Job
 job_by None c = check c.file c.entry c.statics
-job_by (Some budget) c = compile c.file c.entry c.statics budget
+job_by (Some a) c = job_put a.output a.budget c
 
 abbrev pub job_for : Command → Job
-job_for c = job_by c.budget c
+job_for c = job_by c.asked c
 
 -- the words are this command
 abbrev pub IsCommand : List (List ℕ) → Command → Type 0
@@ -33,6 +40,6 @@ ForCommand words held P = (c : Command) → IsCommand words c → IfSome (held c
 abbrev pub source_of : Command → List ℕ → Source
 source_of c bytes = record { text = bytes; entry = c.entry; statics = c.statics }
 
--- the same of the budget and the source
-abbrev pub ForSource : List (List ℕ) → (List ℕ → Option (List ℕ)) → (Option ℕ → Source → Type 0) → Type 0
-ForSource words held P = ForCommand words held (λ c bytes. P c.budget (source_of c bytes))
+-- the same of what is asked and of the source
+abbrev pub ForSource : List (List ℕ) → (List ℕ → Option (List ℕ)) → (Option Asked → Source → Type 0) → Type 0
+ForSource words held P = ForCommand words held (λ c bytes. P c.asked (source_of c bytes))

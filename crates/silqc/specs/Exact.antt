@@ -13,6 +13,7 @@ use Rattle.flat_compile.specs.declared.cycle.CyclePlace.{CyclePlace}
 use Rattle.silq_types.specs.Rules.{Fault}
 use Rattle.check_fun.specs.Program.{Accepted}
 use Rattle.silq_compile.specs.Sources.{Source, Answers, job_in}
+use Rattle.silqc.specs.declared.asked.Asked.{Asked}
 use Rattle.silqc.specs.declared.status.Status.{Status}
 use Rattle.silqc.specs.declared.status.Status.TheVariants.{Done, ReadFault, Limit, Cycle, OverBudget, WriteFault, Memory}
 use Rattle.silqc.specs.Answer.{OfProgram}
@@ -44,19 +45,19 @@ pub record EndsByJob (status : Status) (budget : ℕ) (j : Job) : Type 0 where
       → (level : ℕ) (moves : List Move) → IsFirstFit (flattened j).form budget level moves → EndsWritten status
 
 -- a file with a fault ends every command by it
-abbrev pub EndsAtFault : Status → Option ℕ → Source → Type 0
-EndsAtFault status budget s = (fault : FileFault) → first_file_fault s.text ≡ Some fault → EndsBy (syntax_status fault) status
+abbrev pub EndsAtFault : Status → Option Asked → Source → Type 0
+EndsAtFault status asked s = (fault : FileFault) → first_file_fault s.text ≡ Some fault → EndsBy (syntax_status fault) status
 
 -- a check ends as the answer of typing says, and so does a compilation of what typing refuses
-abbrev pub EndsByTyping : Status → Option ℕ → Result Accepted Fault → Type 0
+abbrev pub EndsByTyping : Status → Option Asked → Result Accepted Fault → Type 0
 EndsByTyping status None answer = EndsBy (status_of answer) status
-EndsByTyping status (Some budget) (Ok a) = Unit {0}
-EndsByTyping status (Some budget) (Err first) = EndsBy (status_of (Err first)) status
+EndsByTyping status (Some asked) (Ok a) = Unit {0}
+EndsByTyping status (Some asked) (Err first) = EndsBy (status_of (Err first)) status
 
-abbrev pub EndsByAnswer : Status → Option ℕ → Source → Type 0
-EndsByAnswer status budget s = (answer : Result Accepted Fault) → OfProgram (λ t. Answers t answer) s → EndsByTyping status budget answer
+abbrev pub EndsByAnswer : Status → Option Asked → Source → Type 0
+EndsByAnswer status asked s = (answer : Result Accepted Fault) → OfProgram (λ t. Answers t answer) s → EndsByTyping status asked answer
 
 -- a compilation of what typing accepts
-abbrev pub EndsByPlan : Status → Option ℕ → Source → Type 0
+abbrev pub EndsByPlan : Status → Option Asked → Source → Type 0
 EndsByPlan status None s = Unit {0}
-EndsByPlan status (Some budget) s = first_file_fault s.text ≡ None → (a : Accepted) (answers : Answers s (Ok a)) → EndsByJob status budget (job_in s answers.derivation)
+EndsByPlan status (Some asked) s = first_file_fault s.text ≡ None → (a : Accepted) (answers : Answers s (Ok a)) → EndsByJob status asked.budget (job_in s answers.derivation)

@@ -16,20 +16,24 @@ ghost use Rattle.silqc.specs.Ending.{CanEnd, Tells, TellsItsRules};
 ghost use Rattle.silqc.specs.Exact.{EndsAtFault, EndsByAnswer, EndsByPlan};
 ghost use Rattle.silqc.specs.Note.{Noted, note_of};
 
+mod asked;
 mod file;
 mod input;
 mod refusal;
 mod source;
 pub mod status;
 
+use asked::Asked;
 use cli_words::{Job, WordFault, read_job, texts};
 use file::run_file;
+use flat_compile::Output;
 use silq_io::{Files, Sink, Words};
 use status::Status;
 use std::alloc::Global;
 
 /// Carries out the command of these words. `compile FILE ENTRY STATIC..`, with an optional `--budget N`, reads the file from `files`, and
-/// puts the OpenQASM text of the function ENTRY with these values of its static parameters to `out`. `check FILE ENTRY STATIC..` checks
+/// puts the OpenQASM text of the function ENTRY with these values of its static parameters to `out`; `report` of the same words puts
+/// the seven lines of its report. `check FILE ENTRY STATIC..` checks
 /// the program from that function, and puts nothing to `out`. A refusal puts one line to `notes`.
 ///
 /// Want of memory alone may come at any time before the first byte is put.
@@ -61,7 +65,7 @@ pub fn silqc<F: Files, S: Sink, N: Sink>(
     // Each source ends as it must.
     ensures no_job { job_of words.now ≡ None → (result ≡ Status.Words) ⊎ (result ≡ Status.Memory) }
     ensures other_job { IsOtherJob words.now → (result ≡ Status.Unbuilt) ⊎ (result ≡ Status.Memory) }
-    ensures can_end { (c : Command) → IsCommand words.now c → CanEnd c.budget result }
+    ensures can_end { (c : Command) → IsCommand words.now c → CanEnd c.asked result }
     ensures at_fault { ForSource words.now (F.held files.old) (EndsAtFault result) }
     ensures answered { ForSource words.now (F.held files.old) (EndsByAnswer result) }
     ensures planned { ForSource words.now (F.held files.old) (EndsByPlan result) }
@@ -69,7 +73,7 @@ pub fn silqc<F: Files, S: Sink, N: Sink>(
     // What a refusal and a check leave.
     ensures broken { result ≡ Status.WriteFault → ForSource words.now (F.held files.old) (λ b. OfProgram (BreaksText (S.put_so_far out.old) (S.put_so_far out.new) b)) }
     ensures refused { result ≢ Status.Done → result ≢ Status.WriteFault → Adds (S.put_so_far out.old) (S.put_so_far out.new) [] }
-    ensures checked { (c : Command) → IsCommand words.now c → c.budget ≡ None → Adds (S.put_so_far out.old) (S.put_so_far out.new) [] }
+    ensures checked { (c : Command) → IsCommand words.now c → c.asked ≡ None → Adds (S.put_so_far out.old) (S.put_so_far out.new) [] }
     ensures noted { Noted (N.put_so_far notes.old) (N.put_so_far notes.new) (N.faults notes.old) (N.faults notes.new) (note_of result) }
 
     // What never changes or falls.
@@ -90,13 +94,13 @@ fn run<F: Files, S: Sink>(alloc: Global, words: &Words, files: &mut F, out: &mut
     ensures no_job { job_of words.now ≡ None → (result ≡ Status.Words) ⊎ (result ≡ Status.Memory) }
     ensures other_job { IsOtherJob words.now → (result ≡ Status.Unbuilt) ⊎ (result ≡ Status.Memory) }
     ensures rules { TellsItsRules result }
-    ensures can_end { (c : Command) → IsCommand words.now c → CanEnd c.budget result }
+    ensures can_end { (c : Command) → IsCommand words.now c → CanEnd c.asked result }
     ensures tells { ForSource words.now (F.held files.old) (Tells (S.put_so_far out.old) (S.put_so_far out.new) result) }
     ensures read_whole { result ≡ Status.Done → ForCommand words.now (F.held files.old) (λ c _. F.left files.new c.file ≡ Some []) }
     ensures read_fault { result ≡ Status.ReadFault → (c : Command) → IsCommand words.now c → Rose (F.faults files.old c.file) (F.faults files.new c.file) }
     ensures write_fault { result ≡ Status.WriteFault → Rose (S.faults out.old) (S.faults out.new) }
     ensures refused { result ≢ Status.Done → result ≢ Status.WriteFault → Adds (S.put_so_far out.old) (S.put_so_far out.new) [] }
-    ensures checked { (c : Command) → IsCommand words.now c → c.budget ≡ None → Adds (S.put_so_far out.old) (S.put_so_far out.new) [] }
+    ensures checked { (c : Command) → IsCommand words.now c → c.asked ≡ None → Adds (S.put_so_far out.old) (S.put_so_far out.new) [] }
     ensures held { (name : List ℕ) → F.held files.new name ≡ F.held files.old name }
     ensures file_counts { (name : List ℕ) → F.faults files.old name ≤ F.faults files.new name }
     ensures out_count { S.faults out.old ≤ S.faults out.new }
@@ -118,20 +122,40 @@ fn run_job<F: Files, S: Sink>(alloc: Global, job: &Job, files: &mut F, out: &mut
     ensures unbuilt { result ≡ Status.Unbuilt → (c : Command) → told job.now ≢ job_for c }
     ensures other_job { ((c : Command) → told job.now ≢ job_for c) → result ≡ Status.Unbuilt }
     ensures rules { TellsItsRules result }
-    ensures can_end { (c : Command) → told job.now ≡ job_for c → CanEnd c.budget result }
-    ensures tells { (c : Command) → told job.now ≡ job_for c → IfSome (F.held files.old c.file) (λ bytes. Tells (S.put_so_far out.old) (S.put_so_far out.new) result c.budget (source_of c bytes)) }
+    ensures can_end { (c : Command) → told job.now ≡ job_for c → CanEnd c.asked result }
+    ensures tells { (c : Command) → told job.now ≡ job_for c → IfSome (F.held files.old c.file) (λ bytes. Tells (S.put_so_far out.old) (S.put_so_far out.new) result c.asked (source_of c bytes)) }
     ensures read_whole { result ≡ Status.Done → (c : Command) → told job.now ≡ job_for c → IfSome (F.held files.old c.file) (λ _. F.left files.new c.file ≡ Some []) }
     ensures read_fault { result ≡ Status.ReadFault → (c : Command) → told job.now ≡ job_for c → Rose (F.faults files.old c.file) (F.faults files.new c.file) }
     ensures write_fault { result ≡ Status.WriteFault → Rose (S.faults out.old) (S.faults out.new) }
     ensures refused { result ≢ Status.Done → result ≢ Status.WriteFault → Adds (S.put_so_far out.old) (S.put_so_far out.new) [] }
-    ensures checked { (c : Command) → told job.now ≡ job_for c → c.budget ≡ None → Adds (S.put_so_far out.old) (S.put_so_far out.new) [] }
+    ensures checked { (c : Command) → told job.now ≡ job_for c → c.asked ≡ None → Adds (S.put_so_far out.old) (S.put_so_far out.new) [] }
     ensures held { (name : List ℕ) → F.held files.new name ≡ F.held files.old name }
     ensures file_counts { (name : List ℕ) → F.faults files.old name ≤ F.faults files.new name }
     ensures out_count { S.faults out.old ≤ S.faults out.new }
 {
     match job {
-        Job::Compile { source, budget } => run_file(alloc, source, Some(*budget), files, out),
+        Job::Compile { source, budget } => run_file(
+            alloc,
+            source,
+            within(Output::Text, *budget),
+            files,
+            out,
+        ),
+        Job::Report { source, budget } => run_file(
+            alloc,
+            source,
+            within(Output::Report, *budget),
+            files,
+            out,
+        ),
         Job::Check { source } => run_file(alloc, source, None, files, out),
-        Job::Report { .. } | Job::Mean { .. } | Job::Amps { .. } | Job::Gen { .. } => Status::Unbuilt,
+        Job::Mean { .. } | Job::Amps { .. } | Job::Gen { .. } => Status::Unbuilt,
     }
+}
+
+// What is asked of a compilation.
+fn within(output: Output, budget: u32) -> Option<Asked>
+    ensures { result ≡ Some (record { output = output; budget = budget }) }
+{
+    Some(Asked { output, budget })
 }

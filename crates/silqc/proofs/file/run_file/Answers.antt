@@ -5,7 +5,7 @@ use Rattle.silqc.proofs.file.run_file.Goals as goal
 
 pub returns-in-Ok-text-clause-tells : goal.returns-in-Ok-text-clause-tells
 returns-in-Ok-text-clause-tells g c =
-    tells_of_all _ _ c.args.budget c.args.source.now.entry.now c.args.source.now.statics.items _ _ c.in-Ok.bytes.items c.in-Ok.ensures.read
+    tells_of_all _ _ c.args.asked c.args.source.now.entry.now c.args.source.now.statics.items _ _ c.in-Ok.bytes.items c.in-Ok.ensures.read
     c.run_text.result (rw c.deref.ensures.value at c.in-Ok-text.ensures.short)
     (rw (c.in-Ok-text.ensures.same, c.deref.ensures.value) at c.run_text.ensures.tells)
 
@@ -15,6 +15,6 @@ returns-in-Ok-text-clause-read_whole g c =
 
 pub returns-clause-tells : goal.returns-clause-tells
 returns-clause-tells g c =
-    fault_of_all _ _ c.args.budget c.args.source.now.entry.now c.args.source.now.statics.items _ _ c.in-Ok.bytes.items c.in-Ok.ensures.read
+    fault_of_all _ _ c.args.asked c.args.source.now.entry.now c.args.source.now.statics.items _ _ c.in-Ok.bytes.items c.in-Ok.ensures.read
     (record { cause = c.in-Err-text.fault.cause; line = c.in-Err-text.fault.line; col = c.in-Err-text.fault.col }) c.status.result c.status.ensures
     (rw c.deref.ensures.value at c.in-Err-text.ensures.fault)
