@@ -1,6 +1,6 @@
 #!/bin/sh
-# Times the proved program `silqc` on source files of growing size: reading, tokens, tree, form and text of a program of one bit
-# with N statements. Prints the size of the file, the seconds and the peak memory in megabytes.
+# Times the proved program `silqc` on source files of growing size: reading, tokens, tree, check, flat form, moves and text of a program
+# of one bit with N statements. Prints the size of the file, the seconds and the peak memory in megabytes.
 # Usage: bench/parse.sh [N..]
 top=$(cd "$(dirname "$0")/.." && pwd) || exit 1
 "$top/silqc" --prove || exit 1
