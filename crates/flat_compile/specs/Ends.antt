@@ -17,8 +17,9 @@ use Rattle.plan_write.specs.Text.{plan_text}
 use Rattle.flat_compile.specs.declared.cycle.CyclePlace.{CyclePlace}
 use Rattle.flat_compile.specs.Places.{ArePlacesOf}
 
--- the text is that of the moves of the first level that fits the budget, on as many qubits as they need
+-- the circuit graph has no cycle, and the text is that of the moves of the first level that fits the budget, on as many qubits as they need
 pub record IsTextOf (budget : ℕ) (text : List ℕ) (f : FlatForm) : Type 0 where
+  pub acyclic : IsAcyclic (circuit_graph f)
   pub level : ℕ
   pub moves : List Move
   pub first : IsFirstFit f budget level moves

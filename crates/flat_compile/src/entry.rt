@@ -7,7 +7,7 @@ ghost use Rattle.silq_io.specs.declared.limit.OverLimit.{OverLimit};
 ghost use Rattle.flat_form.specs.Jobs.{EndsWell, FineJob};
 ghost use Rattle.flat_build.specs.Seen.{job_at};
 ghost use Rattle.graph_core.specs.Circuit.{circuit_graph};
-ghost use Rattle.graph_core.specs.Digraph.{IsCycle};
+ghost use Rattle.graph_core.specs.Digraph.{IsAcyclic, IsCycle};
 ghost use Rattle.topo_order.specs.GivenCycle.{IsGivenCycle};
 ghost use Rattle.move_plan.specs.Live.{width};
 ghost use Rattle.reqomp.specs.Search.{IsFirstFit};
@@ -66,6 +66,7 @@ pub fn compile<S: Sink>(
 
 // The plan of the first level that fits the budget, or why there is none.
 fn plan_of(alloc: Global, flat: &Flat, budget: u32) -> Result<Plan, CompileFault>
+    ensures acyclic { IfOk result (λ p. IsAcyclic (circuit_graph flat.now)) }
     ensures first { IfOk result (λ p. IsFirstFit flat.now budget p.level p.moves) }
     ensures width { IfOk result (λ p. p.width ≡ width flat.now p.moves) }
     ensures cycle { (places : List CyclePlace) → IsErrOf result (faults.Cycle places) → HasGivenCycle places flat.now }
@@ -103,6 +104,7 @@ fn put_plan<S: Sink>(
     out: &mut S,
 ) -> Result<(), CompileFault>
     requires few { budget ≤ 100000 }
+    requires acyclic { IsAcyclic (circuit_graph flat.now) }
     requires first { IsFirstFit flat.now budget plan.now.level plan.now.moves }
     requires width { plan.now.width ≡ width flat.now plan.now.moves }
     ensures done { OnOk result (PutsPlan budget (S.put_so_far out.old) (S.put_so_far out.new) flat.now) }

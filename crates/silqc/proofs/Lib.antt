@@ -4,4 +4,5 @@ pub mod Told
 pub mod Read
 pub mod Jobs
 pub mod Exactly
+pub mod Planned
 pub mod Cycles

@@ -1,10 +1,20 @@
 -- The end that a source must have.
-use Rattle.std.specs.Prelude.{◌≡◌, ℕ, ◌⊎◌, Option, None, Some, Result, Ok, Err}
+use Rattle.std.specs.Prelude.{◌≡◌, ℕ, ◌⊎◌, List, Option, None, Some, Result, Ok, Err}
+use Rattle.silq_io.specs.declared.limit.OverLimit.{OverLimit}
+use Rattle.silq_mean.specs.Table.{Job}
+use Rattle.flat_form.specs.Flat.{flattened}
+use Rattle.graph_core.specs.Digraph.{IsAcyclic, IsCycle}
+use Rattle.graph_core.specs.Circuit.{circuit_graph}
+use Rattle.graph_core.specs.declared.vertex.Vertex.{Vertex}
+use Rattle.move_plan.specs.declared.moves.Move.{Move}
+use Rattle.reqomp.specs.Level.{IsLevel}
+use Rattle.reqomp.specs.Search.{Fits, IsFirstFit}
+use Rattle.flat_compile.specs.declared.cycle.CyclePlace.{CyclePlace}
 use Rattle.silq_types.specs.Rules.{Fault}
 use Rattle.check_fun.specs.Program.{Accepted}
-use Rattle.silq_compile.specs.Sources.{Source, Answers}
+use Rattle.silq_compile.specs.Sources.{Source, Answers, job_in}
 use Rattle.silqc.specs.declared.status.Status.{Status}
-use Rattle.silqc.specs.declared.status.Status.TheVariants.{ReadFault, Memory}
+use Rattle.silqc.specs.declared.status.Status.TheVariants.{Done, ReadFault, Limit, Cycle, OverBudget, WriteFault, Memory}
 use Rattle.silqc.specs.Answer.{OfProgram}
 use Rattle.silqc.specs.Program.{FileFault, first_file_fault}
 use Rattle.silqc.specs.Status.{status_of, syntax_status}
@@ -12,6 +22,26 @@ use Rattle.silqc.specs.Status.{status_of, syntax_status}
 -- the status is the wanted one; a fault of reading and want of memory may come before it
 abbrev pub EndsBy : Status → Status → Type 0
 EndsBy wanted status = (status ≡ wanted) ⊎ ((status ≡ ReadFault) ⊎ (status ≡ Memory))
+
+abbrev pub EndsAtCycle : Status → Type 0
+EndsAtCycle status = ((places : List CyclePlace) × (status ≡ Cycle places)) ⊎ ((status ≡ ReadFault) ⊎ (status ≡ Memory))
+
+abbrev pub EndsOver : ℕ → Status → Type 0
+EndsOver budget status = ((least : ℕ) × (status ≡ OverBudget least budget)) ⊎ ((status ≡ ReadFault) ⊎ (status ≡ Memory))
+
+-- the text is put, a fault of the sink aside
+abbrev pub EndsWritten : Status → Type 0
+EndsWritten status = ((status ≡ Done) ⊎ (status ≡ WriteFault)) ⊎ ((status ≡ ReadFault) ⊎ (status ≡ Memory))
+
+-- How the compilation of what an accepted program means must end: by the first limit of its flat form, else by a cycle of its circuit graph,
+-- else over budget, where no level fits, else with the text.
+pub record EndsByJob (status : Status) (budget : ℕ) (j : Job) : Type 0 where
+  pub limit : (passed : OverLimit) → (flattened j).over ≡ Some passed → EndsBy (Limit passed.which passed.count) status
+  pub cycle : (flattened j).over ≡ None → (vertices : List Vertex) → IsCycle (circuit_graph (flattened j).form) vertices → EndsAtCycle status
+  pub over_budget : (flattened j).over ≡ None → IsAcyclic (circuit_graph (flattened j).form)
+      → ((level : ℕ) (moves : List Move) → IsLevel (flattened j).form level moves → ¬ Fits (flattened j).form budget moves) → EndsOver budget status
+  pub fits : (flattened j).over ≡ None → IsAcyclic (circuit_graph (flattened j).form)
+      → (level : ℕ) (moves : List Move) → IsFirstFit (flattened j).form budget level moves → EndsWritten status
 
 -- a file with a fault ends every command by it
 abbrev pub EndsAtFault : Status → Option ℕ → Source → Type 0
@@ -25,3 +55,8 @@ EndsByTyping status (Some budget) (Err first) = EndsBy (status_of (Err first)) s
 
 abbrev pub EndsByAnswer : Status → Option ℕ → Source → Type 0
 EndsByAnswer status budget s = (answer : Result Accepted Fault) → OfProgram (λ t. Answers t answer) s → EndsByTyping status budget answer
+
+-- a compilation of what typing accepts
+abbrev pub EndsByPlan : Status → Option ℕ → Source → Type 0
+EndsByPlan status None s = Unit {0}
+EndsByPlan status (Some budget) s = first_file_fault s.text ≡ None → (a : Accepted) (answers : Answers s (Ok a)) → EndsByJob status budget (job_in s answers.derivation)

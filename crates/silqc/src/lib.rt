@@ -13,7 +13,7 @@ ghost use Rattle.silq_io.specs.declared.limit.LimitKind.{LimitKind};
 ghost use Rattle.silqc.specs.Answer.{BreaksRule, BreaksText, EndsWell, HasCycle, HasFault, HasUnsupported, NeedsMore, OfProgram, PassesLimit};
 ghost use Rattle.silqc.specs.Command.{Command, ForCommand, ForSource, IsCommand, IsOtherJob, job_for, source_of};
 ghost use Rattle.silqc.specs.Ending.{CanEnd, Tells, TellsItsRules};
-ghost use Rattle.silqc.specs.Exact.{EndsAtFault, EndsByAnswer};
+ghost use Rattle.silqc.specs.Exact.{EndsAtFault, EndsByAnswer, EndsByPlan};
 ghost use Rattle.silqc.specs.Note.{Noted, note_of};
 
 mod file;
@@ -64,6 +64,7 @@ pub fn silqc<F: Files, S: Sink, N: Sink>(
     ensures can_end { (c : Command) → IsCommand words.now c → CanEnd c.budget result }
     ensures at_fault { ForSource words.now (F.held files.old) (EndsAtFault result) }
     ensures answered { ForSource words.now (F.held files.old) (EndsByAnswer result) }
+    ensures planned { ForSource words.now (F.held files.old) (EndsByPlan result) }
 
     // What a refusal and a check leave.
     ensures broken { result ≡ Status.WriteFault → ForSource words.now (F.held files.old) (λ b. OfProgram (BreaksText (S.put_so_far out.old) (S.put_so_far out.new) b)) }
