@@ -330,11 +330,6 @@ fn no_programs(rt: HostRuntime) {
 fn no_circuits(rt: HostRuntime) {
     let cases = [
         refused(
-            b"def main(x:B):B { for i in [0..200001) { x := X(x); } return x; }",
-            8,
-            b"silqc: limit: steps 200001\n",
-        ),
-        refused(
             b"def main(x:B):B { y := dup(x); x := H(x); if y { x := X(x); } return x; }",
             9,
             b"silqc: cycle: F1@1 F2@1 R0@1\n",
@@ -460,4 +455,14 @@ fn the_longest_text(rt: HostRuntime) {
         let met = blanks_end(rt.alloc(), bytes, count, code, note);
         assert!(rt; met.unwrap_or(false), "{count} blanks");
     }
+}
+
+#[test]
+fn too_many_steps(rt: HostRuntime) {
+    let case = refused(
+        b"def main(x:B):B { for i in [0..200001) { x := X(x); } return x; }",
+        8,
+        b"silqc: limit: steps 200001\n",
+    );
+    assert!(rt; is_met(rt.alloc(), &case).unwrap_or(false));
 }
