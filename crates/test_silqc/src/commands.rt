@@ -16,6 +16,62 @@ const TWO: &[u8] = b"def main(a:B, b:B):B\xc3\x97B { a := H(a); b := X(b); retur
 const TWO_TEXT: &[u8] =
     b"OPENQASM 2.0;\ninclude \"qelib1.inc\";\nqreg q[2];\n// silqc in 0 q[0]\n// silqc in 1 q[1]\nh q[0];\nx q[1];\n// silqc out 0 q[0]\n// silqc out 1 q[1]\n";
 
+const TWO_ANDS: &[u8] = b"def main(const a:B, const b:B, const c:B, const d:B, x:B):B {
+  t1 := a && b;
+  t2 := c && d;
+  if t1 { x := X(x); }
+  if t2 { x := X(x); }
+  if t1 { x := X(x); }
+  return x;
+}
+";
+
+const HELD_TEXT: &[u8] = b"OPENQASM 2.0;
+include \"qelib1.inc\";
+qreg q[7];
+// silqc in 0 q[0]
+// silqc in 1 q[1]
+// silqc in 2 q[2]
+// silqc in 3 q[3]
+// silqc in 4 q[4]
+ccx q[0],q[1],q[5];
+ccx q[2],q[3],q[6];
+cx q[5],q[4];
+cx q[6],q[4];
+ccx q[2],q[3],q[6];
+cx q[5],q[4];
+ccx q[0],q[1],q[5];
+// silqc out 0 q[4]
+// silqc out 1 q[0]
+// silqc out 2 q[1]
+// silqc out 3 q[2]
+// silqc out 4 q[3]
+";
+
+const REDONE_TEXT: &[u8] = b"OPENQASM 2.0;
+include \"qelib1.inc\";
+qreg q[6];
+// silqc in 0 q[0]
+// silqc in 1 q[1]
+// silqc in 2 q[2]
+// silqc in 3 q[3]
+// silqc in 4 q[4]
+ccx q[0],q[1],q[5];
+cx q[5],q[4];
+ccx q[0],q[1],q[5];
+ccx q[2],q[3],q[5];
+cx q[5],q[4];
+ccx q[2],q[3],q[5];
+ccx q[0],q[1],q[5];
+cx q[5],q[4];
+ccx q[0],q[1],q[5];
+// silqc out 0 q[4]
+// silqc out 1 q[0]
+// silqc out 2 q[1]
+// silqc out 3 q[2]
+// silqc out 4 q[3]
+";
+
 // The words of a command.
 fn words_of(alloc: Global, words: &[&str]) -> Result<Words, AllocError> {
     let mut list = Words::new(alloc);
@@ -45,6 +101,9 @@ struct Case<'a> {
     note: &'a [u8],
 }
 
+// The most bytes of a text.
+const ROOM: usize = 1000;
+
 const COMPILE: &[&str] = &["compile", "one.slq", "main", "--budget", "1"];
 
 // A command of these words that is refused with a note.
@@ -53,7 +112,7 @@ fn no_job<'a>(words: &'a [&'a str]) -> Case<'a> {
         words,
         bytes: ONE,
         file_fails: &[],
-        room: 200,
+        room: ROOM,
         code: 2,
         out: b"",
         note: b"silqc: the words are not a job\n",
@@ -66,10 +125,18 @@ fn compiled<'a>(bytes: &'a [u8], out: &'a [u8]) -> Case<'a> {
         words: COMPILE,
         bytes,
         file_fails: &[],
-        room: 200,
+        room: ROOM,
         code: 0,
         out,
         note: b"",
+    }
+}
+
+// `ONE` compiled to its text by these words.
+fn asked<'a>(words: &'a [&'a str]) -> Case<'a> {
+    Case {
+        words,
+        ..compiled(ONE, ONE_TEXT)
     }
 }
 
@@ -79,10 +146,18 @@ fn refused<'a>(bytes: &'a [u8], code: u8, note: &'a [u8]) -> Case<'a> {
         words: COMPILE,
         bytes,
         file_fails: &[],
-        room: 200,
+        room: ROOM,
         code,
         out: b"",
         note,
+    }
+}
+
+// A job of these words that is not built.
+fn unbuilt<'a>(words: &'a [&'a str]) -> Case<'a> {
+    Case {
+        words,
+        ..refused(ONE, 15, b"silqc: not built yet\n")
     }
 }
 
@@ -115,13 +190,34 @@ fn first_missed(alloc: Global, cases: &[Case]) -> Option<usize> {
 }
 
 #[test]
-fn commands(rt: HostRuntime) {
-    let unread = b"silqc: reading failed\n".as_slice();
-    let unbuilt = b"silqc: not built yet\n".as_slice();
+fn words(rt: HostRuntime) {
     let cases = [
         no_job(&[]),
+        no_job(&["compile", "one.slq"]),
         no_job(&["compile", "one.slq", "main", "--budget", "0"]),
+        no_job(&["compile", "one.slq", "main", "--budget=100001"]),
+        no_job(&[
+            "compile", "one.slq", "main", "--budget", "1", "--budget", "1",
+        ]),
+        no_job(&["compile", "one.slq", "main", "-"]),
+        no_job(&["compile", "--help"]),
+        no_job(&["check", "one.slq", "main", "--budget", "1"]),
         no_job(&["make", "one.slq", "main", "--budget", "1"]),
+        asked(&["compile", "one.slq", "main"]),
+        asked(&["compile", "one.slq", "main", "--budget=7"]),
+        asked(&["--budget", "1", "compile", "--", "one.slq", "main"]),
+        unbuilt(&["report", "one.slq", "main", "--budget", "1"]),
+        unbuilt(&["mean", "one.slq", "main", "0", "none"]),
+        unbuilt(&["amps", "one.slq", "0", "none"]),
+        unbuilt(&["gen", "7", "4"]),
+    ];
+    assert!(rt; first_missed(rt.alloc(), &cases).is_none());
+}
+
+#[test]
+fn files_and_sinks(rt: HostRuntime) {
+    let unread = b"silqc: reading failed\n".as_slice();
+    let cases = [
         Case {
             words: &["compile", "two.slq", "main", "--budget", "1"],
             ..refused(ONE, 3, unread)
@@ -135,6 +231,18 @@ fn commands(rt: HostRuntime) {
             out: &ONE_TEXT[..40],
             ..refused(ONE, 11, b"silqc: writing failed\n")
         },
+        Case {
+            room: 0,
+            ..refused(b"def main() { return; }", 11, b"silqc: writing failed\n")
+        },
+    ];
+    assert!(rt; first_missed(rt.alloc(), &cases).is_none());
+}
+
+#[test]
+fn texts(rt: HostRuntime) {
+    let sized = b"def main[n:!N](x:B):B { for i in [0..n) { x := H(x); } return x; }".as_slice();
+    let cases = [
         compiled(ONE, ONE_TEXT),
         compiled(
             b"/* H */ def main(x:\xf0\x9d\x94\xb9):B{// here\n x:=H(x);return x;}",
@@ -144,9 +252,34 @@ fn commands(rt: HostRuntime) {
             words: &["compile", "one.slq", "main", "--budget", "2"],
             ..compiled(TWO, TWO_TEXT)
         },
-        refused(TWO, 10, b"silqc: over budget: least 2, budget 1\n"),
-        refused(b"def main() { y := H(0:B); }", 15, unbuilt),
-        refused(b"", 15, unbuilt),
+        Case {
+            words: &["compile", "one.slq", "main", "001"],
+            ..compiled(sized, ONE_TEXT)
+        },
+        compiled(
+            b"def main() { return; }",
+            b"OPENQASM 2.0;\ninclude \"qelib1.inc\";\n",
+        ),
+        // Both conjunctions are held until their last use, or each is done again where it is used.
+        Case {
+            words: &["compile", "one.slq", "main"],
+            ..compiled(TWO_ANDS, HELD_TEXT)
+        },
+        Case {
+            words: &["compile", "one.slq", "main", "--budget", "7"],
+            ..compiled(TWO_ANDS, HELD_TEXT)
+        },
+        Case {
+            words: &["compile", "one.slq", "main", "--budget", "6"],
+            ..compiled(TWO_ANDS, REDONE_TEXT)
+        },
+    ];
+    assert!(rt; first_missed(rt.alloc(), &cases).is_none());
+}
+
+#[test]
+fn no_programs(rt: HostRuntime) {
+    let cases = [
         refused(
             b"def main(x:B) { x = H(x); }",
             4,
@@ -168,6 +301,54 @@ fn commands(rt: HostRuntime) {
             4,
             b"silqc: 1:24: syntax: number\n",
         ),
+        refused(b"", 5, b"silqc: 1:1: names: K1\n"),
+        refused(
+            b"def main() { y := H(0:B); }",
+            6,
+            b"silqc: 1:27: type: K11\n",
+        ),
+        refused(
+            b"def main[n:!N](x:B):B { return x; }",
+            6,
+            b"silqc: 1:1: type: K21\n",
+        ),
+        refused(
+            b"def main() { phase(pi/8); }",
+            7,
+            b"silqc: 1:20: unsupported: angle\n",
+        ),
+        refused(
+            b"def main() { for i in [0..1000000) { phase(0); } }",
+            8,
+            b"silqc: limit: walked 1000001\n",
+        ),
+    ];
+    assert!(rt; first_missed(rt.alloc(), &cases).is_none());
+}
+
+#[test]
+fn no_circuits(rt: HostRuntime) {
+    let cases = [
+        refused(
+            b"def main(x:B):B { y := dup(x); x := H(x); if y { x := X(x); } return x; }",
+            9,
+            b"silqc: cycle: F1@1 F2@1 R0@1\n",
+        ),
+        refused(
+            b"def main(x:B):B {\n  y := dup(x);\n  x := H(x);\n  x ^= y;\n  return x;\n}",
+            9,
+            b"silqc: cycle: F1@3 F2@4 R0@2\n",
+        ),
+        refused(TWO, 10, b"silqc: over budget: least 2, budget 1\n"),
+        refused(
+            b"def main(x:B, z:B):B\xc3\x97B { y := dup(x); x := H(x); if y { z := X(z); } return (x,z); }",
+            10,
+            b"silqc: over budget: least 3, budget 1\n",
+        ),
+        Case {
+            words: &["compile", "one.slq", "main", "--budget=5"],
+            ..refused(TWO_ANDS, 10, b"silqc: over budget: least 6, budget 5\n")
+        },
     ];
     assert!(rt; first_missed(rt.alloc(), &cases).is_none());
 }
@@ -204,23 +385,32 @@ fn checks(rt: HostRuntime) {
     assert!(rt; first_missed(rt.alloc(), &cases).is_none());
 }
 
-// How a command ends that reads and writes one byte at a time, and whether it writes the text of `ONE`.
-fn ends_slowly(alloc: Global) -> Result<(Status, bool), AllocError> {
-    let words = words_of(alloc, &["compile", "one.slq", "main", "--budget", "000001"])?;
+// How a command ends that reads these bytes and writes, one byte at a time, and whether it writes this text.
+fn ends_slowly(
+    alloc: Global,
+    words: &[&str],
+    bytes: &[u8],
+    text: &[u8],
+) -> Result<(Status, bool), AllocError> {
+    let words = words_of(alloc, words)?;
     let mut files = Slow {
-        inner: file_of(alloc, ONE, &[])?,
+        inner: file_of(alloc, bytes, &[])?,
     };
     let mut out = Slow {
-        inner: MemSink::new(alloc, 200, Vec::new(alloc))?,
+        inner: MemSink::new(alloc, ROOM, Vec::new(alloc))?,
     };
     let mut notes = MemSink::new(alloc, 200, Vec::new(alloc))?;
     let status = silqc(alloc, &words, &mut files, &mut out, &mut notes);
-    Ok((status, out.inner.bytes() == ONE_TEXT))
+    Ok((status, out.inner.bytes() == text))
 }
 
 #[test]
 fn one_byte_at_a_time(rt: HostRuntime) {
-    let ending = ends_slowly(rt.alloc());
+    let words = ["compile", "one.slq", "main", "--budget", "000001"];
+    let ending = ends_slowly(rt.alloc(), &words, ONE, ONE_TEXT);
+    assert!(rt; matches!(ending, Ok((Status::Done, true))));
+    let words = ["compile", "one.slq", "main", "--budget=6"];
+    let ending = ends_slowly(rt.alloc(), &words, TWO_ANDS, REDONE_TEXT);
     assert!(rt; matches!(ending, Ok((Status::Done, true))));
 }
 
@@ -242,7 +432,7 @@ fn blanks_end(
 fn the_longest_text(rt: HostRuntime) {
     let long = b"silqc: 1:1: syntax: long\n";
     let cases: [((&[u8], &[u8]), usize, u8, &[u8]); 7] = [
-        ((b"", b""), 1_048_576, 15, b"silqc: not built yet\n"),
+        ((b"", b""), 1_048_576, 5, b"silqc: 1:1: names: K1\n"),
         ((b"", b""), 1_048_577, 4, long),
         // One more byte than the limit is looked at: bytes that are no text come first, a character that its end cuts is none of them.
         (
@@ -265,4 +455,14 @@ fn the_longest_text(rt: HostRuntime) {
         let met = blanks_end(rt.alloc(), bytes, count, code, note);
         assert!(rt; met.unwrap_or(false), "{count} blanks");
     }
+}
+
+#[test]
+fn too_many_steps(rt: HostRuntime) {
+    let case = refused(
+        b"def main(x:B):B { for i in [0..200001) { x := X(x); } return x; }",
+        8,
+        b"silqc: limit: steps 200001\n",
+    );
+    assert!(rt; is_met(rt.alloc(), &case).unwrap_or(false));
 }
