@@ -40,7 +40,7 @@ pub fn answer(
 {
     let statics = statics_of(alloc, statics)?;
     let mut out = MemSink::new(alloc, ROOM, Vec::new(alloc))?;
-    match compile_text(alloc, text, entry, &statics, budget, &mut out) {
+    match compile_text(alloc, text, entry, &statics, budget, Output::Text, &mut out) {
         Ok(()) => text_in(alloc, out.bytes()),
         Err(fault) if out.bytes().is_empty() => refusal(alloc, fault, budget),
         Err(_) => String::from_str(alloc, "a text and a refusal"),

@@ -206,10 +206,86 @@ fn words(rt: HostRuntime) {
         asked(&["compile", "one.slq", "main"]),
         asked(&["compile", "one.slq", "main", "--budget=7"]),
         asked(&["--budget", "1", "compile", "--", "one.slq", "main"]),
-        unbuilt(&["report", "one.slq", "main", "--budget", "1"]),
         unbuilt(&["mean", "one.slq", "main", "0", "none"]),
         unbuilt(&["amps", "one.slq", "0", "none"]),
         unbuilt(&["gen", "7", "4"]),
+    ];
+    assert!(rt; first_missed(rt.alloc(), &cases).is_none());
+}
+
+const GROVER: &[u8] = b"def good[n:!N](const x:uint[n]) lifted : B { return x + 3 == 12; }
+def spread[n:!N](x:uint[n]) mfree : uint[n] {
+  for i in [0..n) { x[i] := H(x[i]); }
+  return x;
+}
+def grover[n:!N, k:!N]() : !uint[n] {
+  x := 0:uint[n];
+  x := spread[n](x);
+  for j in [0..k) {
+    if good[n](x) { phase(pi); }
+    x := spread[n](x);
+    if x == 0 { phase(pi); }
+    x := spread[n](x);
+  }
+  return measure(x);
+}
+";
+
+const FOUR_LINES: &[u8] = b"def main(const a:B^8, x:B):B {
+t0 := a[4] && a[5]; if t0 { x := X(x); }
+if a[5] { x := H(x); }
+t2 := a[2] && a[6]; if t2 { x := X(x); }
+if a[3] { x := H(x); }
+return x;
+}
+";
+
+// The report of these bytes by these words.
+fn reported<'a>(words: &'a [&'a str], bytes: &'a [u8], out: &'a [u8]) -> Case<'a> {
+    Case {
+        words,
+        ..compiled(bytes, out)
+    }
+}
+
+#[test]
+fn reports(rt: HostRuntime) {
+    let cases = [
+        reported(
+            &["report", "one.slq", "main", "--budget", "1"],
+            ONE,
+            b"wires 1\nsteps 1\noutcomes 0\nlevel 0\nmoves 1\nwidth 1\ngates 1\n",
+        ),
+        reported(
+            &["report", "one.slq", "main", "--budget", "6"],
+            TWO_ANDS,
+            b"wires 7\nsteps 5\noutcomes 0\nlevel 9\nmoves 9\nwidth 6\ngates 9\n",
+        ),
+        reported(
+            &["report", "one.slq", "main"],
+            TWO_ANDS,
+            b"wires 7\nsteps 5\noutcomes 0\nlevel 0\nmoves 7\nwidth 7\ngates 7\n",
+        ),
+        reported(
+            &["report", "one.slq", "main"],
+            FOUR_LINES,
+            b"wires 11\nsteps 6\noutcomes 0\nlevel 0\nmoves 8\nwidth 10\ngates 20\n",
+        ),
+        reported(
+            &["report", "one.slq", "grover", "4", "2"],
+            GROVER,
+            b"wires 34\nsteps 72\noutcomes 4\nlevel 0\nmoves 116\nwidth 14\ngates 164\n",
+        ),
+        Case {
+            words: &["report", "one.slq", "main", "--budget", "5"],
+            ..refused(TWO_ANDS, 10, b"silqc: over budget: least 6, budget 5\n")
+        },
+        Case {
+            words: &["report", "one.slq", "main", "--budget", "1"],
+            room: 20,
+            out: b"wires 1\nsteps 1\noutc",
+            ..refused(ONE, 11, b"silqc: writing failed\n")
+        },
     ];
     assert!(rt; first_missed(rt.alloc(), &cases).is_none());
 }
