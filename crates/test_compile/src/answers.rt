@@ -3,6 +3,7 @@
 ghost use Rattle.std.specs.Prelude.{◌≤◌};
 
 use crate::refusals::refusal;
+use flat_compile::Output;
 use silq_compile::compile_text;
 use silq_io::MemSink;
 use std::alloc::{AllocError, Global};
