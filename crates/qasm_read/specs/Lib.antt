@@ -1,0 +1,9 @@
+pub mod Registers
+pub mod Stored
+pub mod State
+pub mod Lines
+pub mod Refusals
+pub mod Earlier
+pub mod Statements
+pub mod Text
+pub mod Read
