@@ -1,6 +1,6 @@
 -- Registers as they are kept, and the definition's list of them.
-use Rattle.std.proofs.Common.{◌≡◌, ℕ, ◌+◌, Bool, true, false, cond, List, [], ◌∷◌, ◌++◌, refl, sym, ◌∙◌, ap, arith}
-use Rattle.std.specs.Prelude.{Option, Some, is_some, if◌then◌else◌, ◌||◌, sum_by}
+use Rattle.std.proofs.Common.{◌≡◌, ℕ, ◌+◌, Bool, true, false, cond, List, [], ◌∷◌, ◌++◌, refl, sym, ◌∙◌, ap, subst, ◌≤◌, ◌<◌, ◌^◌, arith}
+use Rattle.std.specs.Prelude.{Option, Some, None, IfSome, is_some, if◌then◌else◌, ◌||◌, sum_by}
 use Rattle.std.specs.Map.{lookup}
 use Rattle.std.specs.Str.{chars, bytes_eq, IsUtf8, encode_utf8_all}
 use Rattle.std.proofs.lemmas.Str.{encodes-chars}
@@ -73,9 +73,33 @@ module _ (name : Bor (List ℕ)) (text : IsUtf8 name.now) (bits : Bits) where
       let one : sum_by (λ (x : Register). x.size) (r ∷ []) ≡ bits.size = sum_by-cons (λ (x : Register). x.size) r [] ∙ omega arith in
       sum_by-append (λ (x : Register). x.size) rs (r ∷ []) ∙ ap (λ n. width rs + n) one
 
-  pub IsStored-push : (es : List (Bor (List ℕ) × Bits)) (total : ℕ) → IsStored es total → bits.first ≡ total → IsStored (es ++ (name, bits) ∷ []) (total + bits.size)
-  IsStored-push es total s e =
+  pub IsStored-push : (es : List (Bor (List ℕ) × Bits)) (total : ℕ) → IsStored es total → bits.first ≡ total → total + bits.size < 2 ^ 32
+      → IsStored (es ++ (name, bits) ∷ []) (total + bits.size)
+  IsStored-push es total s e l =
       record {
         in_turn = AreInTurn-push 0 es s.in_turn (let q : total ≡ width (registers_of es) = s.total_is in omega arith);
         total_is = ap (λ t. t + bits.size) s.total_is ∙ (sym (width-push (registers_of es)) ∙ ap width (sym (registers_of-push es (name, bits))));
+        small = l;
       }
+
+-- the bits of a register are among all
+pub bits_within : (first : ℕ) (rs : List Register) (name : List ℕ) (b : Bits) → bits_from first rs name ≡ Some b → b.first + b.size ≤ first + width rs
+bits_within first [] name b e = absurd (cc)
+bits_within first (r ∷ rs) name b e =
+    pick (bytes_eq r.name name) (bits_from (first + r.size) rs name) e (bits_within (first + r.size) rs name b)
+  where
+    all : width (r ∷ rs) ≡ r.size + width rs
+    all = sum_by-cons (λ (x : Register). x.size) r rs
+
+    mine : record { first = first; size = r.size } ≡ b → b.first + b.size ≤ first + width (r ∷ rs)
+    mine q = subst (λ (y : Bits). y.first + y.size ≤ first + width (r ∷ rs)) q (omega (arith, all))
+
+    pick : (t : Bool) (o : Option Bits) → (if t then Some (record { first = first; size = r.size }) else o) ≡ Some b
+        → (o ≡ Some b → b.first + b.size ≤ (first + r.size) + width rs) → b.first + b.size ≤ first + width (r ∷ rs)
+    pick true o q h = mine (cc)
+    pick false o q h = let l = h q in omega (arith, all, l)
+
+-- where all bits have numbers of 32 bits, so have those of a register
+pub bits_small : (rs : List Register) (name : List ℕ) (o : Option Bits) → o ≡ bits_from 0 rs name → width rs < 2 ^ 32 → IfSome o (λ b. b.first + b.size < 2 ^ 32)
+bits_small rs name None e l = tt
+bits_small rs name (Some b) e l = let w = bits_within 0 rs name b (sym e) in omega (arith, w, l)

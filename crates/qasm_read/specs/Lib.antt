@@ -5,5 +5,6 @@ pub mod Lines
 pub mod Refusals
 pub mod Earlier
 pub mod Statements
+pub mod Declarations
 pub mod Text
 pub mod Read

@@ -2,8 +2,13 @@
 //! Reading OpenQASM 2.0.
 
 pub mod fault;
+mod gate;
+mod gates;
+mod named;
 pub mod operand;
 pub mod refusal;
 pub mod registers;
+mod state;
+mod statement;
 
 pub use fault::QasmFault;

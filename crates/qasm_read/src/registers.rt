@@ -1,7 +1,7 @@
 //! Registers of one kind, by name.
 
-ghost use Rattle.std.specs.Prelude.{◌≡◌, ◌≤◌, ◌+◌, ◌<◌, ◌^◌, [], ◌∷◌, ◌++◌, false, chars, OnOk, OnErr, IfOk};
-ghost use Rattle.qasm_read.specs.Registers.{bits_of, has, width};
+ghost use Rattle.std.specs.Prelude.{◌≡◌, ◌≤◌, ◌+◌, ◌<◌, ◌^◌, [], ◌∷◌, ◌++◌, false, chars, OnOk, OnErr, IfOk, IfSome};
+ghost use Rattle.qasm_read.specs.Registers.{bit_of, bits_of, has, width};
 
 use indexmap::IndexMap;
 use std::alloc::{AllocError, Global};
@@ -51,11 +51,19 @@ impl<'s> Registers<'s> {
         self.total
     }
 
+    /// The bits of a register, and that their numbers have 32 bits.
+    fn stored(&self, name: &str) -> Option<Bits>
+        ensures value { result ≡ bits_of self.now (chars name.now) }
+        ensures fits { IfSome result (λ bits. bits.first + bits.size < 2 ^ 32) }
+    {
+        self.by_name.get(name).copied()
+    }
+
     /// The bits of a register.
     pub(crate) fn bits_of(&self, name: &str) -> Option<Bits>
         ensures { result ≡ bits_of self.now (chars name.now) }
     {
-        self.by_name.get(name).copied()
+        self.stored(name)
     }
 
     /// Whether there is a register of this name.
@@ -63,6 +71,18 @@ impl<'s> Registers<'s> {
         ensures { result ≡ has self.now (chars name.now) }
     {
         self.bits_of(name).is_some()
+    }
+
+    /// The bit with this index in the register of this name.
+    pub(crate) fn bit_of(&self, name: &str, index: u64) -> Option<u32>
+        ensures { result ≡ bit_of self.now (chars name.now) index }
+    {
+        let bits = self.stored(name)?;
+        if index < u64::from(bits.size) {
+            Some(bits.first + index as u32)
+        } else {
+            None
+        }
     }
 
     /// Adds a register at the end. It fails only where memory runs out.
