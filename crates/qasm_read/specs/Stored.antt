@@ -1,7 +1,9 @@
--- Registers as the program keeps them: by name, each with its bits.
-use Rattle.std.specs.Prelude.{◌≡◌, ℕ, ◌+◌, List, [], ◌∷◌}
+-- Registers, statements and named qubits as the program keeps them.
+use Rattle.std.specs.Prelude.{◌≡◌, ◌↔◌, ℕ, ◌+◌, List, [], ◌∷◌, Contains, flat_map}
 use Rattle.std.specs.Str.{chars, IsUtf8}
 use denote.Bor.{Bor}
+use Rattle.gate_core.specs.declared.gate.Gate.{Gate}
+use Rattle.gate_core.specs.Circuit.{measured_bits}
 use Rattle.qasm_read.specs.declared.registers.Bits.{Bits}
 use Rattle.qasm_read.specs.Registers.{Register, width}
 
@@ -20,3 +22,11 @@ AreInTurn first (e ∷ es) = (e.1.first ≡ first) × IsUtf8 e.0.now × AreInTur
 pub record IsStored (entries : List (Bor (List ℕ) × Bits)) (total : ℕ) : Type 0 where
   pub in_turn : AreInTurn 0 entries
   pub total_is : total ≡ width (registers_of entries)
+
+-- the set has the bits that the statements measure
+pub record IsMeasured (gates : List Gate) (measured : List ℕ) : Type 0 where
+  pub index : (b : ℕ) → Contains measured b ↔ Contains (measured_bits gates) b
+
+-- the set has the qubits of all the lists
+pub record IsNamed (lists : List (List ℕ)) (qubits : List ℕ) : Type 0 where
+  pub index : (q : ℕ) → Contains qubits q ↔ Contains (flat_map (λ l. l) lists) q
