@@ -1,6 +1,6 @@
 -- What an item without a refusal allows.
 use Rattle.std.proofs.Common.{◌≡◌, ℕ, ◌+◌, ◌<◌, ◌^◌, Bool, true, false, List, [], ◌∷◌, ◌++◌, nat_lt, refl, arith}
-use Rattle.std.specs.Prelude.{◌||◌, ◌&&◌, ◌==◌}
+use Rattle.std.specs.Prelude.{◌||◌, ◌==◌}
 use Rattle.std.proofs.lemmas.Bool.Decides.{nat_tests}
 use Rattle.silq_io.specs.declared.limit.LimitKind.{LimitKind}
 use Rattle.silq_io.specs.declared.limit.LimitKind.TheVariants as limits
@@ -43,13 +43,15 @@ fits registers first which most l (At at n) e =
 pub may_declare_qubits : (s : State) (first : Token) (os : List Operand) → declaration_refusals s s.qubits true first limits.Qubits 100000 os ≡ [] → MayDeclare s.qubits os
 may_declare_qubits s first [] e = tt
 may_declare_qubits s first (o ∷ os) e =
-    let known = has s.qubits o.name.text || has s.bits o.name.text in
-    (or_left (has s.qubits o.name.text) (has s.bits o.name.text) (none_where known _ (left_none (where_ known _) _ e)),
-    fits s.qubits first limits.Qubits 100000 (omega arith) o.index (right_none (where_ known _) _ e))
+    let known = has s.qubits o.name.text || has s.bits o.name.text in (
+      or_left (has s.qubits o.name.text) (has s.bits o.name.text) (none_where known _ (left_none (where_ known _) _ e)),
+      fits s.qubits first limits.Qubits 100000 (omega arith) o.index (right_none (where_ known _) _ e),
+    )
 
 pub may_declare_bits : (s : State) (first : Token) (os : List Operand) → declaration_refusals s s.bits true first limits.Outcomes 4096 os ≡ [] → MayDeclare s.bits os
 may_declare_bits s first [] e = tt
 may_declare_bits s first (o ∷ os) e =
-    let known = has s.qubits o.name.text || has s.bits o.name.text in
-    (or_right (has s.qubits o.name.text) (has s.bits o.name.text) (none_where known _ (left_none (where_ known _) _ e)),
-    fits s.bits first limits.Outcomes 4096 (omega arith) o.index (right_none (where_ known _) _ e))
+    let known = has s.qubits o.name.text || has s.bits o.name.text in (
+      or_right (has s.qubits o.name.text) (has s.bits o.name.text) (none_where known _ (left_none (where_ known _) _ e)),
+      fits s.bits first limits.Outcomes 4096 (omega arith) o.index (right_none (where_ known _) _ e),
+    )

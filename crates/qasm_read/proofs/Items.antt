@@ -53,7 +53,7 @@ pub if_of-read : (s : State) (ts : List ReadToken) (x y z : ReadToken) (b : Opti
     → r ≡ if_of s (tokens_of ts)
 if_of-read s ts x y z b v g r l e eb ev eg =
     let tail : g ≡ plain_of (get_or ts 5 z).kind (filter_map (λ o. bit_named s.qubits o) (operands (tokens_of (drop 6 ts)))) =
-      eg ∙ ap (λ (rest : List ReadToken). plain_of (get_or ts 5 z).kind (filter_map (λ o. bit_named s.qubits o) (operands (tokens_of rest)))) (behind_first 6 ts) in
+    eg ∙ ap (λ (rest : List ReadToken). plain_of (get_or ts 5 z).kind (filter_map (λ o. bit_named s.qubits o) (operands (tokens_of rest)))) (behind_first 6 ts) in
     e ∙ (ap (λ (c : Option Bits). if_from c v g) eb
     ∙ (ap (λ (w : Option ℕ). if_from (bits_of s.bits (chars (get_or ts 1 x).text.now)) w g) ev
     ∙ (ap (λ (h : Option PlainGate). if_from (bits_of s.bits (chars (get_or ts 1 x).text.now)) (value_of (Some (token_of (get_or ts 3 y)))) h) tail

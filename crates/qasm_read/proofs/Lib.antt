@@ -5,3 +5,7 @@ pub mod Kept
 pub mod Bits
 pub mod Allowed
 pub mod Items
+pub mod Cuts
+pub mod Spaces
+pub mod Plain
+pub mod Qubits

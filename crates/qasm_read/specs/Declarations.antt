@@ -1,5 +1,5 @@
 -- What a declaration may add to the registers.
-use Rattle.std.specs.Prelude.{◌≡◌, ℕ, ◌+◌, ◌<◌, ◌^◌, false, List, [], ◌∷◌}
+use Rattle.std.specs.Prelude.{◌≡◌, ◌+◌, ◌<◌, ◌^◌, false, List, [], ◌∷◌}
 use Rattle.qasm_read.specs.declared.operand.Index.{Index}
 use Rattle.qasm_read.specs.declared.operand.Index.TheVariants.{Bare, Open, At}
 use Rattle.qasm_read.specs.Registers.{Register, has, width}

@@ -8,3 +8,4 @@ pub mod Statements
 pub mod Declarations
 pub mod Text
 pub mod Read
+pub mod Written

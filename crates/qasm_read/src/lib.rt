@@ -4,6 +4,7 @@
 pub mod fault;
 mod gate;
 mod gates;
+mod line;
 mod named;
 pub mod operand;
 pub mod refusal;

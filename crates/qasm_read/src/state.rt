@@ -27,16 +27,14 @@ impl<'s> Model for State<'s> {
 
     ghost Value = { spec.State };
 
-    ghost view = {
-        λ s. record {
-            included = s.included;
-            qubits = s.qubits;
-            bits = s.bits;
-            gates = s.gates;
-            ins = s.ins;
-            outs = s.outs;
-        }
-    };
+    ghost view = { λ s. record {
+      included = s.included;
+      qubits = s.qubits;
+      bits = s.bits;
+      gates = s.gates;
+      ins = s.ins;
+      outs = s.outs;
+    } };
 }
 
 impl<'s> State<'s> {

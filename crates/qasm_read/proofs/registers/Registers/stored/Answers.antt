@@ -1,5 +1,4 @@
-use Rattle.std.proofs.Common.{◌≡◌, ◌<◌, ◌^◌, chars, ◌∙◌, arith}
-use Rattle.qasm_read.specs.Registers.{bits_from, width}
+use Rattle.std.proofs.Common.{chars, ◌∙◌, arith}
 use Rattle.qasm_read.specs.Stored.{registers_of}
 use Rattle.qasm_read.proofs.Found.{bits_found, bits_small}
 use Rattle.qasm_read.proofs.registers.Registers.stored.Goals as goal
