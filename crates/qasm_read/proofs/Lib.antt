@@ -9,3 +9,4 @@ pub mod Cuts
 pub mod Spaces
 pub mod Plain
 pub mod Qubits
+pub mod Gathered

@@ -1,6 +1,6 @@
 //! Comment lines that name qubits.
 
-ghost use Rattle.std.specs.Prelude.{◌≡◌, ◌<◌, ◌==◌, not, chars, length, IfOk, IfNone, IfSome};
+ghost use Rattle.std.specs.Prelude.{◌≡◌, ◌<◌, ◌==◌, not, chars, length, option_map, IfOk, IfNone, IfSome};
 ghost use Rattle.std.specs.List.{list_all};
 ghost use Rattle.std.specs.Str.{IsUtf8};
 ghost use Rattle.silq_lex.specs.Characters.{is_digit};
@@ -86,4 +86,22 @@ fn qubit_named(registers: &Registers, text: &str) -> Option<u32>
     } else {
         None
     }
+}
+
+/// All the qubits that are written so.
+fn qubits_named(
+    alloc: Global,
+    registers: &Registers,
+    texts: &[&str],
+) -> Result<Option<Vec<u32>>, AllocError>
+    ensures { IfOk result (λ found. option_map (λ qs. qs.items) found ≡ spec.qubits_named registers.now (texts_of texts.now)) }
+{
+    let mut found = Vec::new(alloc);
+    for text in texts {
+        match qubit_named(registers, text) {
+            Some(q) => found.push(q)?,
+            None => return Ok(None),
+        }
+    }
+    Ok(Some(found))
 }
