@@ -1,0 +1,12 @@
+pub mod Order
+pub mod Found
+pub mod Operands
+pub mod Kept
+pub mod Bits
+pub mod Allowed
+pub mod Items
+pub mod Cuts
+pub mod Spaces
+pub mod Plain
+pub mod Qubits
+pub mod Gathered

@@ -1,0 +1,11 @@
+pub mod Registers
+pub mod Stored
+pub mod State
+pub mod Lines
+pub mod Refusals
+pub mod Earlier
+pub mod Statements
+pub mod Declarations
+pub mod Text
+pub mod Read
+pub mod Written
