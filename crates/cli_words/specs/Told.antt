@@ -12,8 +12,9 @@ told (jobs.Mean source bits outcome) = words.mean source.file.now source.entry.n
 told (jobs.Amps file bits outcome) = words.amps file.now bits.items outcome.items
 told (jobs.Gen number size) = words.gen number size
 
--- a budget is 1 to 100,000
+-- a budget is 1 to 100,000, and a size 1 to 10,000
 abbrev pub IsInRange : Job → Type 0
 IsInRange (jobs.Compile source budget) = (0 < budget) × (budget ≤ 100000)
 IsInRange (jobs.Report source budget) = (0 < budget) × (budget ≤ 100000)
+IsInRange (jobs.Gen number size) = (0 < size) × (size ≤ 10000)
 IsInRange job = Unit {0}

@@ -55,7 +55,7 @@ pub enum Job<'a> {
 pub fn read_job<'a>(alloc: Global, words: &'a [&'a str]) -> Result<Job<'a>, WordFault>
     requires { AreTexts (map (λ s. s.now) words.now) }
     ensures ok { IfOk result (λ j. job_of (map (λ s. s.now) words.now) ≡ Some (told j)) }
-    ensures budget { IfOk result (λ j. IsInRange j) }
+    ensures range { IfOk result (λ j. IsInRange j) }
     ensures err { IfErr result (λ e. e ≡ WordFault.NotAJob → job_of (map (λ s. s.now) words.now) ≡ None) }
 {
     match part(alloc, words) {
@@ -67,7 +67,7 @@ pub fn read_job<'a>(alloc: Global, words: &'a [&'a str]) -> Result<Job<'a>, Word
 // The job of the parts that the matches have.
 fn job_in<'a>(alloc: Global, matches: &ArgMatches<'a>) -> Result<Job<'a>, WordFault>
     ensures ok { IfOk result (λ j. job_in (parts_of matches.now) ≡ Some (told j)) }
-    ensures budget { IfOk result (λ j. IsInRange j) }
+    ensures range { IfOk result (λ j. IsInRange j) }
     ensures err { IfErr result (λ e. e ≡ WordFault.NotAJob → job_in (parts_of matches.now) ≡ None) }
 {
     let plain = plain_of(alloc, matches)?;
@@ -101,7 +101,7 @@ fn is_word(word: &str, text: &str) -> bool
 // The job of the plain words, the first of which is its name.
 fn plain_job<'a>(alloc: Global, plain: &[&'a str], budgets: &[&str]) -> Result<Job<'a>, WordFault>
     ensures ok { IfOk result (λ j. plain_job (map (λ s. s.now) plain.now) (map (λ s. s.now) budgets.now) ≡ Some (told j)) }
-    ensures budget { IfOk result (λ j. IsInRange j) }
+    ensures range { IfOk result (λ j. IsInRange j) }
     ensures err { IfErr result (λ e. e ≡ WordFault.NotAJob → plain_job (map (λ s. s.now) plain.now) (map (λ s. s.now) budgets.now) ≡ None) }
 {
     match plain {
@@ -118,7 +118,7 @@ fn named_job<'a>(
     budgets: &[&str],
 ) -> Result<Job<'a>, WordFault>
     ensures ok { IfOk result (λ j. plain_job (command.now ∷ map (λ s. s.now) args.now) (map (λ s. s.now) budgets.now) ≡ Some (told j)) }
-    ensures budget { IfOk result (λ j. IsInRange j) }
+    ensures range { IfOk result (λ j. IsInRange j) }
     ensures err { IfErr result (λ e. e ≡ WordFault.NotAJob
         → plain_job (command.now ∷ map (λ s. s.now) args.now) (map (λ s. s.now) budgets.now) ≡ None) }
 {
@@ -138,7 +138,7 @@ fn named_job<'a>(
 fn compile_job<'a>(alloc: Global, args: &[&'a str], budgets: &[&str]) -> Result<Job<'a>, WordFault>
     ensures ok { IfOk result (λ j. option_and_then (λ b. file_job (λ f e s. asked.compile f e s b) (map (λ s. s.now) args.now))
         (budget_of (map (λ s. s.now) budgets.now)) ≡ Some (told j)) }
-    ensures budget { IfOk result (λ j. IsInRange j) }
+    ensures range { IfOk result (λ j. IsInRange j) }
     ensures err { IfErr result (λ e. e ≡ WordFault.NotAJob → option_and_then (λ b. file_job (λ f e s. asked.compile f e s b) (map (λ s. s.now) args.now))
         (budget_of (map (λ s. s.now) budgets.now)) ≡ None) }
 {
@@ -155,7 +155,7 @@ fn compile_job<'a>(alloc: Global, args: &[&'a str], budgets: &[&str]) -> Result<
 fn report_job<'a>(alloc: Global, args: &[&'a str], budgets: &[&str]) -> Result<Job<'a>, WordFault>
     ensures ok { IfOk result (λ j. option_and_then (λ b. file_job (λ f e s. asked.report f e s b) (map (λ s. s.now) args.now))
         (budget_of (map (λ s. s.now) budgets.now)) ≡ Some (told j)) }
-    ensures budget { IfOk result (λ j. IsInRange j) }
+    ensures range { IfOk result (λ j. IsInRange j) }
     ensures err { IfErr result (λ e. e ≡ WordFault.NotAJob → option_and_then (λ b. file_job (λ f e s. asked.report f e s b) (map (λ s. s.now) args.now))
         (budget_of (map (λ s. s.now) budgets.now)) ≡ None) }
 {
@@ -171,7 +171,7 @@ fn report_job<'a>(alloc: Global, args: &[&'a str], budgets: &[&str]) -> Result<J
 // A job that takes no option.
 fn bare_job<'a>(alloc: Global, command: &str, args: &[&'a str]) -> Result<Job<'a>, WordFault>
     ensures ok { IfOk result (λ j. bare_job command.now (map (λ s. s.now) args.now) ≡ Some (told j)) }
-    ensures budget { IfOk result (λ j. IsInRange j) }
+    ensures range { IfOk result (λ j. IsInRange j) }
     ensures err { IfErr result (λ e. e ≡ WordFault.NotAJob → bare_job command.now (map (λ s. s.now) args.now) ≡ None) }
 {
     if is_word(command, "check") {
@@ -192,7 +192,7 @@ fn bare_job<'a>(alloc: Global, command: &str, args: &[&'a str]) -> Result<Job<'a
 // FILE ENTRY STATIC..
 fn check_job<'a>(alloc: Global, args: &[&'a str]) -> Result<Job<'a>, WordFault>
     ensures ok { IfOk result (λ j. file_job asked.check (map (λ s. s.now) args.now) ≡ Some (told j)) }
-    ensures budget { IfOk result (λ j. IsInRange j) }
+    ensures range { IfOk result (λ j. IsInRange j) }
     ensures err { IfErr result (λ e. e ≡ WordFault.NotAJob → file_job asked.check (map (λ s. s.now) args.now) ≡ None) }
 {
     let source = file_source(alloc, args)?;
@@ -202,7 +202,7 @@ fn check_job<'a>(alloc: Global, args: &[&'a str]) -> Result<Job<'a>, WordFault>
 // FILE ENTRY BITS OUTCOME STATIC..
 fn mean_job<'a>(alloc: Global, args: &[&'a str]) -> Result<Job<'a>, WordFault>
     ensures ok { IfOk result (λ j. mean_job (map (λ s. s.now) args.now) ≡ Some (told j)) }
-    ensures budget { IfOk result (λ j. IsInRange j) }
+    ensures range { IfOk result (λ j. IsInRange j) }
     ensures err { IfErr result (λ e. e ≡ WordFault.NotAJob → mean_job (map (λ s. s.now) args.now) ≡ None) }
 {
     match args {
@@ -225,7 +225,7 @@ fn mean_job<'a>(alloc: Global, args: &[&'a str]) -> Result<Job<'a>, WordFault>
 // FILE BITS OUTCOME
 fn amps_job<'a>(alloc: Global, args: &[&'a str]) -> Result<Job<'a>, WordFault>
     ensures ok { IfOk result (λ j. amps_job (map (λ s. s.now) args.now) ≡ Some (told j)) }
-    ensures budget { IfOk result (λ j. IsInRange j) }
+    ensures range { IfOk result (λ j. IsInRange j) }
     ensures err { IfErr result (λ e. e ≡ WordFault.NotAJob → amps_job (map (λ s. s.now) args.now) ≡ None) }
 {
     match args {
@@ -248,7 +248,7 @@ fn amps_job<'a>(alloc: Global, args: &[&'a str]) -> Result<Job<'a>, WordFault>
 // NUMBER SIZE
 fn gen_job<'a>(args: &[&'a str]) -> Result<Job<'a>, WordFault>
     ensures ok { IfOk result (λ j. gen_job (map (λ s. s.now) args.now) ≡ Some (told j)) }
-    ensures budget { IfOk result (λ j. IsInRange j) }
+    ensures range { IfOk result (λ j. IsInRange j) }
     ensures err { IfErr result (λ e. e ≡ WordFault.NotAJob → gen_job (map (λ s. s.now) args.now) ≡ None) }
 {
     match args {
@@ -362,7 +362,8 @@ fn read_budget(budgets: &[&str]) -> Option<u32>
 
 // The size of a program.
 fn read_size(word: &str) -> Option<u32>
-    ensures { result ≡ size_of word.now }
+    ensures value { result ≡ size_of word.now }
+    ensures range { IfSome result (λ n. (0 < n) × (n ≤ 10000)) }
 {
     value_between(read_number(word, 5)?, 10_000)
 }

@@ -2,7 +2,7 @@
 //! silqc: compiles a program of a profile of Silq to OpenQASM 2.0.
 
 ghost use Rattle.std.specs.Prelude.{◌≡◌, ◌≢◌, ℕ, ◌≤◌, ◌<◌, ◌⊎◌, List, [], IfSome, None, Option, Some, map};
-ghost use Rattle.cli_words.specs.Job.{job_of};
+ghost use Rattle.cli_words.specs.Job.{gen, job_of};
 ghost use Rattle.cli_words.specs.Told.{IsInRange, told};
 ghost use Rattle.flat_compile.specs.declared.cycle.CyclePlace.{CyclePlace};
 ghost use Rattle.silq_io.specs.Counts.{Rose};
@@ -11,7 +11,7 @@ ghost use Rattle.silq_io.specs.declared.fault.SyntaxCause.{SyntaxCause};
 ghost use Rattle.silq_io.specs.declared.fault.What.{What};
 ghost use Rattle.silq_io.specs.declared.limit.LimitKind.{LimitKind};
 ghost use Rattle.silqc.specs.Answer.{BreaksRule, BreaksText, EndsWell, HasCycle, HasFault, HasUnsupported, NeedsMore, OfProgram, PassesLimit};
-ghost use Rattle.silqc.specs.Command.{Command, ForCommand, ForSource, IsCommand, IsOtherJob, job_for, source_of};
+ghost use Rattle.silqc.specs.Command.{Command, ForCommand, ForSource, HadFault, IsCommand, IsOtherJob, IsReadWhole, bytes_at, command_of, source_of};
 ghost use Rattle.silqc.specs.Ending.{CanEnd, Tells, TellsItsRules};
 ghost use Rattle.silqc.specs.Exact.{EndsAtFault, EndsByAnswer, EndsByPlan};
 ghost use Rattle.silqc.specs.Note.{Noted, note_of};
@@ -25,7 +25,7 @@ pub mod status;
 
 use asked::Asked;
 use cli_words::{Job, WordFault, read_job, texts};
-use file::run_file;
+use file::{run_file, run_generated};
 use flat_compile::Output;
 use silq_io::{Files, Sink, Words};
 use status::Status;
@@ -33,8 +33,9 @@ use std::alloc::Global;
 
 /// Carries out the command of these words. `compile FILE ENTRY STATIC..`, with an optional `--budget N`, reads the file from `files`, and
 /// puts the OpenQASM text of the function ENTRY with these values of its static parameters to `out`; `report` of the same words puts
-/// the seven lines of its report. `check FILE ENTRY STATIC..` checks
-/// the program from that function, and puts nothing to `out`. A refusal puts one line to `notes`.
+/// the seven lines of its report. `check FILE ENTRY STATIC..` checks the program from that function, and puts nothing to `out`.
+/// `gen NUMBER SIZE` makes a program of SIZE lines from a number, and reports of its `main` within 4,096 qubits; it reads no file.
+/// A refusal puts one line to `notes`.
 ///
 /// Want of memory alone may come at any time before the first byte is put.
 pub fn silqc<F: Files, S: Sink, N: Sink>(
@@ -46,11 +47,11 @@ pub fn silqc<F: Files, S: Sink, N: Sink>(
 ) -> Status
     // The headline: the text put is that of a circuit that gives exactly the source's amplitudes, within the budget.
     ensures done { result ≡ Status.Done → ForSource words.now (F.held files.old) (λ b. OfProgram (EndsWell (S.put_so_far out.old) (S.put_so_far out.new) b)) }
-    ensures read_whole { result ≡ Status.Done → ForCommand words.now (F.held files.old) (λ c _. F.left files.new c.file ≡ Some []) }
+    ensures read_whole { result ≡ Status.Done → ForCommand words.now (F.held files.old) (λ c _. IsReadWhole (F.left files.new) c.origin) }
 
     // When each refusal comes.
     ensures words { result ≡ Status.Words → job_of words.now ≡ None }
-    ensures read_fault { result ≡ Status.ReadFault → (c : Command) → IsCommand words.now c → Rose (F.faults files.old c.file) (F.faults files.new c.file) }
+    ensures read_fault { result ≡ Status.ReadFault → (c : Command) → IsCommand words.now c → HadFault (F.faults files.old) (F.faults files.new) c.origin }
     ensures syntax { (cause : SyntaxCause) (line col : ℕ) → result ≡ Status.Syntax cause line col → ForSource words.now (F.held files.old) (HasFault (record { cause = cause; line = line; col = col })) }
     ensures names { (rule line col : ℕ) → result ≡ Status.Names rule line col → ForSource words.now (F.held files.old) (λ b. OfProgram (BreaksRule rule line col)) }
     ensures typing { (rule line col : ℕ) → result ≡ Status.Typing rule line col → ForSource words.now (F.held files.old) (λ b. OfProgram (BreaksRule rule line col)) }
@@ -78,6 +79,7 @@ pub fn silqc<F: Files, S: Sink, N: Sink>(
 
     // What never changes or falls.
     ensures held { (name : List ℕ) → F.held files.new name ≡ F.held files.old name }
+    ensures no_file { (number size : ℕ) → job_of words.now ≡ Some (gen number size) → files.new ≡ files.old }
     ensures file_counts { (name : List ℕ) → F.faults files.old name ≤ F.faults files.new name }
     ensures out_count { S.faults out.old ≤ S.faults out.new }
     ensures note_count { N.faults notes.old ≤ N.faults notes.new }
@@ -96,12 +98,13 @@ fn run<F: Files, S: Sink>(alloc: Global, words: &Words, files: &mut F, out: &mut
     ensures rules { TellsItsRules result }
     ensures can_end { (c : Command) → IsCommand words.now c → CanEnd c.asked result }
     ensures tells { ForSource words.now (F.held files.old) (Tells (S.put_so_far out.old) (S.put_so_far out.new) result) }
-    ensures read_whole { result ≡ Status.Done → ForCommand words.now (F.held files.old) (λ c _. F.left files.new c.file ≡ Some []) }
-    ensures read_fault { result ≡ Status.ReadFault → (c : Command) → IsCommand words.now c → Rose (F.faults files.old c.file) (F.faults files.new c.file) }
+    ensures read_whole { result ≡ Status.Done → ForCommand words.now (F.held files.old) (λ c _. IsReadWhole (F.left files.new) c.origin) }
+    ensures read_fault { result ≡ Status.ReadFault → (c : Command) → IsCommand words.now c → HadFault (F.faults files.old) (F.faults files.new) c.origin }
     ensures write_fault { result ≡ Status.WriteFault → Rose (S.faults out.old) (S.faults out.new) }
     ensures refused { result ≢ Status.Done → result ≢ Status.WriteFault → Adds (S.put_so_far out.old) (S.put_so_far out.new) [] }
     ensures checked { (c : Command) → IsCommand words.now c → c.asked ≡ None → Adds (S.put_so_far out.old) (S.put_so_far out.new) [] }
     ensures held { (name : List ℕ) → F.held files.new name ≡ F.held files.old name }
+    ensures no_file { (number size : ℕ) → job_of words.now ≡ Some (gen number size) → files.new ≡ files.old }
     ensures file_counts { (name : List ℕ) → F.faults files.old name ≤ F.faults files.new name }
     ensures out_count { S.faults out.old ≤ S.faults out.new }
 {
@@ -119,17 +122,20 @@ fn run<F: Files, S: Sink>(alloc: Global, words: &Words, files: &mut F, out: &mut
 fn run_job<F: Files, S: Sink>(alloc: Global, job: &Job, files: &mut F, out: &mut S) -> Status
     requires { IsInRange job.now }
     ensures words { result ≢ Status.Words }
-    ensures unbuilt { result ≡ Status.Unbuilt → (c : Command) → told job.now ≢ job_for c }
-    ensures other_job { ((c : Command) → told job.now ≢ job_for c) → result ≡ Status.Unbuilt }
+    ensures unbuilt { result ≡ Status.Unbuilt → command_of (told job.now) ≡ None }
+    ensures other_job { command_of (told job.now) ≡ None → result ≡ Status.Unbuilt }
     ensures rules { TellsItsRules result }
-    ensures can_end { (c : Command) → told job.now ≡ job_for c → CanEnd c.asked result }
-    ensures tells { (c : Command) → told job.now ≡ job_for c → IfSome (F.held files.old c.file) (λ bytes. Tells (S.put_so_far out.old) (S.put_so_far out.new) result c.asked (source_of c bytes)) }
-    ensures read_whole { result ≡ Status.Done → (c : Command) → told job.now ≡ job_for c → IfSome (F.held files.old c.file) (λ _. F.left files.new c.file ≡ Some []) }
-    ensures read_fault { result ≡ Status.ReadFault → (c : Command) → told job.now ≡ job_for c → Rose (F.faults files.old c.file) (F.faults files.new c.file) }
+    ensures can_end { (c : Command) → command_of (told job.now) ≡ Some c → CanEnd c.asked result }
+    ensures tells { (c : Command) → command_of (told job.now) ≡ Some c
+        → IfSome (bytes_at (F.held files.old) c.origin) (λ bytes. Tells (S.put_so_far out.old) (S.put_so_far out.new) result c.asked (source_of c bytes)) }
+    ensures read_whole { result ≡ Status.Done → (c : Command) → command_of (told job.now) ≡ Some c
+        → IfSome (bytes_at (F.held files.old) c.origin) (λ _. IsReadWhole (F.left files.new) c.origin) }
+    ensures read_fault { result ≡ Status.ReadFault → (c : Command) → command_of (told job.now) ≡ Some c → HadFault (F.faults files.old) (F.faults files.new) c.origin }
     ensures write_fault { result ≡ Status.WriteFault → Rose (S.faults out.old) (S.faults out.new) }
     ensures refused { result ≢ Status.Done → result ≢ Status.WriteFault → Adds (S.put_so_far out.old) (S.put_so_far out.new) [] }
-    ensures checked { (c : Command) → told job.now ≡ job_for c → c.asked ≡ None → Adds (S.put_so_far out.old) (S.put_so_far out.new) [] }
+    ensures checked { (c : Command) → command_of (told job.now) ≡ Some c → c.asked ≡ None → Adds (S.put_so_far out.old) (S.put_so_far out.new) [] }
     ensures held { (name : List ℕ) → F.held files.new name ≡ F.held files.old name }
+    ensures no_file { (number size : ℕ) → told job.now ≡ gen number size → files.new ≡ files.old }
     ensures file_counts { (name : List ℕ) → F.faults files.old name ≤ F.faults files.new name }
     ensures out_count { S.faults out.old ≤ S.faults out.new }
 {
@@ -149,7 +155,8 @@ fn run_job<F: Files, S: Sink>(alloc: Global, job: &Job, files: &mut F, out: &mut
             out,
         ),
         Job::Check { source } => run_file(alloc, source, None, files, out),
-        Job::Mean { .. } | Job::Amps { .. } | Job::Gen { .. } => Status::Unbuilt,
+        Job::Gen { number, size } => run_generated(alloc, *number, *size, out),
+        Job::Mean { .. } | Job::Amps { .. } => Status::Unbuilt,
     }
 }
 

@@ -208,7 +208,8 @@ fn words(rt: HostRuntime) {
         asked(&["--budget", "1", "compile", "--", "one.slq", "main"]),
         unbuilt(&["mean", "one.slq", "main", "0", "none"]),
         unbuilt(&["amps", "one.slq", "0", "none"]),
-        unbuilt(&["gen", "7", "4"]),
+        no_job(&["gen", "7", "10001"]),
+        no_job(&["gen", "7", "4", "--budget", "1"]),
     ];
     assert!(rt; first_missed(rt.alloc(), &cases).is_none());
 }
@@ -276,6 +277,21 @@ fn reports(rt: HostRuntime) {
             GROVER,
             b"wires 34\nsteps 72\noutcomes 4\nlevel 0\nmoves 116\nwidth 14\ngates 164\n",
         ),
+        // the program of four lines is that of the number 7, and no file is read
+        Case {
+            words: &["gen", "7", "4"],
+            file_fails: &[1],
+            ..compiled(
+                ONE,
+                b"wires 11\nsteps 6\noutcomes 0\nlevel 0\nmoves 8\nwidth 10\ngates 20\n",
+            )
+        },
+        Case {
+            words: &["gen", "7", "4"],
+            room: 8,
+            out: b"wires 11",
+            ..refused(ONE, 11, b"silqc: writing failed\n")
+        },
         Case {
             words: &["report", "one.slq", "main", "--budget", "5"],
             ..refused(TWO_ANDS, 10, b"silqc: over budget: least 6, budget 5\n")
