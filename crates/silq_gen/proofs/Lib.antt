@@ -1,2 +1,2 @@
 mod Added
-mod Told
+pub mod Told

@@ -14,7 +14,7 @@ use Rattle.silqc.specs.declared.asked.Asked.{Asked}
 use Rattle.silqc.specs.declared.status.Status.{Status}
 use Rattle.silqc.specs.declared.status.Status.TheVariants.{Done, Words, ReadFault, Syntax, Names, Typing, Unsupported, Limit, Cycle, OverBudget, WriteFault, Memory, Unbuilt}
 use Rattle.silqc.specs.Answer.{OfProgram, PassesLimit, most}
-use Rattle.silqc.specs.Command.{Command, ForSource, IsCommand, source_of}
+use Rattle.silqc.specs.Command.{Command, ForSource, IsCommand, bytes_at, source_of}
 use Rattle.silqc.specs.Ending.{CanEnd, Tells}
 use Rattle.silqc.specs.Exact.{EndsAtFault, EndsBy, EndsByAnswer, EndsByTyping}
 use Rattle.silqc.specs.Program.{FileFault, first_file_fault}
@@ -132,14 +132,14 @@ ends_by_answer s old new (Some asked) status ends told = λ answer h. by answer 
 
 module _ (words : List (List ℕ)) (held : List ℕ → Option (List ℕ)) (old new : Option (List ℕ)) (status : Status) where
   pub for_fault : ForSource words held (Tells old new status) → ForSource words held (EndsAtFault status)
-  for_fault tells = λ c is. by c (held c.file) (tells c is)
+  for_fault tells = λ c is. by c (bytes_at held c.origin) (tells c is)
     where
       by : (c : Command) (o : Option (List ℕ)) → IfSome o (λ bytes. Tells old new status c.asked (source_of c bytes)) → IfSome o (λ bytes. EndsAtFault status c.asked (source_of c bytes))
       by c None t = tt
       by c (Some bytes) t = ends_at_fault (source_of c bytes) old new c.asked status t
 
   pub for_answer : ((c : Command) → IsCommand words c → CanEnd c.asked status) → ForSource words held (Tells old new status) → ForSource words held (EndsByAnswer status)
-  for_answer ends tells = λ c is. by c (held c.file) (ends c is) (tells c is)
+  for_answer ends tells = λ c is. by c (bytes_at held c.origin) (ends c is) (tells c is)
     where
       by : (c : Command) (o : Option (List ℕ)) → CanEnd c.asked status → IfSome o (λ bytes. Tells old new status c.asked (source_of c bytes))
           → IfSome o (λ bytes. EndsByAnswer status c.asked (source_of c bytes))

@@ -19,7 +19,7 @@ use Rattle.silqc.specs.declared.asked.Asked.{Asked}
 use Rattle.silqc.specs.declared.status.Status.{Status}
 use Rattle.silqc.specs.declared.status.Status.TheVariants.{Done, Words, ReadFault, Syntax, Names, Typing, Unsupported, Limit, Cycle, OverBudget, WriteFault, Memory, Unbuilt}
 use Rattle.silqc.specs.Answer.{PassesLimit}
-use Rattle.silqc.specs.Command.{Command, ForSource, IsCommand, source_of}
+use Rattle.silqc.specs.Command.{Command, ForSource, IsCommand, bytes_at, source_of}
 use Rattle.silqc.specs.Ending.{Tells}
 use Rattle.silqc.specs.Exact.{EndsByJob, EndsByPlan}
 use Rattle.silqc.specs.Program.{FileFault, first_file_fault}
@@ -117,7 +117,7 @@ ends_by_plan s old new (Some asked) status told = λ fine a answers. ends_by_job
 
 pub for_plan : (words : List (List ℕ)) (held : List ℕ → Option (List ℕ)) (old new : Option (List ℕ)) (status : Status)
     → ForSource words held (Tells old new status) → ForSource words held (EndsByPlan status)
-for_plan words held old new status tells = λ c is. by c (held c.file) (tells c is)
+for_plan words held old new status tells = λ c is. by c (bytes_at held c.origin) (tells c is)
   where
     by : (c : Command) (o : Option (List ℕ)) → IfSome o (λ bytes. Tells old new status c.asked (source_of c bytes)) → IfSome o (λ bytes. EndsByPlan status c.asked (source_of c bytes))
     by c None t = tt

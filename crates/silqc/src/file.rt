@@ -48,7 +48,14 @@ pub fn run_file<F: Files, S: Sink>(
         Err(fault) => return read_status(fault),
     };
     match source::text(&bytes) {
-        Ok(text) => run_text(alloc, text, source.entry, source.statics.as_slice(), asked, out),
+        Ok(text) => run_text(
+            alloc,
+            text,
+            source.entry,
+            source.statics.as_slice(),
+            asked,
+            out,
+        ),
         Err(fault) => fault.status(),
     }
 }

@@ -1,16 +1,11 @@
-use Rattle.std.proofs.Common.{None, Some, ap}
+use Rattle.std.proofs.Common.{◌≡◌, IfSome, ap, sym, ◌∙◌}
 use Rattle.cli_words.specs.Told.{told}
-use Rattle.flat_compile.specs.declared.output.Output.TheVariants.{Text, Report}
+use Rattle.silqc.specs.Command.{Command, bytes_at, command_of, on_generated, source_of}
+use Rattle.silqc.specs.Ending.{Tells}
+use Rattle.silqc.proofs.Jobs.{only}
 use Rattle.silqc.proofs.run_job.Goals as goal
 
-pub returns-in-Compile-clause-other_job : goal.returns-in-Compile-clause-other_job
-returns-in-Compile-clause-other_job g c = λ other.
-    absurd (other (record { file = c.in-Compile.source.file.now; entry = c.in-Compile.source.entry.now; statics = c.in-Compile.source.statics.items; asked = Some (record { output = Text; budget = c.in-Compile.budget }) }) (ap told c.in-Compile.is))
-
-pub returns-in-Check-clause-other_job : goal.returns-in-Check-clause-other_job
-returns-in-Check-clause-other_job g c = λ other.
-    absurd (other (record { file = c.in-Check.source.file.now; entry = c.in-Check.source.entry.now; statics = c.in-Check.source.statics.items; asked = None }) (ap told c.in-Check.is))
-
-pub returns-in-Report-clause-other_job : goal.returns-in-Report-clause-other_job
-returns-in-Report-clause-other_job g c = λ other.
-    absurd (other (record { file = c.in-Report.source.file.now; entry = c.in-Report.source.entry.now; statics = c.in-Report.source.statics.items; asked = Some (record { output = Report; budget = c.in-Report.budget }) }) (ap told c.in-Report.is))
+pub returns-in-Gen-clause-tells : goal.returns-in-Gen-clause-tells
+returns-in-Gen-clause-tells g c = λ d e.
+    only (λ d. IfSome (bytes_at (g.F.Files.held c.args.files.now) d.origin) (λ bytes. Tells (g.S.Sink.put_so_far c.args.out.now) (g.S.Sink.put_so_far c.run_generated.new.out) c.run_generated.result d.asked (source_of d bytes)))
+    (on_generated c.in-Gen.number c.in-Gen.size) d (sym (ap (λ j. command_of (told j)) c.in-Gen.is) ∙ e) c.run_generated.ensures.tells

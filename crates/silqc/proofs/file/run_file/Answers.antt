@@ -7,7 +7,7 @@ pub returns-in-Ok-text-clause-tells : goal.returns-in-Ok-text-clause-tells
 returns-in-Ok-text-clause-tells g c =
     tells_of_all _ _ c.args.asked c.args.source.now.entry.now c.args.source.now.statics.items _ _ c.in-Ok.bytes.items c.in-Ok.ensures.read
     c.run_text.result (rw c.deref.ensures.value at c.in-Ok-text.ensures.short)
-    (rw (c.in-Ok-text.ensures.same, c.deref.ensures.value) at c.run_text.ensures.tells)
+    (rw (c.in-Ok-text.ensures.same, c.deref.ensures.value, c.as_slice.ensures.value) at c.run_text.ensures.tells)
 
 pub returns-in-Ok-text-clause-read_whole : goal.returns-in-Ok-text-clause-read_whole
 returns-in-Ok-text-clause-read_whole g c =
