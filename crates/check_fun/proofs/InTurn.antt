@@ -209,7 +209,7 @@ module _ (check : Checker) (ss us : Statements) (sc : Scope) (s t : Spot) (h : l
 
 -- ---- in turn, as the code does it
 
-module _ (l : Shelf) (e : ExprId → Expression) (st : StmtId → Statement) (xs ys zs : List StmtId) (o : Else) (s : Spot) (old : State) (c : Counts) (h : leave_all (statements_of e st xs) ≡ true) (k : leave_all (statements_of e st (else_stmts o)) ≡ true) (p : ys ≡ xs) (q : zs ≡ else_stmts o) where
+module _ (l : Shelf) (e : ExprId → Expression) (st : StmtId → Statement) (xs ys zs : List StmtId) (o : Else) (s : Spot) (old : State) (c : Counts) (hk : (leave_all (statements_of e st xs) && leave_all (statements_of e st (else_stmts o))) ≡ true) (p : ys ≡ xs) (q : zs ≡ else_stmts o) where
   abbrev first_part : Check (Unit {0})
   first_part = stmts (statements_of e st xs) (scope_in l old)
 
@@ -234,11 +234,11 @@ module _ (l : Shelf) (e : ExprId → Expression) (st : StmtId → Statement) (xs
 
   turn_fails : (f : CheckFault) → Fails (checker_at l old) (first_part >> second_part) old c f → Fails (checker_at l old) Apart old c f
   turn_fails f r = subst (λ m. Fails (checker_at l old) (both (branch first_part s) (branch m (otherwise_end (otherwise_of e st o)))) old c f) (else_items e st o (scope_in l old))
-      (fails_in_turn (checker_at l old) (statements_of e st xs) (statements_of e st (else_stmts o)) (scope_in l old) s (otherwise_end (otherwise_of e st o)) h k old c f r)
+      (fails_in_turn (checker_at l old) (statements_of e st xs) (statements_of e st (else_stmts o)) (scope_in l old) s (otherwise_end (otherwise_of e st o)) (both_true _ _ hk).0 (both_true _ _ hk).1 old c f r)
 
   pub runs_turns : (mid now : State) (d u : Counts) → Runs (checker_at l old) (stmts (statements_of e st ys) (scope_in l old)) old c tt mid d → Runs (checker_at l mid) (stmts (statements_of e st zs) (scope_in l mid)) mid d tt now u → Runs (checker_at l old) Apart old c tt now u
   runs_turns mid now d u r t = subst (λ m. Runs (checker_at l old) (both (branch first_part s) (branch m (otherwise_end (otherwise_of e st o)))) old c tt now u) (else_items e st o (scope_in l old))
-      (runs_in_turn (checker_at l old) (statements_of e st xs) (statements_of e st (else_stmts o)) (scope_in l old) s (otherwise_end (otherwise_of e st o)) h k old c now u
+      (runs_in_turn (checker_at l old) (statements_of e st xs) (statements_of e st (else_stmts o)) (scope_in l old) s (otherwise_end (otherwise_of e st o)) (both_true _ _ hk).0 (both_true _ _ hk).1 old c now u
       (runs_then (checker_at l old) first_part second_part old mid now c d u tt tt (first_runs mid d r) (second_runs mid now d u r.stays t)))
 
   pub fails_first_turn : (f : CheckFault) → Fails (checker_at l old) (stmts (statements_of e st ys) (scope_in l old)) old c f → Fails (checker_at l old) Apart old c f

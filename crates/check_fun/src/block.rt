@@ -1,6 +1,6 @@
 //! Blocks, choices and loops.
 
-ghost use Rattle.std.specs.Prelude.{true, ◌≡◌, ◌<◌, ◌≤◌, ◌||◌, length, IfOk, IfErr, OnOk};
+ghost use Rattle.std.specs.Prelude.{true, ◌≡◌, ◌<◌, ◌≤◌, ◌&&◌, ◌||◌, length, IfOk, IfErr, OnOk};
 ghost use Rattle.silq_tree.specs.Arena.{expr_at, stmt_at};
 ghost use Rattle.silq_tree.specs.Children.{AreStmtsBelow, else_stmts};
 ghost use Rattle.silq_tree.specs.Standing.{statements_of, block_of, otherwise_of};
@@ -132,6 +132,15 @@ fn apart(
     Ok(())
 }
 
+/// Whether both branches by their form leave the variables as they are.
+fn both_leave(library: &Library, then: &Block, other: &Else) -> bool
+    requires then { AreStmtsBelow (length library.now.nodes.stmts) then.now.items }
+    requires other { AreStmtsBelow (length library.now.nodes.stmts) (else_stmts other.now) }
+    ensures { result ≡ (leave_all (statements_of (expr_at library.now.nodes) (stmt_at library.now.nodes) then.now.items) && leave_all (statements_of (expr_at library.now.nodes) (stmt_at library.now.nodes) (else_stmts other.now))) }
+{
+    all_leave(library, then.items.as_slice()) && all_leave(library, items_of(other))
+}
+
 /// Checks both branches in turn over the same variables, which each of them by its form leaves as they are.
 #[cycle(statement)]
 fn in_turn(
@@ -143,8 +152,7 @@ fn in_turn(
 ) -> Result<(), CheckFault>
     requires then { AreStmtsBelow (length library.now.nodes.stmts) then.now.items }
     requires other { AreStmtsBelow (length library.now.nodes.stmts) (else_stmts other.now) }
-    requires first { leave_all (statements_of (expr_at library.now.nodes) (stmt_at library.now.nodes) then.now.items) ≡ true }
-    requires second { leave_all (statements_of (expr_at library.now.nodes) (stmt_at library.now.nodes) (else_stmts other.now)) ≡ true }
+    requires shared { (leave_all (statements_of (expr_at library.now.nodes) (stmt_at library.now.nodes) then.now.items) && leave_all (statements_of (expr_at library.now.nodes) (stmt_at library.now.nodes) (else_stmts other.now))) ≡ true }
     requires this { cx.old.this < length library.now.funs }
     requires depth { cx.old.depth ≤ 64 }
     ensures runs { OnOk result (Runs (checker_at library.now cx.old) (both_of (branch_of (stmts_of (statements_of (expr_at library.now.nodes) (stmt_at library.now.nodes) then.now.items) (scope_in library.now cx.old)) then.now.end) (branch_of (otherwise (otherwise_of (expr_at library.now.nodes) (stmt_at library.now.nodes) other.now) (scope_in library.now cx.old)) (otherwise_end (otherwise_of (expr_at library.now.nodes) (stmt_at library.now.nodes) other.now)))) cx.old tally.old tt cx.new tally.new) }
@@ -171,7 +179,7 @@ fn both(
     ensures runs { OnOk result (Runs (checker_at library.now cx.old) (both_of (branch_of (stmts_of (statements_of (expr_at library.now.nodes) (stmt_at library.now.nodes) then.now.items) (scope_in library.now cx.old)) then.now.end) (branch_of (otherwise (otherwise_of (expr_at library.now.nodes) (stmt_at library.now.nodes) other.now) (scope_in library.now cx.old)) (otherwise_end (otherwise_of (expr_at library.now.nodes) (stmt_at library.now.nodes) other.now)))) cx.old tally.old tt cx.new tally.new) }
     ensures fails { IfErr result (λ f. Fails (checker_at library.now cx.old) (both_of (branch_of (stmts_of (statements_of (expr_at library.now.nodes) (stmt_at library.now.nodes) then.now.items) (scope_in library.now cx.old)) then.now.end) (branch_of (otherwise (otherwise_of (expr_at library.now.nodes) (stmt_at library.now.nodes) other.now) (scope_in library.now cx.old)) (otherwise_end (otherwise_of (expr_at library.now.nodes) (stmt_at library.now.nodes) other.now)))) cx.old tally.old f) }
 {
-    if all_leave(library, then.items.as_slice()) && all_leave(library, items_of(other)) {
+    if both_leave(library, then, other) {
         in_turn(library, cx, tally, then, other)
     } else {
         apart(library, cx, tally, then, other)

@@ -608,16 +608,22 @@ pub body::body_values-returns-in-Err-clause-fails : goal.body::body_values-retur
 body::body_values-returns-in-Err-clause-fails t c = fails_before c.args.library.now (expr_at c.args.library.now.nodes) (stmt_at c.args.library.now.nodes) c.args.ids.now (record { number = 0 }) c.in-len1-up.len_at_least c.args.cx.now c.args.tally.now c.in-Err.fault c.in-Err.ensures.fails
 
 pub block::in_turn-returns-clause-runs : goal.block::in_turn-returns-clause-runs
-block::in_turn-returns-clause-runs t c = runs_turns c.args.library.now (expr_at c.args.library.now.nodes) (stmt_at c.args.library.now.nodes) c.args.then.now.items _ _ c.args.other.now c.args.then.now.end c.args.cx.now c.args.tally.now c.requires.first c.requires.second c.as_slice.ensures c.items_of.ensures _ _ _ _ c.in_ok-statements.ensures.runs c.in_ok-statements-2.ensures.runs
+block::in_turn-returns-clause-runs t c = runs_turns c.args.library.now (expr_at c.args.library.now.nodes) (stmt_at c.args.library.now.nodes) c.args.then.now.items _ _ c.args.other.now c.args.then.now.end c.args.cx.now c.args.tally.now c.requires.shared c.as_slice.ensures c.items_of.ensures _ _ _ _ c.in_ok-statements.ensures.runs c.in_ok-statements-2.ensures.runs
 
 pub block::in_turn-returns-in_err-statements-clause-fails : goal.block::in_turn-returns-in_err-statements-clause-fails
-block::in_turn-returns-in_err-statements-clause-fails t c = if_err_from _ _ _ c.from_residual-in_err-statements.ensures.1 (fails_first_turn c.args.library.now (expr_at c.args.library.now.nodes) (stmt_at c.args.library.now.nodes) c.args.then.now.items _ _ c.args.other.now c.args.then.now.end c.args.cx.now c.args.tally.now c.requires.first c.requires.second c.as_slice.ensures refl _ c.in_err-statements.ensures.fails)
+block::in_turn-returns-in_err-statements-clause-fails t c = if_err_from _ _ _ c.from_residual.ensures.1 (fails_first_turn c.args.library.now (expr_at c.args.library.now.nodes) (stmt_at c.args.library.now.nodes) c.args.then.now.items _ _ c.args.other.now c.args.then.now.end c.args.cx.now c.args.tally.now c.requires.shared c.as_slice.ensures refl _ c.in_err-statements.ensures.fails)
 
 pub block::in_turn-returns-in_err-statements-2-clause-fails : goal.block::in_turn-returns-in_err-statements-2-clause-fails
-block::in_turn-returns-in_err-statements-2-clause-fails t c = if_err_from _ _ _ c.from_residual-in_err-statements-2.ensures.1 (fails_second_turn c.args.library.now (expr_at c.args.library.now.nodes) (stmt_at c.args.library.now.nodes) c.args.then.now.items _ _ c.args.other.now c.args.then.now.end c.args.cx.now c.args.tally.now c.requires.first c.requires.second c.as_slice.ensures c.items_of.ensures _ _ _ c.in_ok-statements.ensures.runs c.in_err-statements-2.ensures.fails)
+block::in_turn-returns-in_err-statements-2-clause-fails t c = if_err_from _ _ _ c.from_residual-in_err-statements-2.ensures.1 (fails_second_turn c.args.library.now (expr_at c.args.library.now.nodes) (stmt_at c.args.library.now.nodes) c.args.then.now.items _ _ c.args.other.now c.args.then.now.end c.args.cx.now c.args.tally.now c.requires.shared c.as_slice.ensures c.items_of.ensures _ _ _ c.in_ok-statements.ensures.runs c.in_err-statements-2.ensures.fails)
 
-pub block::in_turn-statements-library-requires : goal.block::in_turn-statements-library-requires
-block::in_turn-statements-library-requires t c = ((let below = level_less c.args.cx.now.depth c.args.cx.now.depth (length c.args.library.now.nodes.stmts) (8 * stmts_top c.as_slice.result.now) (8 * max (stmts_top c.args.then.now.items) (stmts_top (else_stmts c.args.other.now)) + 2) (refl) (omega (arith, ap stmts_top c.as_slice.ensures)) in omega (arith, c.decreases, below)), (subst (λ xs. AreStmtsBelow (length c.args.library.now.nodes.stmts) xs) (sym c.as_slice.ensures) c.requires.then, (c.requires.this, c.requires.depth)))
+pub block::in_turn-statements-requires : goal.block::in_turn-statements-requires
+block::in_turn-statements-requires t c = ((let below = level_less c.args.cx.now.depth c.args.cx.now.depth (length c.args.library.now.nodes.stmts) (8 * stmts_top c.as_slice.result.now) (8 * max (stmts_top c.args.then.now.items) (stmts_top (else_stmts c.args.other.now)) + 2) (refl) (omega (arith, ap stmts_top c.as_slice.ensures)) in omega (arith, c.decreases, below)), (subst (λ xs. AreStmtsBelow (length c.args.library.now.nodes.stmts) xs) (sym c.as_slice.ensures) c.requires.then, (c.requires.this, c.requires.depth)))
 
-pub block::in_turn-statements-library-requires-2 : goal.block::in_turn-statements-library-requires-2
-block::in_turn-statements-library-requires-2 t c = let kept = c.in_ok-statements.ensures.runs.stays in ((let below = level_less c.statements.new.cx.depth c.args.cx.now.depth (length c.args.library.now.nodes.stmts) (8 * stmts_top c.items_of.result.now) (8 * max (stmts_top c.args.then.now.items) (stmts_top (else_stmts c.args.other.now)) + 2) kept.depth (omega (arith, ap stmts_top c.items_of.ensures)) in omega (arith, c.decreases, below)), (subst (λ xs. AreStmtsBelow (length c.args.library.now.nodes.stmts) xs) (sym c.items_of.ensures) c.requires.other, (subst (λ n. n < length c.args.library.now.funs) (sym kept.this) c.requires.this, subst (λ n. n ≤ 64) (sym kept.depth) c.requires.depth)))
+pub block::in_turn-statements-requires-2 : goal.block::in_turn-statements-requires-2
+block::in_turn-statements-requires-2 t c = let kept = c.in_ok-statements.ensures.runs.stays in ((let below = level_less c.statements.new.cx.depth c.args.cx.now.depth (length c.args.library.now.nodes.stmts) (8 * stmts_top c.items_of.result.now) (8 * max (stmts_top c.args.then.now.items) (stmts_top (else_stmts c.args.other.now)) + 2) kept.depth (omega (arith, ap stmts_top c.items_of.ensures)) in omega (arith, c.decreases, below)), (subst (λ xs. AreStmtsBelow (length c.args.library.now.nodes.stmts) xs) (sym c.items_of.ensures) c.requires.other, (subst (λ n. n < length c.args.library.now.funs) (sym kept.this) c.requires.this, subst (λ n. n ≤ 64) (sym kept.depth) c.requires.depth)))
+
+pub block::both-in_turn-requires : goal.block::both-in_turn-requires
+block::both-in_turn-requires t c = ((let below = level_less c.args.cx.now.depth c.args.cx.now.depth (length c.args.library.now.nodes.stmts) (8 * max (stmts_top c.args.then.now.items) (stmts_top (else_stmts c.args.other.now)) + 2) (8 * max (stmts_top c.args.then.now.items) (stmts_top (else_stmts c.args.other.now)) + 3) refl (omega arith) in omega (arith, c.decreases, below)), (c.requires.then, (c.requires.other, (sym c.both_leave.ensures ∙ c.if-both_leave.true, (c.requires.this, c.requires.depth)))))
+
+pub block::both-apart-requires : goal.block::both-apart-requires
+block::both-apart-requires t c = ((let below = level_less c.args.cx.now.depth c.args.cx.now.depth (length c.args.library.now.nodes.stmts) (8 * max (stmts_top c.args.then.now.items) (stmts_top (else_stmts c.args.other.now)) + 2) (8 * max (stmts_top c.args.then.now.items) (stmts_top (else_stmts c.args.other.now)) + 3) refl (omega arith) in omega (arith, c.decreases, below)), (c.requires.then, (c.requires.other, (c.requires.this, c.requires.depth))))
