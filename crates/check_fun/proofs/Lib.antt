@@ -36,3 +36,4 @@ pub mod Concluding
 pub mod Returning
 pub mod BodySteps
 pub mod StepParts
+pub mod InTurn

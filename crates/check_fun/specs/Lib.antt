@@ -4,3 +4,4 @@ pub mod Counting
 pub mod Entry
 pub mod Stepping
 pub mod Branches
+pub mod Leaving

@@ -1,6 +1,6 @@
 //! Blocks, choices and loops.
 
-ghost use Rattle.std.specs.Prelude.{◌≡◌, ◌<◌, ◌≤◌, ◌||◌, length, IfOk, IfErr, OnOk};
+ghost use Rattle.std.specs.Prelude.{true, ◌≡◌, ◌<◌, ◌≤◌, ◌&&◌, ◌||◌, length, IfOk, IfErr, OnOk};
 ghost use Rattle.silq_tree.specs.Arena.{expr_at, stmt_at};
 ghost use Rattle.silq_tree.specs.Children.{AreStmtsBelow, else_stmts};
 ghost use Rattle.silq_tree.specs.Standing.{statements_of, block_of, otherwise_of};
@@ -9,6 +9,7 @@ ghost use Rattle.check_scope.specs.Library.{function_at};
 ghost use Rattle.check_scope.specs.State.{scope_in};
 ghost use Rattle.check_fun.specs.Statement.{stmts as stmts_of, plain_block, branch as branch_of, both as both_of, otherwise, otherwise_end, condition as condition_of, any_name, is_static_param};
 ghost use Rattle.check_fun.specs.Branches.{run_time_choice, taken_branch};
+ghost use Rattle.check_fun.specs.Leaving.{leave_all};
 ghost use Rattle.check_scope.specs.Context.{is_variable};
 ghost use Rattle.check_scope.specs.Uses.{uses, parts_of};
 ghost use Rattle.check_scope.specs.declared.fault.CheckFault.TheVariants as checks;
@@ -20,6 +21,7 @@ ghost use Rattle.static_num.specs.Static.{is_true};
 use crate::asking::values;
 use crate::branch::{copied, end_branch, end_of_else, items_of, joined};
 use crate::ends::end_from;
+use crate::leaving::all_leave;
 use crate::rounds::rounds;
 use crate::statement::statement;
 use crate::steps_of_block::{needed_now, obey_now, single_now};
@@ -100,7 +102,7 @@ fn branch(
 
 /// Checks both branches under a run-time condition that is held: the second begins with the variables of the first.
 #[cycle(statement)]
-fn both(
+fn apart(
     library: &Library,
     cx: &mut Context,
     tally: &mut Tally,
@@ -128,6 +130,60 @@ fn both(
     let vars = joined(library.alloc(), one.as_slice(), cx.vars())?;
     cx.put(vars)?;
     Ok(())
+}
+
+/// Whether both branches by their form leave the variables as they are.
+fn both_leave(library: &Library, then: &Block, other: &Else) -> bool
+    requires then { AreStmtsBelow (length library.now.nodes.stmts) then.now.items }
+    requires other { AreStmtsBelow (length library.now.nodes.stmts) (else_stmts other.now) }
+    ensures { result ≡ (leave_all (statements_of (expr_at library.now.nodes) (stmt_at library.now.nodes) then.now.items) && leave_all (statements_of (expr_at library.now.nodes) (stmt_at library.now.nodes) (else_stmts other.now))) }
+{
+    all_leave(library, then.items.as_slice()) && all_leave(library, items_of(other))
+}
+
+/// Checks both branches in turn over the same variables, which each of them by its form leaves as they are.
+#[cycle(statement)]
+fn in_turn(
+    library: &Library,
+    cx: &mut Context,
+    tally: &mut Tally,
+    then: &Block,
+    other: &Else,
+) -> Result<(), CheckFault>
+    requires then { AreStmtsBelow (length library.now.nodes.stmts) then.now.items }
+    requires other { AreStmtsBelow (length library.now.nodes.stmts) (else_stmts other.now) }
+    requires shared { (leave_all (statements_of (expr_at library.now.nodes) (stmt_at library.now.nodes) then.now.items) && leave_all (statements_of (expr_at library.now.nodes) (stmt_at library.now.nodes) (else_stmts other.now))) ≡ true }
+    requires this { cx.old.this < length library.now.funs }
+    requires depth { cx.old.depth ≤ 64 }
+    ensures runs { OnOk result (Runs (checker_at library.now cx.old) (both_of (branch_of (stmts_of (statements_of (expr_at library.now.nodes) (stmt_at library.now.nodes) then.now.items) (scope_in library.now cx.old)) then.now.end) (branch_of (otherwise (otherwise_of (expr_at library.now.nodes) (stmt_at library.now.nodes) other.now) (scope_in library.now cx.old)) (otherwise_end (otherwise_of (expr_at library.now.nodes) (stmt_at library.now.nodes) other.now)))) cx.old tally.old tt cx.new tally.new) }
+    ensures fails { IfErr result (λ f. Fails (checker_at library.now cx.old) (both_of (branch_of (stmts_of (statements_of (expr_at library.now.nodes) (stmt_at library.now.nodes) then.now.items) (scope_in library.now cx.old)) then.now.end) (branch_of (otherwise (otherwise_of (expr_at library.now.nodes) (stmt_at library.now.nodes) other.now) (scope_in library.now cx.old)) (otherwise_end (otherwise_of (expr_at library.now.nodes) (stmt_at library.now.nodes) other.now)))) cx.old tally.old f) }
+{
+    statements(library, cx, tally, then.items.as_slice())?;
+    statements(library, cx, tally, items_of(other))?;
+    Ok(())
+}
+
+/// Checks both branches under a run-time condition that is held, without copies of the variables where both leave them as they are.
+#[cycle(statement)]
+fn both(
+    library: &Library,
+    cx: &mut Context,
+    tally: &mut Tally,
+    then: &Block,
+    other: &Else,
+) -> Result<(), CheckFault>
+    requires then { AreStmtsBelow (length library.now.nodes.stmts) then.now.items }
+    requires other { AreStmtsBelow (length library.now.nodes.stmts) (else_stmts other.now) }
+    requires this { cx.old.this < length library.now.funs }
+    requires depth { cx.old.depth ≤ 64 }
+    ensures runs { OnOk result (Runs (checker_at library.now cx.old) (both_of (branch_of (stmts_of (statements_of (expr_at library.now.nodes) (stmt_at library.now.nodes) then.now.items) (scope_in library.now cx.old)) then.now.end) (branch_of (otherwise (otherwise_of (expr_at library.now.nodes) (stmt_at library.now.nodes) other.now) (scope_in library.now cx.old)) (otherwise_end (otherwise_of (expr_at library.now.nodes) (stmt_at library.now.nodes) other.now)))) cx.old tally.old tt cx.new tally.new) }
+    ensures fails { IfErr result (λ f. Fails (checker_at library.now cx.old) (both_of (branch_of (stmts_of (statements_of (expr_at library.now.nodes) (stmt_at library.now.nodes) then.now.items) (scope_in library.now cx.old)) then.now.end) (branch_of (otherwise (otherwise_of (expr_at library.now.nodes) (stmt_at library.now.nodes) other.now) (scope_in library.now cx.old)) (otherwise_end (otherwise_of (expr_at library.now.nodes) (stmt_at library.now.nodes) other.now)))) cx.old tally.old f) }
+{
+    if both_leave(library, then, other) {
+        in_turn(library, cx, tally, then, other)
+    } else {
+        apart(library, cx, tally, then, other)
+    }
 }
 
 /// The parts that a condition names, under which its branches stand.

@@ -18,6 +18,7 @@ mod forget;
 mod headers;
 mod instance;
 pub mod laws;
+mod leaving;
 mod name_set;
 mod named;
 mod params;

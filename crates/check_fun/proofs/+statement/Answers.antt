@@ -10,6 +10,7 @@ use Rattle.check_scope.specs.Context.{Scope}
 use Rattle.check_fun.specs.Counting.{checker_at, Runs, Fails}
 use Rattle.check_fun.specs.Statement.{stmts, branch, otherwise, otherwise_end, joined, plain_block, both}
 use Rattle.check_fun.proofs.BlockBranches.{runs_plain, fails_plain_end, runs_branch, fails_branch_end, runs_both, fails_first, fails_second, first_runs, first_fails, other_runs, other_fails, plain_runs, plain_fails, plain_other_runs, plain_other_fails}
+use Rattle.check_fun.proofs.InTurn.{runs_turns, fails_first_turn, fails_second_turn}
 use Rattle.check_fun.proofs.BlockRounds.{runs_chosen, fails_condition, fails_chosen, one_more, if_err_with, on_ok_with, runs_static, fails_static, fails_value, runs_later, fails_run_time, runs_bound, fails_bound, seen_more, rounds_stop, rounds_all, round_runs, round_fails, lt_told, ge_told}
 use Rattle.check_fun.specs.Branches.{round_of}
 use Rattle.std.proofs.lemmas.Int.{to_z-of_z}
@@ -63,10 +64,10 @@ pub block::branch-statements-requires : goal.block::branch-statements-requires
 block::branch-statements-requires t c = ((let below = level_less c.args.cx.now.depth c.args.cx.now.depth (length c.args.library.now.nodes.stmts) (8 * stmts_top c.args.ids.now) (8 * stmts_top c.args.ids.now + 1) refl (omega arith) in omega (arith, c.decreases, below)), (c.requires.ids, (c.requires.this, c.requires.depth)))
 
 pub block::choose-taken-requires : goal.block::choose-taken-requires
-block::choose-taken-requires t c = ((let below = level_less c.args.cx.now.depth c.args.cx.now.depth (length c.args.library.now.nodes.stmts) (8 * max (stmts_top c.args.then.now.items) (stmts_top (else_stmts c.args.other.now)) + 2) (8 * max (stmts_top c.args.then.now.items) (stmts_top (else_stmts c.args.other.now)) + 4) refl (omega arith) in omega (arith, c.decreases, below)), (c.requires.then, (c.requires.other, (c.requires.this, c.requires.depth))))
+block::choose-taken-requires t c = ((let below = level_less c.args.cx.now.depth c.args.cx.now.depth (length c.args.library.now.nodes.stmts) (8 * max (stmts_top c.args.then.now.items) (stmts_top (else_stmts c.args.other.now)) + 2) (8 * max (stmts_top c.args.then.now.items) (stmts_top (else_stmts c.args.other.now)) + 5) refl (omega arith) in omega (arith, c.decreases, below)), (c.requires.then, (c.requires.other, (c.requires.this, c.requires.depth))))
 
 pub block::choose-run_time-requires : goal.block::choose-run_time-requires
-block::choose-run_time-requires t c = ((let below = level_less c.args.cx.now.depth c.args.cx.now.depth (length c.args.library.now.nodes.stmts) (8 * max (stmts_top c.args.then.now.items) (stmts_top (else_stmts c.args.other.now)) + 3) (8 * max (stmts_top c.args.then.now.items) (stmts_top (else_stmts c.args.other.now)) + 4) refl (omega arith) in omega (arith, c.decreases, below)), (c.requires.cond, (c.requires.then, (c.requires.other, (c.requires.this, c.requires.depth)))))
+block::choose-run_time-requires t c = ((let below = level_less c.args.cx.now.depth c.args.cx.now.depth (length c.args.library.now.nodes.stmts) (8 * max (stmts_top c.args.then.now.items) (stmts_top (else_stmts c.args.other.now)) + 4) (8 * max (stmts_top c.args.then.now.items) (stmts_top (else_stmts c.args.other.now)) + 5) refl (omega arith) in omega (arith, c.decreases, below)), (c.requires.cond, (c.requires.then, (c.requires.other, (c.requires.this, c.requires.depth)))))
 
 pub block::unroll-rounds-requires : goal.block::unroll-rounds-requires
 block::unroll-rounds-requires t c = ((let below = level_less c.args.cx.now.depth c.args.cx.now.depth (length c.args.library.now.nodes.stmts) (8 * stmts_top c.args.body.now.items + 3) (8 * stmts_top c.args.body.now.items + 4) refl (omega arith) in omega (arith, c.decreases, below)), (c.requires.body, (c.requires.this, c.requires.depth)))
@@ -85,17 +86,17 @@ block::branch-returns-in_err-end_branch-clause-fails t c = if_err_from _ _ _ c.f
 pub block::branch-returns-clause-runs : goal.block::branch-returns-clause-runs
 block::branch-returns-clause-runs t c = runs_branch (checker_at c.args.library.now c.args.cx.now) (stmts (statements_of (expr_at c.args.library.now.nodes) (stmt_at c.args.library.now.nodes) c.args.ids.now) (scope_in c.args.library.now c.args.cx.now)) c.args.end _ _ _ _ _ _ _ (c.as_slice.ensures.value ∙ c.in_ok-before.ensures.ok ∙ c.vars.ensures) c.in_ok-statements.ensures.runs (c.in_ok-end_branch.ensures.runs (checker_at c.args.library.now c.args.cx.now) _)
 
-pub block::both-returns-in_err-branch-clause-fails : goal.block::both-returns-in_err-branch-clause-fails
-block::both-returns-in_err-branch-clause-fails t c = if_err_from _ _ _ c.from_residual-in_err-branch.ensures.1
+pub block::apart-returns-in_err-branch-clause-fails : goal.block::apart-returns-in_err-branch-clause-fails
+block::apart-returns-in_err-branch-clause-fails t c = if_err_from _ _ _ c.from_residual-in_err-branch.ensures.1
     (fails_first c.args.library.now (λ sc. branch (stmts (statements_of (expr_at c.args.library.now.nodes) (stmt_at c.args.library.now.nodes) c.args.then.now.items) sc) c.args.then.now.end) (λ sc. branch (otherwise (otherwise_of (expr_at c.args.library.now.nodes) (stmt_at c.args.library.now.nodes) c.args.other.now) sc) (otherwise_end (otherwise_of (expr_at c.args.library.now.nodes) (stmt_at c.args.library.now.nodes) c.args.other.now))) c.args.cx.now c.args.tally.now _ (first_fails (checker_at c.args.library.now c.args.cx.now) (expr_at c.args.library.now.nodes) (stmt_at c.args.library.now.nodes) (scope_in c.args.library.now c.args.cx.now) c.args.cx.now c.args.tally.now _ _ c.args.then.now.end _ c.as_slice.ensures c.in_err-branch.ensures.fails))
 
-pub block::both-returns-in_err-branch-2-clause-fails : goal.block::both-returns-in_err-branch-2-clause-fails
-block::both-returns-in_err-branch-2-clause-fails t c = if_err_from _ _ _ c.from_residual-in_err-branch-2.ensures.1
+pub block::apart-returns-in_err-branch-2-clause-fails : goal.block::apart-returns-in_err-branch-2-clause-fails
+block::apart-returns-in_err-branch-2-clause-fails t c = if_err_from _ _ _ c.from_residual-in_err-branch-2.ensures.1
     (fails_second c.args.library.now (λ sc. branch (stmts (statements_of (expr_at c.args.library.now.nodes) (stmt_at c.args.library.now.nodes) c.args.then.now.items) sc) c.args.then.now.end) (λ sc. branch (otherwise (otherwise_of (expr_at c.args.library.now.nodes) (stmt_at c.args.library.now.nodes) c.args.other.now) sc) (otherwise_end (otherwise_of (expr_at c.args.library.now.nodes) (stmt_at c.args.library.now.nodes) c.args.other.now))) c.args.cx.now c.args.tally.now _ _ _ _ _ (c.in_ok-start.ensures.ok ∙ c.vars.ensures) (first_runs (checker_at c.args.library.now c.args.cx.now) (expr_at c.args.library.now.nodes) (stmt_at c.args.library.now.nodes) (scope_in c.args.library.now c.args.cx.now) c.args.cx.now c.args.tally.now _ _ c.args.then.now.end _ _ c.as_slice.ensures c.in_ok-branch.ensures.runs) c.in_ok-put.ensures.ok
     (other_fails (checker_at c.args.library.now c.put.new.self) (expr_at c.args.library.now.nodes) (stmt_at c.args.library.now.nodes) (scope_in c.args.library.now c.put.new.self) c.put.new.self _ _ c.args.other.now _ _ c.items_of.ensures c.end_of_else.ensures c.in_err-branch-2.ensures.fails))
 
-pub block::both-returns-clause-runs : goal.block::both-returns-clause-runs
-block::both-returns-clause-runs t c =
+pub block::apart-returns-clause-runs : goal.block::apart-returns-clause-runs
+block::apart-returns-clause-runs t c =
     runs_both c.args.library.now (λ sc. branch (stmts (statements_of (expr_at c.args.library.now.nodes) (stmt_at c.args.library.now.nodes) c.args.then.now.items) sc) c.args.then.now.end) (λ sc. branch (otherwise (otherwise_of (expr_at c.args.library.now.nodes) (stmt_at c.args.library.now.nodes) c.args.other.now) sc) (otherwise_end (otherwise_of (expr_at c.args.library.now.nodes) (stmt_at c.args.library.now.nodes) c.args.other.now))) c.args.cx.now c.args.tally.now _ _ _ _ _ _ _ _ _ (c.in_ok-start.ensures.ok ∙ c.vars.ensures) (c.as_slice-2.ensures.value ∙ c.in_ok-one.ensures.ok ∙ c.vars-2.ensures) (c.in_ok-vars.ensures.ok ∙ ap (λ vs. joined c.as_slice-2.result.now vs) c.vars-3.ensures) (first_runs (checker_at c.args.library.now c.args.cx.now) (expr_at c.args.library.now.nodes) (stmt_at c.args.library.now.nodes) (scope_in c.args.library.now c.args.cx.now) c.args.cx.now c.args.tally.now _ _ c.args.then.now.end _ _ c.as_slice.ensures c.in_ok-branch.ensures.runs) c.in_ok-put.ensures.ok
     (other_runs (checker_at c.args.library.now c.put.new.self) (expr_at c.args.library.now.nodes) (stmt_at c.args.library.now.nodes) (scope_in c.args.library.now c.put.new.self) c.put.new.self _ _ c.args.other.now _ _ _ c.items_of.ensures c.end_of_else.ensures c.in_ok-branch-2.ensures.runs) c.in_ok-put-2.ensures.ok
 
@@ -193,14 +194,14 @@ block::taken-plain-requires t c = ((let below = level_less c.args.cx.now.depth c
 pub block::taken-plain-requires-else-first : goal.block::taken-plain-requires-else-first
 block::taken-plain-requires-else-first t c = ((let below = level_less c.args.cx.now.depth c.args.cx.now.depth (length c.args.library.now.nodes.stmts) (8 * stmts_top c.items_of.result.now + 1) (8 * max (stmts_top c.args.then.now.items) (stmts_top (else_stmts c.args.other.now)) + 2) (refl) (omega (arith, ap stmts_top c.items_of.ensures)) in omega (arith, c.decreases, below)), (subst (λ xs. AreStmtsBelow (length c.args.library.now.nodes.stmts) xs) (sym c.items_of.ensures) c.requires.other, (c.requires.this, c.requires.depth)))
 
-pub block::both-branch-library-requires : goal.block::both-branch-library-requires
-block::both-branch-library-requires t c = ((let below = level_less c.args.cx.now.depth c.args.cx.now.depth (length c.args.library.now.nodes.stmts) (8 * stmts_top c.as_slice.result.now + 1) (8 * max (stmts_top c.args.then.now.items) (stmts_top (else_stmts c.args.other.now)) + 2) (refl) (omega (arith, ap stmts_top c.as_slice.ensures)) in omega (arith, c.decreases, below)), (subst (λ xs. AreStmtsBelow (length c.args.library.now.nodes.stmts) xs) (sym c.as_slice.ensures) c.requires.then, (c.requires.this, c.requires.depth)))
+pub block::apart-branch-library-requires : goal.block::apart-branch-library-requires
+block::apart-branch-library-requires t c = ((let below = level_less c.args.cx.now.depth c.args.cx.now.depth (length c.args.library.now.nodes.stmts) (8 * stmts_top c.as_slice.result.now + 1) (8 * max (stmts_top c.args.then.now.items) (stmts_top (else_stmts c.args.other.now)) + 2) (refl) (omega (arith, ap stmts_top c.as_slice.ensures)) in omega (arith, c.decreases, below)), (subst (λ xs. AreStmtsBelow (length c.args.library.now.nodes.stmts) xs) (sym c.as_slice.ensures) c.requires.then, (c.requires.this, c.requires.depth)))
 
-pub block::both-branch-library-requires-2 : goal.block::both-branch-library-requires-2
-block::both-branch-library-requires-2 t c = ((let below = level_less c.put.new.self.depth c.args.cx.now.depth (length c.args.library.now.nodes.stmts) (8 * stmts_top c.items_of.result.now + 1) (8 * max (stmts_top c.args.then.now.items) (stmts_top (else_stmts c.args.other.now)) + 2) ((ap (λ (s : State). s.depth) c.in_ok-put.ensures.ok ∙ c.in_ok-branch.ensures.runs.stays.depth)) (omega (arith, ap stmts_top c.items_of.ensures)) in omega (arith, c.decreases, below)), (subst (λ xs. AreStmtsBelow (length c.args.library.now.nodes.stmts) xs) (sym c.items_of.ensures) c.requires.other, (subst (λ n. n < length c.args.library.now.funs) (sym (ap (λ (s : State). s.this) c.in_ok-put.ensures.ok ∙ c.in_ok-branch.ensures.runs.stays.this)) c.requires.this, subst (λ n. n ≤ 64) (sym (ap (λ (s : State). s.depth) c.in_ok-put.ensures.ok ∙ c.in_ok-branch.ensures.runs.stays.depth)) c.requires.depth)))
+pub block::apart-branch-library-requires-2 : goal.block::apart-branch-library-requires-2
+block::apart-branch-library-requires-2 t c = ((let below = level_less c.put.new.self.depth c.args.cx.now.depth (length c.args.library.now.nodes.stmts) (8 * stmts_top c.items_of.result.now + 1) (8 * max (stmts_top c.args.then.now.items) (stmts_top (else_stmts c.args.other.now)) + 2) ((ap (λ (s : State). s.depth) c.in_ok-put.ensures.ok ∙ c.in_ok-branch.ensures.runs.stays.depth)) (omega (arith, ap stmts_top c.items_of.ensures)) in omega (arith, c.decreases, below)), (subst (λ xs. AreStmtsBelow (length c.args.library.now.nodes.stmts) xs) (sym c.items_of.ensures) c.requires.other, (subst (λ n. n < length c.args.library.now.funs) (sym (ap (λ (s : State). s.this) c.in_ok-put.ensures.ok ∙ c.in_ok-branch.ensures.runs.stays.this)) c.requires.this, subst (λ n. n ≤ 64) (sym (ap (λ (s : State). s.depth) c.in_ok-put.ensures.ok ∙ c.in_ok-branch.ensures.runs.stays.depth)) c.requires.depth)))
 
 pub block::run_time-both-requires : goal.block::run_time-both-requires
-block::run_time-both-requires t c = ((let below = level_less c.hold.new.self.depth c.args.cx.now.depth (length c.args.library.now.nodes.stmts) (8 * max (stmts_top c.args.then.now.items) (stmts_top (else_stmts c.args.other.now)) + 2) (8 * max (stmts_top c.args.then.now.items) (stmts_top (else_stmts c.args.other.now)) + 3) ((ap (λ (s : State). s.depth) c.in-Ok.ensures.ok ∙ c.in_ok-parts.ensures.runs.stays.depth)) (omega arith) in omega (arith, c.decreases, below)), (c.requires.then, (c.requires.other, (subst (λ n. n < length c.args.library.now.funs) (sym (ap (λ (s : State). s.this) c.in-Ok.ensures.ok ∙ c.in_ok-parts.ensures.runs.stays.this)) c.requires.this, subst (λ n. n ≤ 64) (sym (ap (λ (s : State). s.depth) c.in-Ok.ensures.ok ∙ c.in_ok-parts.ensures.runs.stays.depth)) c.requires.depth))))
+block::run_time-both-requires t c = ((let below = level_less c.hold.new.self.depth c.args.cx.now.depth (length c.args.library.now.nodes.stmts) (8 * max (stmts_top c.args.then.now.items) (stmts_top (else_stmts c.args.other.now)) + 3) (8 * max (stmts_top c.args.then.now.items) (stmts_top (else_stmts c.args.other.now)) + 4) ((ap (λ (s : State). s.depth) c.in-Ok.ensures.ok ∙ c.in_ok-parts.ensures.runs.stays.depth)) (omega arith) in omega (arith, c.decreases, below)), (c.requires.then, (c.requires.other, (subst (λ n. n < length c.args.library.now.funs) (sym (ap (λ (s : State). s.this) c.in-Ok.ensures.ok ∙ c.in_ok-parts.ensures.runs.stays.this)) c.requires.this, subst (λ n. n ≤ 64) (sym (ap (λ (s : State). s.depth) c.in-Ok.ensures.ok ∙ c.in_ok-parts.ensures.runs.stays.depth)) c.requires.depth))))
 
 pub rounds::round-plain-requires : goal.rounds::round-plain-requires
 rounds::round-plain-requires t c = ((let below = level_less c.bind.new.self.depth c.args.cx.now.depth (length c.args.library.now.nodes.stmts) (8 * stmts_top c.as_slice.result.now + 1) (8 * stmts_top c.args.body.now.items + 2) (ap (λ (s : State). s.depth) c.in-Ok.ensures.ok) (omega (arith, ap stmts_top c.as_slice.ensures)) in omega (arith, c.decreases, below)), (subst (λ xs. AreStmtsBelow (length c.args.library.now.nodes.stmts) xs) (sym c.as_slice.ensures) c.requires.body, (subst (λ n. n < length c.args.library.now.funs) (sym (ap (λ (s : State). s.this) c.in-Ok.ensures.ok)) c.requires.this, subst (λ n. n ≤ 64) (sym (ap (λ (s : State). s.depth) c.in-Ok.ensures.ok)) c.requires.depth)))
@@ -529,7 +530,7 @@ pub statement::statement-step-requires : goal.statement::statement-step-requires
 statement::statement-step-requires t c = ((let below = level_less c.args.cx.now.depth c.args.cx.now.depth (length c.args.library.now.nodes.stmts) (8 * c.args.id.number + 6) (8 * c.args.id.number + 7) refl (omega arith) in omega (arith, c.decreases, below)), (c.requires.id, (c.requires.this, c.requires.depth)))
 
 pub block::run_time-condition-requires : goal.block::run_time-condition-requires
-block::run_time-condition-requires t c = (let below = level_less c.args.cx.now.depth c.args.cx.now.depth (length c.args.library.now.nodes.stmts) 1 (8 * max (stmts_top c.args.then.now.items) (stmts_top (else_stmts c.args.other.now)) + 3) refl (omega arith) in omega (arith, c.decreases, below), (c.requires.cond, (c.requires.this, c.requires.depth)))
+block::run_time-condition-requires t c = (let below = level_less c.args.cx.now.depth c.args.cx.now.depth (length c.args.library.now.nodes.stmts) 1 (8 * max (stmts_top c.args.then.now.items) (stmts_top (else_stmts c.args.other.now)) + 4) refl (omega arith) in omega (arith, c.decreases, below), (c.requires.cond, (c.requires.this, c.requires.depth)))
 
 pub statement::step-assign-requires : goal.statement::step-assign-requires
 statement::step-assign-requires t c = let P = subst (λ x. AreExprsBelow (length c.args.library.now.nodes.exprs) (stmt_exprs x)) c.in-Assign.is (rw c.tree.ensures at c.stmt.ensures.parts) in ((let below = level_less c.args.cx.now.depth c.args.cx.now.depth (length c.args.library.now.nodes.stmts) 2 (8 * c.args.id.number + 6) refl (omega arith) in omega (arith, c.decreases, below)), (exprs_below_front _ (place_exprs c.in-Assign.target) _ P, (subst StmtHasFirst c.in-Assign.is c.stmt.ensures.first, ((exprs_below_back _ (place_exprs c.in-Assign.target) _ P).0, (c.requires.this, c.requires.depth)))))
@@ -547,7 +548,7 @@ pub statement::step-unused-requires : goal.statement::step-unused-requires
 statement::step-unused-requires t c = let P = subst (λ x. AreExprsBelow (length c.args.library.now.nodes.exprs) (stmt_exprs x)) c.in-Call.is (rw c.tree.ensures at c.stmt.ensures.parts) in ((let below = level_less c.args.cx.now.depth c.args.cx.now.depth (length c.args.library.now.nodes.stmts) 1 (8 * c.args.id.number + 6) refl (omega arith) in omega (arith, c.decreases, below)), (P.0, (c.requires.this, c.requires.depth)))
 
 pub statement::step-choose-requires : goal.statement::step-choose-requires
-statement::step-choose-requires t c = let P = subst (λ x. AreExprsBelow (length c.args.library.now.nodes.exprs) (stmt_exprs x)) c.in-If.is (rw c.tree.ensures at c.stmt.ensures.parts) in let S : AreStmtsBelow c.args.id.number (c.in-If.then.items ++ else_stmts c.in-If.other) = subst (λ x. AreStmtsBelow c.args.id.number (stmt_stmts x)) c.in-If.is c.stmt.ensures.smaller in let A = stmts_below_front c.args.id.number c.in-If.then.items (else_stmts c.in-If.other) S in let B = stmts_below_back c.args.id.number c.in-If.then.items (else_stmts c.in-If.other) S in let below = level_less c.args.cx.now.depth c.args.cx.now.depth (length c.args.library.now.nodes.stmts) (8 * max (stmts_top c.in-If.then.items) (stmts_top (else_stmts c.in-If.other)) + 4) (8 * c.args.id.number + 6) refl (omega (arith, stmts_top_le c.args.id.number c.in-If.then.items A, stmts_top_le c.args.id.number (else_stmts c.in-If.other) B)) in (omega (arith, c.decreases, below), (P.0, (stmts_below_more c.args.id.number _ c.in-If.then.items (omega (arith, c.requires.id)) A, (stmts_below_more c.args.id.number _ (else_stmts c.in-If.other) (omega (arith, c.requires.id)) B, (c.requires.this, c.requires.depth)))))
+statement::step-choose-requires t c = let P = subst (λ x. AreExprsBelow (length c.args.library.now.nodes.exprs) (stmt_exprs x)) c.in-If.is (rw c.tree.ensures at c.stmt.ensures.parts) in let S : AreStmtsBelow c.args.id.number (c.in-If.then.items ++ else_stmts c.in-If.other) = subst (λ x. AreStmtsBelow c.args.id.number (stmt_stmts x)) c.in-If.is c.stmt.ensures.smaller in let A = stmts_below_front c.args.id.number c.in-If.then.items (else_stmts c.in-If.other) S in let B = stmts_below_back c.args.id.number c.in-If.then.items (else_stmts c.in-If.other) S in let below = level_less c.args.cx.now.depth c.args.cx.now.depth (length c.args.library.now.nodes.stmts) (8 * max (stmts_top c.in-If.then.items) (stmts_top (else_stmts c.in-If.other)) + 5) (8 * c.args.id.number + 6) refl (omega (arith, stmts_top_le c.args.id.number c.in-If.then.items A, stmts_top_le c.args.id.number (else_stmts c.in-If.other) B)) in (omega (arith, c.decreases, below), (P.0, (stmts_below_more c.args.id.number _ c.in-If.then.items (omega (arith, c.requires.id)) A, (stmts_below_more c.args.id.number _ (else_stmts c.in-If.other) (omega (arith, c.requires.id)) B, (c.requires.this, c.requires.depth)))))
 
 pub statement::step-unroll-requires : goal.statement::step-unroll-requires
 statement::step-unroll-requires t c = let P = subst (λ x. AreExprsBelow (length c.args.library.now.nodes.exprs) (stmt_exprs x)) c.in-For.is (rw c.tree.ensures at c.stmt.ensures.parts) in let A : AreStmtsBelow c.args.id.number c.in-For.body.items = subst (λ x. AreStmtsBelow c.args.id.number (stmt_stmts x)) c.in-For.is c.stmt.ensures.smaller in let below = level_less c.args.cx.now.depth c.args.cx.now.depth (length c.args.library.now.nodes.stmts) (8 * stmts_top c.in-For.body.items + 4) (8 * c.args.id.number + 6) refl (omega (arith, stmts_top_le c.args.id.number c.in-For.body.items A)) in (omega (arith, c.decreases, below), (P.0, (P.1.0, (stmts_below_more c.args.id.number _ c.in-For.body.items (omega (arith, c.requires.id)) A, (c.requires.this, c.requires.depth)))))
@@ -605,3 +606,24 @@ body::body_values-returns-in-Ok-clause-fails t c = if_err c.last_values.result (
 
 pub body::body_values-returns-in-Err-clause-fails : goal.body::body_values-returns-in-Err-clause-fails
 body::body_values-returns-in-Err-clause-fails t c = fails_before c.args.library.now (expr_at c.args.library.now.nodes) (stmt_at c.args.library.now.nodes) c.args.ids.now (record { number = 0 }) c.in-len1-up.len_at_least c.args.cx.now c.args.tally.now c.in-Err.fault c.in-Err.ensures.fails
+
+pub block::in_turn-returns-clause-runs : goal.block::in_turn-returns-clause-runs
+block::in_turn-returns-clause-runs t c = runs_turns c.args.library.now (expr_at c.args.library.now.nodes) (stmt_at c.args.library.now.nodes) c.args.then.now.items _ _ c.args.other.now c.args.then.now.end c.args.cx.now c.args.tally.now c.requires.shared c.as_slice.ensures c.items_of.ensures _ _ _ _ c.in_ok-statements.ensures.runs c.in_ok-statements-2.ensures.runs
+
+pub block::in_turn-returns-in_err-statements-clause-fails : goal.block::in_turn-returns-in_err-statements-clause-fails
+block::in_turn-returns-in_err-statements-clause-fails t c = if_err_from _ _ _ c.from_residual.ensures.1 (fails_first_turn c.args.library.now (expr_at c.args.library.now.nodes) (stmt_at c.args.library.now.nodes) c.args.then.now.items _ _ c.args.other.now c.args.then.now.end c.args.cx.now c.args.tally.now c.requires.shared c.as_slice.ensures refl _ c.in_err-statements.ensures.fails)
+
+pub block::in_turn-returns-in_err-statements-2-clause-fails : goal.block::in_turn-returns-in_err-statements-2-clause-fails
+block::in_turn-returns-in_err-statements-2-clause-fails t c = if_err_from _ _ _ c.from_residual-in_err-statements-2.ensures.1 (fails_second_turn c.args.library.now (expr_at c.args.library.now.nodes) (stmt_at c.args.library.now.nodes) c.args.then.now.items _ _ c.args.other.now c.args.then.now.end c.args.cx.now c.args.tally.now c.requires.shared c.as_slice.ensures c.items_of.ensures _ _ _ c.in_ok-statements.ensures.runs c.in_err-statements-2.ensures.fails)
+
+pub block::in_turn-statements-requires : goal.block::in_turn-statements-requires
+block::in_turn-statements-requires t c = ((let below = level_less c.args.cx.now.depth c.args.cx.now.depth (length c.args.library.now.nodes.stmts) (8 * stmts_top c.as_slice.result.now) (8 * max (stmts_top c.args.then.now.items) (stmts_top (else_stmts c.args.other.now)) + 2) (refl) (omega (arith, ap stmts_top c.as_slice.ensures)) in omega (arith, c.decreases, below)), (subst (λ xs. AreStmtsBelow (length c.args.library.now.nodes.stmts) xs) (sym c.as_slice.ensures) c.requires.then, (c.requires.this, c.requires.depth)))
+
+pub block::in_turn-statements-requires-2 : goal.block::in_turn-statements-requires-2
+block::in_turn-statements-requires-2 t c = let kept = c.in_ok-statements.ensures.runs.stays in ((let below = level_less c.statements.new.cx.depth c.args.cx.now.depth (length c.args.library.now.nodes.stmts) (8 * stmts_top c.items_of.result.now) (8 * max (stmts_top c.args.then.now.items) (stmts_top (else_stmts c.args.other.now)) + 2) kept.depth (omega (arith, ap stmts_top c.items_of.ensures)) in omega (arith, c.decreases, below)), (subst (λ xs. AreStmtsBelow (length c.args.library.now.nodes.stmts) xs) (sym c.items_of.ensures) c.requires.other, (subst (λ n. n < length c.args.library.now.funs) (sym kept.this) c.requires.this, subst (λ n. n ≤ 64) (sym kept.depth) c.requires.depth)))
+
+pub block::both-in_turn-requires : goal.block::both-in_turn-requires
+block::both-in_turn-requires t c = ((let below = level_less c.args.cx.now.depth c.args.cx.now.depth (length c.args.library.now.nodes.stmts) (8 * max (stmts_top c.args.then.now.items) (stmts_top (else_stmts c.args.other.now)) + 2) (8 * max (stmts_top c.args.then.now.items) (stmts_top (else_stmts c.args.other.now)) + 3) refl (omega arith) in omega (arith, c.decreases, below)), (c.requires.then, (c.requires.other, (sym c.both_leave.ensures ∙ c.if-both_leave.true, (c.requires.this, c.requires.depth)))))
+
+pub block::both-apart-requires : goal.block::both-apart-requires
+block::both-apart-requires t c = ((let below = level_less c.args.cx.now.depth c.args.cx.now.depth (length c.args.library.now.nodes.stmts) (8 * max (stmts_top c.args.then.now.items) (stmts_top (else_stmts c.args.other.now)) + 2) (8 * max (stmts_top c.args.then.now.items) (stmts_top (else_stmts c.args.other.now)) + 3) refl (omega arith) in omega (arith, c.decreases, below)), (c.requires.then, (c.requires.other, (c.requires.this, c.requires.depth))))

@@ -37,17 +37,23 @@ decreases-block::plain l = level l.cx.now.depth (length l.library.now.nodes.stmt
 abbrev pub decreases-block::branch : goal.decreases-block::branch
 decreases-block::branch l = level l.cx.now.depth (length l.library.now.nodes.stmts) (8 * stmts_top l.ids.now + 1)
 
+abbrev pub decreases-block::apart : goal.decreases-block::apart
+decreases-block::apart l = level l.cx.now.depth (length l.library.now.nodes.stmts) (8 * max (stmts_top l.then.now.items) (stmts_top (else_stmts l.other.now)) + 2)
+
+abbrev pub decreases-block::in_turn : goal.decreases-block::in_turn
+decreases-block::in_turn l = level l.cx.now.depth (length l.library.now.nodes.stmts) (8 * max (stmts_top l.then.now.items) (stmts_top (else_stmts l.other.now)) + 2)
+
 abbrev pub decreases-block::both : goal.decreases-block::both
-decreases-block::both l = level l.cx.now.depth (length l.library.now.nodes.stmts) (8 * max (stmts_top l.then.now.items) (stmts_top (else_stmts l.other.now)) + 2)
+decreases-block::both l = level l.cx.now.depth (length l.library.now.nodes.stmts) (8 * max (stmts_top l.then.now.items) (stmts_top (else_stmts l.other.now)) + 3)
 
 abbrev pub decreases-block::taken : goal.decreases-block::taken
 decreases-block::taken l = level l.cx.now.depth (length l.library.now.nodes.stmts) (8 * max (stmts_top l.then.now.items) (stmts_top (else_stmts l.other.now)) + 2)
 
 abbrev pub decreases-block::run_time : goal.decreases-block::run_time
-decreases-block::run_time l = level l.cx.now.depth (length l.library.now.nodes.stmts) (8 * max (stmts_top l.then.now.items) (stmts_top (else_stmts l.other.now)) + 3)
+decreases-block::run_time l = level l.cx.now.depth (length l.library.now.nodes.stmts) (8 * max (stmts_top l.then.now.items) (stmts_top (else_stmts l.other.now)) + 4)
 
 abbrev pub decreases-block::choose : goal.decreases-block::choose
-decreases-block::choose l = level l.cx.now.depth (length l.library.now.nodes.stmts) (8 * max (stmts_top l.then.now.items) (stmts_top (else_stmts l.other.now)) + 4)
+decreases-block::choose l = level l.cx.now.depth (length l.library.now.nodes.stmts) (8 * max (stmts_top l.then.now.items) (stmts_top (else_stmts l.other.now)) + 5)
 
 abbrev pub decreases-rounds::round : goal.decreases-rounds::round
 decreases-rounds::round l = level l.cx.now.depth (length l.library.now.nodes.stmts) (8 * stmts_top l.body.now.items + 2)
