@@ -24,3 +24,5 @@ pub mod GroupMoves
 pub mod Turns
 pub mod LevelRows
 pub mod GroupEdges
+pub mod Jumps
+pub mod NearEnds

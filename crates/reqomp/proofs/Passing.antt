@@ -175,6 +175,30 @@ module _ (f : FlatForm) (marked : List WireId) where
           go true = refl
           go false = c
 
+  one_changed : (ws : List WireId) (w : WireId) (s : Step) → has_wire w ws ≡ true → changes_one ws s ≡ false → changes w s ≡ false
+  one_changed [] w s h e = cc
+  one_changed (x ∷ ws) w s h e = elim (or_cases (same_wire x w) (has_wire w ws) h) [
+    | inl t ↦ ap (λ (v : WireId). changes v s) (same_back x w t) ∙ (or_false_from (changes x s) (changes_one ws s) e).0
+    | inr r ↦ one_changed ws w s r (or_false_from (changes x s) (changes_one ws s) e).1
+  ]
+    where
+      same_back : (x w : WireId) → same_wire x w ≡ true → w ≡ x
+      same_back x w t = ap (λ (n : ℕ). record { number = n }) (sym (eqb-true x.number w.number t))
+
+      or_false_from : (a b : Bool) → (a || b) ≡ false → (a ≡ false) × (b ≡ false)
+      or_false_from true b e = cc
+      or_false_from false b e = (refl, e)
+
+  -- from a step on to an earlier one, where no step between changes a marked wire, what was found changes at the earlier one alone
+  pub found_back : (n i : ℕ) (p : Found) → n < i → ((w : WireId) → has_wire w p.wires ≡ true → has_wire w marked ≡ true) → ((t : StepId) → n < t.number → t.number < i → changes_one marked (step_at f t) ≡ false)
+      → found_below f marked i p ≡ found_below f marked n (found_at f marked (step_id n) p)
+  found_back n i p l inside none =
+      ap (λ (m : ℕ). found_below f marked m p) (rest n i l)
+      ∙ found_skip (suc n) (i - suc n) p (λ t a b. none_changed p.wires (step_at f t) (λ w c. one_changed marked w (step_at f t) (inside w c) (none t (omega arith) (omega arith))))
+    where
+      rest : (a b : ℕ) → a < b → b ≡ suc a + (b - suc a)
+      rest a b h = omega arith
+
   -- before the first steps of the wires found, nothing more is found
   pub pass_end : (n low : ℕ) (p : Found) → n ≤ low → IsBelow f low p.wires → found_below f marked n p ≡ p
   pass_end n low p l h =
@@ -252,6 +276,21 @@ module _ (f : FlatForm) (marked : List WireId) (s : StepId) (search : Search) (l
   has_taken e next least are below =
       subst (HasFound f next least (steps ++ s ∷ [])) (ap (λ (b : Bool). cond b (record { wires = marked_among marked (used (step_at f s)) ++ p.wires; steps = s ∷ p.steps }) p) e)
       (record { wires_are = are; below = below; steps_are = reverse-append steps (s ∷ []) ∙ ap (λ (l : List StepId). s ∷ l) h.steps_are })
+
+-- what is found is marked
+pub among_marked : (marked xs : List WireId) (w : WireId) → has_wire w (marked_among marked xs) ≡ true → has_wire w marked ≡ true
+among_marked marked xs w h = contains_has w marked (marked_in marked xs w (has_contains w (marked_among marked xs) h)).1
+
+pub found_marked : (f : FlatForm) (marked : List WireId) (s : StepId) (p : Found) → ((w : WireId) → has_wire w p.wires ≡ true → has_wire w marked ≡ true)
+    → (w : WireId) → has_wire w (found_at f marked s p).wires ≡ true → has_wire w marked ≡ true
+found_marked f marked s p inside = go (changes_one p.wires (step_at f s))
+  where
+    go : (b : Bool) → (w : WireId) → has_wire w (cond b (record { wires = marked_among marked (used (step_at f s)) ++ p.wires; steps = s ∷ p.steps }) p).wires ≡ true → has_wire w marked ≡ true
+    go true w h = elim (or_cases (has_wire w (marked_among marked (used (step_at f s)))) (has_wire w p.wires) (sym (has_append w (marked_among marked (used (step_at f s))) p.wires) ∙ h)) [
+      | inl a ↦ among_marked marked (used (step_at f s)) w a
+      | inr b ↦ inside w b
+    ]
+    go false w h = inside w h
 
 -- a pass begins with the wires that its step uses
 pub has_begun : (f : FlatForm) (marked : List WireId) (s : StepId) (search : Search) (low : ℕ) → AreStamped search.stamps.items search.newest (marked_among marked (used (step_at f s)) ++ []) → IsBelow f low (marked_among marked (used (step_at f s)) ++ [])

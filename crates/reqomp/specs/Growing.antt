@@ -1,5 +1,5 @@
 -- The graph of a level in the making: which of its edges are there.
-use Rattle.std.specs.Prelude.{◌≡◌, ℕ, ◌<◌, Bool, true, false, List, length, get_or, slice_get, Option, Some, None, Contains, ⊤}
+use Rattle.std.specs.Prelude.{◌≡◌, ◌↔◌, ℕ, ◌<◌, Bool, true, false, List, length, get_or, slice_get, Option, Some, None, Contains, ⊤}
 use Rattle.flat_core.specs.declared.step.WireId.{WireId}
 use Rattle.flat_core.specs.declared.step.StepId.{StepId}
 use Rattle.flat_core.specs.Form.{FlatForm}
@@ -15,6 +15,7 @@ use Rattle.flat_core.specs.Sound.{IsFlat}
 use Rattle.unqomp.specs.GraphOf.{HasArrowOf, IsGraphOf}
 use Rattle.reqomp.specs.declared.groups.Group.{Group}
 use Rattle.reqomp.specs.declared.places.Places.{Places}
+use Rattle.reqomp.specs.declared.near.Near.{Near}
 use Rattle.reqomp.specs.declared.groups.Groups.{Groups}
 use Rattle.reqomp.specs.Simple.{marked_at}
 use Rattle.reqomp.specs.LevelGraph.{IsLevelGraphOf}
@@ -74,6 +75,30 @@ HasCopiedBefore f all x v g = (kind : EdgeKind) (u : Vertex) → IsCopied all ki
 
 abbrev pub HasCopiedAfter : FlatForm → Vertex → Vertex → Arena → Type 0
 HasCopiedAfter f x u g = (v : Vertex) → Contains g.vertices v → Edge f (Uses f) Availability x v → HasArrowOf g Availability u v
+
+-- the edges of a kind at a vertex of the level's graph that steps which are done again give: Control edges that enter it, and Availability
+-- edges that leave it
+abbrev pub arrow_again : Bool → VertexId → VertexId → Arrow
+arrow_again true other own = arrow_of other own Control
+arrow_again false other own = arrow_of own other Availability
+
+abbrev pub TakenAgain : FlatForm → List WireId → Bool → Vertex → Vertex → Type 0
+TakenAgain f marked true other own = TakenEdge f marked Control other own
+TakenAgain f marked false other own = TakenEdge f marked Availability own other
+
+-- the graph has such an edge for each of some vertices of the circuit graph that it has
+abbrev pub HasEnds : List (Option VertexId) → List VertexId → VertexId → Bool → Arena → Type 0
+HasEnds ids ends own entering g = (x y : VertexId) → Contains ends x → get_or ids x.number None ≡ Some y → Contains g.arrows (arrow_again entering y own)
+
+-- the vertices whose Control edges enter a vertex of the circuit graph, and those that its Availability edges lead to
+pub record IsNear (circuit : Arena) (at : VertexId) (near : Near) : Type 0 where
+  pub holders : (x : VertexId) → Contains near.holders.items x ↔ Contains circuit.arrows (arrow_of x at Control)
+  pub changers : (x : VertexId) → Contains near.changers.items x ↔ Contains circuit.arrows (arrow_of at x Availability)
+
+-- the same for each vertex of the circuit graph
+pub record AreNear (circuit : Arena) (near : List Near) : Type 0 where
+  pub each_vertex : length near ≡ length circuit.vertices
+  pub at : (at : VertexId) (row : Near) → slice_get near at.number ≡ Some row → IsNear circuit at row
 
 -- the graph has all edges of a group: those that enter its vertex, and those of the steps done again
 pub record HasGroupEdges (f : FlatForm) (group : Group) (g : Arena) : Type 0 where

@@ -6,6 +6,7 @@ use Rattle.flat_core.specs.Form.{FlatForm}
 use Rattle.flat_core.specs.Label.{changes, step_at, top, label_before}
 use Rattle.reqomp.specs.declared.marked.Marks.{Marks}
 use Rattle.reqomp.specs.Simple.{has_wire, used_at_top_from, marked_at}
+use Rattle.reqomp.specs.Redone.{changes_one}
 
 -- flags tell which wires a list has
 abbrev pub AreFlagsOf : List Bool → List WireId → Type 0
@@ -26,7 +27,14 @@ pub record AreFirstSteps (f : FlatForm) (first : List ℕ) : Type 0 where
   pub each_wire : length first ≡ length f.wires
   pub least : (w : WireId) (s : StepId) → s.number < length f.steps → changes w (step_at f s) ≡ true → get_or first w.number 0 ≤ s.number
 
--- the wires that a level marks, told by flags
+-- an earlier step for each step (for step 0 itself), and between the two none that changes one of some wires
+pub record AreJumps (f : FlatForm) (wires : List WireId) (jumps : List ℕ) : Type 0 where
+  pub each_step : length jumps ≡ length f.steps
+  pub earlier : (s : StepId) → 0 < s.number → s.number < length f.steps → get_or jumps s.number 0 < s.number
+  pub between : (s t : StepId) → s.number < length f.steps → get_or jumps s.number 0 < t.number → t.number < s.number → changes_one wires (step_at f t) ≡ false
+
+-- the wires that a level marks, told by flags, and the way back over the steps that change them
 pub record AreMarks (f : FlatForm) (m : Marks) : Type 0 where
   pub as_many : length m.flags.items ≡ length f.wires
   pub told : AreFlagsOf m.flags.items (marked_at f m.level)
+  pub jumps : AreJumps f (marked_at f m.level) m.jumps.items

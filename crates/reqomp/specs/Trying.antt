@@ -16,6 +16,7 @@ use Rattle.reqomp.specs.declared.groups.Group.{Group}
 use Rattle.reqomp.specs.declared.levels.Planner.{Planner}
 use Rattle.reqomp.specs.declared.levels.Outcome.{Outcome}
 use Rattle.reqomp.specs.declared.levels.Outcome.TheVariants.{Fitting, Over}
+use Rattle.reqomp.specs.Growing.{AreNear}
 use Rattle.reqomp.specs.Simple.{simple_wires, marked_at}
 use Rattle.reqomp.specs.Level.{level_graph, IsRedone, AreMoves, IsLevel}
 use Rattle.reqomp.specs.Passing.{IsSearch}
@@ -45,6 +46,7 @@ pub record IsPlanOf (f : FlatForm) (k : ℕ) (p : Plan) : Type 0 where
 -- what the levels are planned from belongs to a form
 pub record IsPlanner (f : FlatForm) (planner : Planner) : Type 0 where
   pub of_form : IsGraphOf f planner.circuit
+  pub near_are : AreNear planner.circuit planner.near.items
   pub simple_are : planner.simple ≡ simple_wires f
   pub is_search : IsSearch f planner.search
   pub made : IsMadeFor f planner.rows

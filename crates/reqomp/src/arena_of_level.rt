@@ -5,7 +5,7 @@ ghost use Rattle.graph_core.specs.declared.vertex.Vertex.{Vertex};
 ghost use Rattle.graph_core.specs.Arena.{Arena, IsVertexOf};
 ghost use Rattle.unqomp.specs.GraphOf.{IsGraphOf};
 ghost use Rattle.reqomp.specs.declared.groups.Group.{Group};
-ghost use Rattle.reqomp.specs.Growing.{AreOnce, ArePlaced, ArePlaces, IsIdTable, HasGrown, IsSoundFor};
+ghost use Rattle.reqomp.specs.Growing.{AreNear, AreOnce, ArePlaced, ArePlaces, IsIdTable, HasGrown, IsSoundFor};
 ghost use Rattle.reqomp.specs.Growing.{MayCopyBefore, MayCopyAfter, HasCopiedBefore, HasCopiedAfter, HasGroupEdges};
 ghost use Rattle.reqomp.specs.Grouping.{vertices_of, IsGroup, AreGroups};
 ghost use Rattle.reqomp.specs.LevelGraph.{IsLevelGraphOf};
@@ -14,6 +14,7 @@ ghost use Rattle.reqomp.specs.Simple.{marked_at};
 use crate::groups::{Group, Groups};
 use crate::growing::Growing;
 use crate::marked::Marks;
+use crate::near::Near;
 use crate::places::Places;
 use flat_core::Flat;
 use graph_core::{Graph, VertexId};
@@ -57,12 +58,14 @@ impl Growing {
         flat: &Flat,
         circuit: &Graph,
         ids: &[Option<VertexId>],
+        near: &[Near],
         at: VertexId,
         id: VertexId,
     ) -> Result<(), AllocError>
         requires circuit { IsGraphOf flat.now circuit.now }
         requires table { IsIdTable circuit.now self.old.graph ids.now }
         requires sound { IsSoundFor flat.now (marked_at flat.now self.old.level) self.old.graph }
+        requires near { AreNear circuit.now near.now }
         requires at { at.number < length circuit.now.vertices }
         requires id { id.number < length self.old.graph.vertices }
         requires before { (x v : Vertex) → IsVertexOf circuit.now at x → IsVertexOf self.old.graph id v
@@ -77,8 +80,10 @@ impl Growing {
         ensures after { OnOk result ((x u : Vertex) → IsVertexOf circuit.now at x → IsVertexOf self.old.graph id u
             → HasCopiedAfter flat.now x u self.new.graph) }
     {
-        self.copy_before(flat, circuit, ids, at, id, false)?;
-        self.copy_after(flat, circuit, ids, at, id)
+        let _vertices = circuit.len();
+        let row = &near[at.number as usize];
+        self.add_ends(flat, circuit, ids, &row.holders, id, true)?;
+        self.add_ends(flat, circuit, ids, &row.changers, id, false)
     }
 
     // Adds the edges of a group, whose vertex has this id in this graph.
@@ -87,6 +92,7 @@ impl Growing {
         flat: &Flat,
         circuit: &Graph,
         ids: &[Option<VertexId>],
+        near: &[Near],
         places: &Places,
         group: &Group,
         id: VertexId,
@@ -94,6 +100,7 @@ impl Growing {
         requires circuit { IsGraphOf flat.now circuit.now }
         requires table { IsIdTable circuit.now self.old.graph ids.now }
         requires sound { IsSoundFor flat.now (marked_at flat.now self.old.level) self.old.graph }
+        requires near { AreNear circuit.now near.now }
         requires places { ArePlaces flat.now circuit.now (length circuit.now.vertices) places.now }
         requires group { IsGroup flat.now (marked_at flat.now self.old.level) circuit.now group.now }
         requires id { IsVertexOf self.old.graph id group.now.vertex }
@@ -103,10 +110,10 @@ impl Growing {
         ensures edges { OnOk result (HasGroupEdges flat.now group.now self.new.graph) }
     {
         let _steps = flat.steps();
-        self.copy_before(flat, circuit, ids, group.at, id, true)?;
+        self.copy_before(flat, circuit, ids, group.at, id)?;
         for t in &group.steps {
             let at = places.beside(group.vertex, group.at, *t);
-            self.copy_again(flat, circuit, ids, at, id)?;
+            self.copy_again(flat, circuit, ids, near, at, id)?;
         }
         Ok(())
     }
@@ -117,12 +124,14 @@ impl Growing {
         flat: &Flat,
         circuit: &Graph,
         ids: &[Option<VertexId>],
+        near: &[Near],
         places: &Places,
         groups: &[Group],
     ) -> Result<(), AllocError>
         requires circuit { IsGraphOf flat.now circuit.now }
         requires table { IsIdTable circuit.now self.old.graph ids.now }
         requires sound { IsSoundFor flat.now (marked_at flat.now self.old.level) self.old.graph }
+        requires near { AreNear circuit.now near.now }
         requires places { ArePlaces flat.now circuit.now (length circuit.now.vertices) places.now }
         requires groups { (i : ℕ) (group : Group) → slice_get groups.now i ≡ Some group
             → IsGroup flat.now (marked_at flat.now self.old.level) circuit.now group }
@@ -134,7 +143,7 @@ impl Growing {
         let _count = self.graph.len();
         for (i, group) in groups.iter().enumerate() {
             let id = VertexId { number: i as u32 };
-            self.add_group_edges(flat, circuit, ids, places, group, id)?;
+            self.add_group_edges(flat, circuit, ids, near, places, group, id)?;
         }
         Ok(())
     }
@@ -146,10 +155,12 @@ pub fn level_graph(
     alloc: Global,
     flat: &Flat,
     circuit: &Graph,
+    near: &[Near],
     marks: &Marks,
     groups: &Groups,
 ) -> Result<Graph, AllocError>
     requires circuit { IsGraphOf flat.now circuit.now }
+    requires near { AreNear circuit.now near.now }
     requires groups { AreGroups flat.now (marked_at flat.now marks.now.level) circuit.now (length circuit.now.vertices) groups.now }
     requires few { groups.now.moves ≤ 600000 }
     ensures vertices { IfOk result (λ graph. graph.vertices ≡ vertices_of groups.now.items.items) }
@@ -164,6 +175,6 @@ pub fn level_graph(
         graph,
         edges: 0,
     };
-    growing.add_all_edges(flat, circuit, &ids, &places, &groups.items)?;
+    growing.add_all_edges(flat, circuit, &ids, near, &places, &groups.items)?;
     Ok(growing.graph)
 }

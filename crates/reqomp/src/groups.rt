@@ -13,9 +13,9 @@ ghost use Rattle.reqomp.specs.Redone.{changes_one};
 ghost use Rattle.reqomp.specs.Search.{IsWidthOf};
 ghost use Rattle.reqomp.specs.Simple.{marked_at};
 
-use crate::marked::Marks;
+use crate::marked::{Marks, changes_flagged};
 use crate::pass_back::Search;
-use flat_core::{Flat, Step, StepId};
+use flat_core::{Flat, StepId};
 use graph_core::{Graph, Vertex, VertexId};
 use std::alloc::{AllocError, Global};
 
@@ -41,10 +41,7 @@ fn changes_marked(flat: &Flat, marks: &Marks, s: StepId) -> bool
     requires marks { AreMarks flat.now marks.now }
     ensures { result ≡ changes_one (marked_at flat.now marks.now.level) (step_at flat.now s) }
 {
-    match flat.step(s) {
-        Step::X { target, .. } | Step::H { target, .. } => marks.flags[target.number as usize],
-        Step::P { .. } | Step::M { .. } => false,
-    }
+    changes_flagged(flat, &marks.flags, s)
 }
 
 // Whether a vertex stands on no chain of a marked wire.

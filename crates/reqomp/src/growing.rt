@@ -1,17 +1,18 @@
 //! The graph of a level in the making: its edges are copied from the circuit graph.
 
-ghost use Rattle.std.specs.Prelude.{◌≡◌, ◌<◌, ◌⊎◌, ◌↔◌, length, cond, get_or, None, Contains, IsTrue, OnOk};
+ghost use Rattle.std.specs.Prelude.{◌≡◌, ◌<◌, ◌⊎◌, ◌↔◌, true, length, get_or, None, Some, Contains, IsTrue, OnOk};
 ghost use Rattle.graph_core.specs.declared.vertex.Vertex.{Vertex};
-ghost use Rattle.graph_core.specs.declared.vertex.EdgeKind.TheVariants.{Target, Availability};
+ghost use Rattle.graph_core.specs.declared.graph.VertexId.{VertexId};
+ghost use Rattle.graph_core.specs.declared.vertex.EdgeKind.TheVariants.{Target};
 ghost use Rattle.graph_core.specs.declared.graph.Arrow.{Arrow};
 ghost use Rattle.graph_core.specs.Arena.{IsVertexOf};
 ghost use Rattle.unqomp.specs.GraphOf.{IsGraphOf};
 ghost use Rattle.reqomp.specs.Contracted.{TakenEdge};
-ghost use Rattle.reqomp.specs.Growing.{IsIdTable, IsCopied, HasGrown, IsSoundFor, MayCopyBefore, MayCopyAfter, HasCopiedBefore, HasCopiedAfter, arrow_of};
+ghost use Rattle.reqomp.specs.Growing.{IsIdTable, HasGrown, IsSoundFor, MayCopyBefore, HasCopiedBefore, TakenAgain, HasEnds, arrow_of, arrow_again};
 ghost use Rattle.reqomp.specs.Simple.{marked_at};
 
 use flat_core::Flat;
-use graph_core::{EdgeKind, Edges, Graph, VertexId};
+use graph_core::{Arrow, EdgeKind, Edges, Graph, VertexId};
 use std::alloc::AllocError;
 
 /// The graph of a level, and how many edges it has.
@@ -30,26 +31,31 @@ fn is_edge(v: VertexId, k: EdgeKind, other: VertexId, kind: EdgeKind) -> bool
     v == other && k == kind
 }
 
-// Whether edges of a kind are copied, where all are or the Control edges.
-fn is_copied(all: bool, kind: EdgeKind) -> bool
-    ensures { IsTrue result ↔ IsCopied all kind }
-{
-    if all { true } else { kind == EdgeKind::Control }
-}
-
-// Whether an edge is an Availability edge.
-fn is_available(kind: EdgeKind) -> bool
-    ensures { IsTrue result ↔ (kind ≡ Availability) }
-{
-    kind == EdgeKind::Availability
-}
-
-// The id in the level's graph of a vertex of the circuit graph, if it is there and asked for.
-fn chosen(ids: &[Option<VertexId>], x: VertexId, asked: bool) -> Option<VertexId>
+// The id in the level's graph of a vertex of the circuit graph, if it is there.
+fn chosen(ids: &[Option<VertexId>], x: VertexId) -> Option<VertexId>
     requires { x.number < length ids.now }
-    ensures { result ≡ cond asked (get_or ids.now x.number None) None }
+    ensures { result ≡ get_or ids.now x.number None }
 {
-    if asked { ids[x.number as usize] } else { None }
+    ids[x.number as usize]
+}
+
+// The edge at a vertex of the level's graph that a step which is done again gives, and another vertex.
+fn arrow_again(other: VertexId, own: VertexId, entering: bool) -> Arrow
+    ensures { result ≡ arrow_again entering other own }
+{
+    if entering {
+        Arrow {
+            from: other,
+            to: own,
+            kind: EdgeKind::Control,
+        }
+    } else {
+        Arrow {
+            from: own,
+            to: other,
+            kind: EdgeKind::Availability,
+        }
+    }
 }
 
 // Whether an edge of a kind leads to a vertex, or comes from it.
@@ -125,8 +131,7 @@ impl Growing {
         self.add_once(from, to, kind)
     }
 
-    /// Copies the edges that enter a vertex of the circuit graph to a vertex of this one: all of them, or the Control
-    /// edges.
+    /// Copies the edges that enter a vertex of the circuit graph to a vertex of this one.
     pub fn copy_before(
         &mut self,
         flat: &Flat,
@@ -134,55 +139,83 @@ impl Growing {
         ids: &[Option<VertexId>],
         at: VertexId,
         to: VertexId,
-        all: bool,
     ) -> Result<(), AllocError>
         requires circuit { IsGraphOf flat.now circuit.now }
         requires table { IsIdTable circuit.now self.old.graph ids.now }
         requires sound { IsSoundFor flat.now (marked_at flat.now self.old.level) self.old.graph }
         requires at { at.number < length circuit.now.vertices }
         requires to { to.number < length self.old.graph.vertices }
-        requires may { (x v : Vertex) → IsVertexOf circuit.now at x → IsVertexOf self.old.graph to v → MayCopyBefore flat.now (marked_at flat.now self.old.level) all x v }
+        requires may { (x v : Vertex) → IsVertexOf circuit.now at x → IsVertexOf self.old.graph to v → MayCopyBefore flat.now (marked_at flat.now self.old.level) true x v }
         ensures level { self.new.level ≡ self.old.level }
         ensures grown { HasGrown self.old.graph self.new.graph }
         ensures sound { IsSoundFor flat.now (marked_at flat.now self.old.level) self.new.graph }
-        ensures copied { OnOk result ((x v : Vertex) → IsVertexOf circuit.now at x → IsVertexOf self.old.graph to v → HasCopiedBefore flat.now all x v self.new.graph) }
+        ensures copied { OnOk result ((x v : Vertex) → IsVertexOf circuit.now at x → IsVertexOf self.old.graph to v → HasCopiedBefore flat.now true x v self.new.graph) }
     {
         let _vertices = circuit.len();
         let mut edges = circuit.before(at);
         while let Some((x, kind)) = edges.next() {
-            if let Some(from) = chosen(ids, x, is_copied(all, kind)) {
+            if let Some(from) = chosen(ids, x) {
                 self.add_taken(flat, circuit, from, to, kind)?;
             }
         }
         Ok(())
     }
 
-    /// Copies the Availability edges that leave a vertex of the circuit graph to a vertex of this one.
-    pub fn copy_after(
+    // Adds the edge of an end, if that is in this graph.
+    fn add_end(
         &mut self,
         flat: &Flat,
         circuit: &Graph,
         ids: &[Option<VertexId>],
-        at: VertexId,
-        from: VertexId,
+        x: VertexId,
+        own: VertexId,
+        entering: bool,
     ) -> Result<(), AllocError>
         requires circuit { IsGraphOf flat.now circuit.now }
         requires table { IsIdTable circuit.now self.old.graph ids.now }
         requires sound { IsSoundFor flat.now (marked_at flat.now self.old.level) self.old.graph }
-        requires at { at.number < length circuit.now.vertices }
-        requires from { from.number < length self.old.graph.vertices }
-        requires may { (x u : Vertex) → IsVertexOf circuit.now at x → IsVertexOf self.old.graph from u → MayCopyAfter flat.now (marked_at flat.now self.old.level) x u }
+        requires end { x.number < length circuit.now.vertices }
+        requires own { own.number < length self.old.graph.vertices }
+        requires taken { (u v : Vertex) → IsVertexOf circuit.now x u → IsVertexOf self.old.graph own v → TakenAgain flat.now (marked_at flat.now self.old.level) entering u v }
         ensures level { self.new.level ≡ self.old.level }
         ensures grown { HasGrown self.old.graph self.new.graph }
         ensures sound { IsSoundFor flat.now (marked_at flat.now self.old.level) self.new.graph }
-        ensures copied { OnOk result ((x u : Vertex) → IsVertexOf circuit.now at x → IsVertexOf self.old.graph from u → HasCopiedAfter flat.now x u self.new.graph) }
+        ensures there { OnOk result ((y : VertexId) → get_or ids.now x.number None ≡ Some y → Contains self.new.graph.arrows (arrow_again entering y own)) }
     {
-        let _vertices = circuit.len();
-        let mut edges = circuit.after(at);
-        while let Some((y, kind)) = edges.next() {
-            if let Some(to) = chosen(ids, y, is_available(kind)) {
-                self.add_taken(flat, circuit, from, to, kind)?;
+        match chosen(ids, x) {
+            None => Ok(()),
+            Some(y) => {
+                let arrow = arrow_again(y, own, entering);
+                self.add_taken(flat, circuit, arrow.from, arrow.to, arrow.kind)
             }
+        }
+    }
+
+    /// Adds edges for steps that are done again at a vertex of this graph: Control edges from those of some vertices of the
+    /// circuit graph that are here, or else Availability edges to them.
+    pub fn add_ends(
+        &mut self,
+        flat: &Flat,
+        circuit: &Graph,
+        ids: &[Option<VertexId>],
+        ends: &[VertexId],
+        own: VertexId,
+        entering: bool,
+    ) -> Result<(), AllocError>
+        requires circuit { IsGraphOf flat.now circuit.now }
+        requires table { IsIdTable circuit.now self.old.graph ids.now }
+        requires sound { IsSoundFor flat.now (marked_at flat.now self.old.level) self.old.graph }
+        requires ends { (x : VertexId) → Contains ends.now x → x.number < length circuit.now.vertices }
+        requires own { own.number < length self.old.graph.vertices }
+        requires taken { (x : VertexId) (u v : Vertex) → Contains ends.now x → IsVertexOf circuit.now x u → IsVertexOf self.old.graph own v → TakenAgain flat.now (marked_at flat.now self.old.level) entering u v }
+        ensures level { self.new.level ≡ self.old.level }
+        ensures grown { HasGrown self.old.graph self.new.graph }
+        ensures sound { IsSoundFor flat.now (marked_at flat.now self.old.level) self.new.graph }
+        ensures there { OnOk result (HasEnds ids.now ends.now own entering self.new.graph) }
+    {
+        for i in 0..ends.len() {
+            let x = ends[i];
+            self.add_end(flat, circuit, ids, x, own, entering)?;
         }
         Ok(())
     }

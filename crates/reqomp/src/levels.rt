@@ -11,6 +11,7 @@ ghost use Rattle.reqomp.specs.Trying.{HasOrderMoves, IsOutcome, IsPlanOf, IsPlan
 
 use crate::groups::groups_of;
 use crate::marked::{marks_at, simple_wires};
+use crate::near::{Near, near_vertices};
 use crate::ordered::ordered_moves;
 use crate::pass_back::Search;
 use flat_core::{Flat, WireList};
@@ -22,6 +23,7 @@ use std::alloc::{AllocError, Global};
 #[derive(Drop)]
 pub struct Planner {
     pub circuit: Graph,
+    pub near: Vec<Near>,
     pub simple: WireList,
     pub search: Search,
     pub rows: Rows,
@@ -92,10 +94,12 @@ impl Planner {
         ensures planner { IfOk result (IsPlanner flat.now) }
         ensures unused { IfOk result (λ planner. planner.search.newest ≡ 0) }
     {
+        let near = near_vertices(alloc, &circuit)?;
         let simple = simple_wires(alloc, flat)?;
         let search = Search::new(alloc, flat)?;
         Ok(Planner {
             circuit,
+            near,
             simple,
             search,
             rows,
@@ -120,7 +124,7 @@ impl Planner {
         let Some(groups) = groups_of(alloc, flat, &self.circuit, &marks, &mut self.search)? else {
             return Ok(None);
         };
-        match ordered_moves(alloc, flat, &self.circuit, &marks, &groups)? {
+        match ordered_moves(alloc, flat, &self.circuit, &self.near, &marks, &groups)? {
             None => Ok(None),
             Some(moves) => Ok(plan_if_valid(flat, &mut self.rows, moves, level)),
         }

@@ -1,11 +1,13 @@
 //! The simple wires of a flat form, and which of them a level marks.
 
-ghost use Rattle.std.specs.Prelude.{◌≡◌, ◌+◌, ◌<◌, ◌≤◌, length, IfOk, IfSome};
+ghost use Rattle.std.specs.Prelude.{◌≡◌, ◌+◌, ◌<◌, ◌≤◌, List, length, IfOk, IfSome};
 ghost use Rattle.std.specs.Option.{option_to_list};
+ghost use Rattle.flat_core.specs.declared.step.WireId.{WireId};
 ghost use Rattle.flat_core.specs.Label.{Names, step_at};
 ghost use Rattle.flat_core.specs.Sound.{IsFlat};
 ghost use Rattle.reqomp.specs.Level.{last_level};
-ghost use Rattle.reqomp.specs.Marking.{AreFlagsOf, AreTopFlags, AreFirstSteps, AreMarks, low_noted};
+ghost use Rattle.reqomp.specs.Marking.{AreFlagsOf, AreTopFlags, AreFirstSteps, AreJumps, AreMarks, low_noted};
+ghost use Rattle.reqomp.specs.Redone.{changes_one};
 ghost use Rattle.reqomp.specs.Simple.{simple_wires, simple_at};
 
 use flat_core::{End, Flat, Step, StepId, WireId, WireList};
@@ -19,6 +21,8 @@ pub struct Marks {
     pub level: u8,
     /// Whether each wire is marked.
     pub flags: Vec<bool>,
+    /// For each step the last one before it that changes a marked wire, or step 0 where there is none.
+    pub jumps: Vec<u32>,
 }
 
 // Takes the flag of a wire that a step uses, if any, where the wire is not at its top.
@@ -94,6 +98,35 @@ pub fn simple_wires(alloc: Global, flat: &Flat) -> Result<WireList, AllocError>
     Ok(wires)
 }
 
+/// Whether a step changes a wire that has a flag.
+pub fn changes_flagged(flat: &Flat, flags: &[bool], s: StepId) -> bool
+    requires sound { IsFlat flat.now }
+    requires there { s.number < length flat.now.steps }
+    requires as_many { length flags.now ≡ length flat.now.wires }
+    ensures { (wires : List WireId) → AreFlagsOf flags.now wires → result ≡ changes_one wires (step_at flat.now s) }
+{
+    match flat.step(s) {
+        Step::X { target, .. } | Step::H { target, .. } => flags[target.number as usize],
+        Step::P { .. } | Step::M { .. } => false,
+    }
+}
+
+// For each step the last one before it that changes a wire that has a flag, or step 0 where there is none.
+fn jumps_of(alloc: Global, flat: &Flat, flags: &[bool]) -> Result<Vec<u32>, AllocError>
+    requires as_many { length flags.now ≡ length flat.now.wires }
+    ensures { IfOk result (λ jumps. (wires : List WireId) → AreFlagsOf flags.now wires → AreJumps flat.now wires jumps.items) }
+{
+    let mut jumps = vec![in alloc; 0; flat.steps()]?;
+    let mut last = 0;
+    for i in 0..flat.steps() {
+        jumps[i] = last;
+        if changes_flagged(flat, flags, StepId { number: i as u32 }) {
+            last = i as u32;
+        }
+    }
+    Ok(jumps)
+}
+
 /// The wires that a level marks: the first sixteenths of the simple wires, as many as the level says, rounded up.
 pub fn marks_at(
     alloc: Global,
@@ -113,7 +146,12 @@ pub fn marks_at(
         let w = simple.get(i).unwrap();
         flags[w.number as usize] = true;
     }
-    Ok(Marks { level, flags })
+    let jumps = jumps_of(alloc, flat, &flags)?;
+    Ok(Marks {
+        level,
+        flags,
+        jumps,
+    })
 }
 
 // Notes a step as the first one of the wire that it changes, where it is.

@@ -10,6 +10,7 @@ ghost use Rattle.topo_order.specs.OrderOf.{IsOrderOf};
 ghost use Rattle.unqomp.specs.GraphOf.{IsGraphOf};
 ghost use Rattle.move_plan.specs.declared.moves.Move.TheVariants.{Up, Down};
 ghost use Rattle.reqomp.specs.declared.groups.Group.{Group};
+ghost use Rattle.reqomp.specs.Growing.{AreNear};
 ghost use Rattle.reqomp.specs.Grouping.{vertices_of, AreGroups};
 ghost use Rattle.reqomp.specs.Level.{AreMoves};
 ghost use Rattle.reqomp.specs.LevelGraph.{IsLevelGraphOf};
@@ -20,6 +21,7 @@ ghost use Rattle.reqomp.specs.Trying.{group_moves, AreRedone, HasOrderMoves};
 use crate::arena_of_level::level_graph;
 use crate::groups::{Group, Groups};
 use crate::marked::Marks;
+use crate::near::Near;
 use flat_core::{Flat, StepId};
 use graph_core::Graph;
 use move_plan::{Move, MoveList, move_of};
@@ -96,16 +98,18 @@ pub fn ordered_moves(
     alloc: Global,
     flat: &Flat,
     circuit: &Graph,
+    near: &[Near],
     marks: &Marks,
     groups: &Groups,
 ) -> Result<Option<MoveList>, AllocError>
     requires circuit { IsGraphOf flat.now circuit.now }
+    requires near { AreNear circuit.now near.now }
     requires groups { AreGroups flat.now (marked_at flat.now marks.now.level) circuit.now (length circuit.now.vertices) groups.now }
     requires few { groups.now.moves ≤ 600000 }
     ensures moves { IfOk result (λ found. MatchOption found (IsWidthOf flat.now marks.now.level None) (λ moves. HasOrderMoves flat.now marks.now.level moves)) }
     ensures few { IfOk result (λ found. IfSome found (λ moves. length moves ≤ 600000)) }
 {
-    let graph = level_graph(alloc, flat, circuit, marks, groups)?;
+    let graph = level_graph(alloc, flat, circuit, near, marks, groups)?;
     match order_if_any(alloc, &graph)? {
         None => Ok(None),
         Some(ids) => Ok(Some(moves_of_groups(alloc, flat, &graph, &groups.items, &ids)?)),

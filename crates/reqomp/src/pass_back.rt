@@ -143,7 +143,7 @@ impl Search {
         let mut steps = Vec::new(alloc);
         let mut i = s.number;
         while low < i {
-            i -= 1;
+            i = marks.jumps[i as usize];
             low = self.step_back(flat, marks, StepId { number: i }, low, &mut steps)?;
         }
         steps.reverse();

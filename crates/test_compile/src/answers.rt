@@ -12,7 +12,7 @@ use std::alloc::{AllocError, Global};
 const HEAD: &str = "OPENQASM 2.0;\ninclude \"qelib1.inc\";\n";
 
 // The most bytes of a text.
-const ROOM: usize = 4_000_000;
+const ROOM: usize = 16_000_000;
 
 // The values of static parameters, divided by blanks.
 fn statics_of(alloc: Global, words: &str) -> Result<Vec<i64>, AllocError> {

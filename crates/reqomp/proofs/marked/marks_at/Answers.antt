@@ -47,3 +47,6 @@ loop-i-preserved c =
       as_many = length-set c.loop-i.flags.items c.unwrap-w.result.now.number true ∙ many;
       told = flags_more c.loop-i.flags.items c.args.simple.now c.loop-i.i c.unwrap-w.result.now at (omega arith) c.loop-i.invariant.told;
     }
+
+pub jumps_of-requires : goal.jumps_of-requires
+jumps_of-requires c = record { as_many = ap length c.deref.ensures.value ∙ c.loop-i.invariant.as_many }
