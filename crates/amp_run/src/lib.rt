@@ -1,9 +1,10 @@
 #![tactic(auto)]
 //! The table of a circuit: its meaning, computed gate by gate with the terms of one value merged after each gate.
 
-ghost use Rattle.std.specs.Prelude.{◌≡◌, ◌≢◌, IsNone, IfOk, IfErr};
+ghost use Rattle.std.specs.Prelude.{◌≡◌, ◌≢◌, ◌^◌, IsNone, IfOk, IfErr};
 ghost use Rattle.sum_laws.specs.Table.{TableOf};
-ghost use Rattle.gate_core.specs.Local.{AllBelow, AllDiffer};
+ghost use Rattle.sum_laws.specs.Units.{StandsFor};
+ghost use Rattle.gate_core.specs.Local.{AllBelow, AllDiffer, HasWidth};
 ghost use Rattle.gate_core.specs.Meaning.{joined, meaning};
 ghost use Rattle.amp_run.specs.Refusal.{fault_of};
 
@@ -24,6 +25,8 @@ use sum_laws::Table;
 /// the others, and for these outcomes of the measures. The value of a row has the bit of qubit 0 first. An outcome
 /// bit that no statement measures is not looked at. `are_inputs` tells whether `ins` is as asked.
 ///
+/// Each row has a bit for each qubit, and the rows stand for at most 2^50 single terms, as `Terms::merged` asks of sums.
+///
 /// `Bits` comes where the input has not one bit for each qubit of `ins`, or else the outcome not one for each
 /// classical bit; `Limit` above 20 qubits, or else above 50 Hadamard gates, those under an `if` included.
 pub fn table(
@@ -36,6 +39,8 @@ pub fn table(
     requires differ { AllDiffer (joined ins.now) }
     requires in_range { AllBelow circuit.now.qubits (joined ins.now) }
     ensures table { IfOk result (λ t. TableOf (meaning circuit.now.qubits circuit.now.bits circuit.now.gates ins.now input.now outcome.now) t) }
+    ensures wide { IfOk result (λ t. HasWidth circuit.now.qubits t) }
+    ensures small { IfOk result (λ t. StandsFor (2 ^ 50) 50 t) }
     ensures refused { IfErr result (λ fault. fault ≢ RunFault.Memory → fault_of circuit.now (joined ins.now) input.now outcome.now ≡ Some fault) }
     ensures accepted { IfOk result (λ _. IsNone (fault_of circuit.now (joined ins.now) input.now outcome.now)) }
 {

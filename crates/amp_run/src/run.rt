@@ -1,11 +1,12 @@
 //! The statements of a circuit in turn.
 
-ghost use Rattle.std.specs.Prelude.{◌≡◌, ◌≤◌, All, false, [], ◌∷◌, length, replicate, IfOk};
+ghost use Rattle.std.specs.Prelude.{◌≡◌, ◌≤◌, ◌^◌, All, false, [], ◌∷◌, length, replicate, IfOk};
 ghost use Rattle.amp_core.specs.Amplitude.{one};
 ghost use Rattle.sum_laws.specs.Table.{TableOf};
 ghost use Rattle.sum_laws.specs.Terms.{apply};
+ghost use Rattle.sum_laws.specs.Units.{StandsFor};
 ghost use Rattle.gate_core.specs.Circuit.{qubits_of, bits_of};
-ghost use Rattle.gate_core.specs.Local.{AllBelow};
+ghost use Rattle.gate_core.specs.Local.{AllBelow, HasWidth};
 ghost use Rattle.gate_core.specs.Meaning.{branches, known_after, run as run_of};
 ghost use Rattle.amp_run.specs.Refusal.{h_gates, h_gates_in};
 ghost use Rattle.amp_run.specs.Room.{HasRoom};
@@ -27,7 +28,9 @@ pub fn run(
     requires width { length bits ≡ circuit.now.qubits }
     requires outcome_bits { length outcome.now ≡ circuit.now.bits }
     requires few { h_gates circuit.now.gates ≤ 50 }
-    ensures { IfOk result (λ t. TableOf (run_of outcome.now (replicate circuit.now.bits false) circuit.now.gates ((bits, one) ∷ [])) t) }
+    ensures table { IfOk result (λ t. TableOf (run_of outcome.now (replicate circuit.now.bits false) circuit.now.gates ((bits, one) ∷ [])) t) }
+    ensures wide { IfOk result (λ t. HasWidth circuit.now.qubits t) }
+    ensures small { IfOk result (λ t. StandsFor (2 ^ 50) 50 t) }
 {
     let mut known = zeros(alloc, circuit.bits())?;
     let mut rows = first_row(alloc, bits)?;

@@ -50,7 +50,7 @@ impl Flattening {
             return Ok(());
         }
         let lent = self.variables.replace(name, Known::Absent);
-        let known = assigned(self.alloc, indices, lent, value)?;
+        let known = assigned(indices, lent, value)?;
         self.variables.bind(name, as_variable(known))?;
         Ok(())
     }

@@ -1,6 +1,6 @@
 //! What the use of a variable gives, and what it leaves; and what an assignment puts there.
 
-ghost use Rattle.std.specs.Prelude.{◌≡◌, ◌<◌, ◌≤◌, ◌+◌, ◌++◌, ◌&&◌, not, length, take, drop, IfOk, OnOk};
+ghost use Rattle.std.specs.Prelude.{◌≡◌, ◌<◌, ◌≤◌, ◌+◌, ◌&&◌, not, length, IfOk};
 ghost use Rattle.silq_types.specs.Types.{shape_bits};
 ghost use Rattle.silq_types.specs.Calls.{is_consumed};
 ghost use Rattle.flat_form.specs.declared.known.Known.TheVariants.{Shown};
@@ -13,7 +13,7 @@ use crate::copying::copied_operands;
 use crate::parts::{bits, part_of, part_shape, part_start};
 use bit_arith::Operand;
 use flat_form::{Known, TypedBits};
-use silq_types::{List, Need};
+use silq_types::Need;
 use std::alloc::{AllocError, Global};
 
 /// What the use of a variable gives.
@@ -130,27 +130,20 @@ fn is_moved(need: Need, classical: bool) -> bool
 }
 
 /// What a variable shows to whose lent part a value is assigned.
-pub(crate) fn assigned(
-    alloc: Global,
-    indices: &[i64],
-    old: Known,
-    new: Known,
-) -> Result<Known, AllocError>
+pub(crate) fn assigned(indices: &[i64], old: Known, new: Known) -> Result<Known, AllocError>
     requires indices { 0 < length indices.now }
     requires lent { IsLent indices.now old new }
     ensures { IfOk result (λ k. k ≡ assigned indices.now old new) }
 {
     match old {
-        Known::Lent { start, size, value } => {
+        Known::Lent {
+            start,
+            size,
+            mut value,
+        } => {
             let end = start + size;
-            let operands = with_part(
-                alloc,
-                value.operands.as_slice(),
-                start,
-                end,
-                operands_of(&new),
-            )?;
-            Ok(Known::Shown(TypedBits { operands, ..value }))
+            value.operands.replace(start, end, operands_of(&new))?;
+            Ok(Known::Shown(value))
         }
         other => Ok(other),
     }
@@ -164,32 +157,4 @@ pub(crate) fn operands_of(known: &Known) -> &[Operand]
         Known::Shown(value) => value.operands.as_slice(),
         _ => &[],
     }
-}
-
-/// The operands with others in place of those from one place on up to another.
-fn with_part(
-    alloc: Global,
-    operands: &[Operand],
-    start: usize,
-    end: usize,
-    part: &[Operand],
-) -> Result<List<Operand>, AllocError>
-    requires order { start ≤ end }
-    requires inside { end ≤ length operands.now }
-    ensures { IfOk result (λ ps. ps ≡ take start operands.now ++ (part.now ++ drop end operands.now)) }
-{
-    let mut all = copied_operands(alloc, &operands[..start])?;
-    append(&mut all, part)?;
-    append(&mut all, &operands[end..])?;
-    Ok(all)
-}
-
-/// Adds operands at the end.
-fn append(list: &mut List<Operand>, more: &[Operand]) -> Result<(), AllocError>
-    ensures { OnOk result (list.new ≡ list.old ++ more.now) }
-{
-    for operand in more {
-        list.push(*operand)?;
-    }
-    Ok(())
 }

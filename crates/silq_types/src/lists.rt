@@ -1,6 +1,6 @@
 //! Lists that grow at their ends.
 
-ghost use Rattle.std.specs.Prelude.{◌≡◌, [], ◌∷◌, ◌++◌, length, slice_get, OnOk, OnErr};
+ghost use Rattle.std.specs.Prelude.{◌≡◌, ◌≤◌, [], ◌∷◌, ◌++◌, length, take, drop, slice_get, OnOk, OnErr};
 ghost use Rattle.std.specs.Option.{option_copied};
 ghost use Rattle.std.specs.Cmp.Lexicographic.{pointwise};
 ghost use Rattle.std.specs.Cmp.Rules.{comparing};
@@ -79,6 +79,26 @@ impl<T: Drop> List<T> {
         ensures err { OnErr result (self.new ≡ self.old) }
     {
         self.items.push(item)?;
+        Ok(())
+    }
+}
+
+impl<T: Copy> List<T> {
+    /// Puts items in the place of those from `start` on up to `end`. Where they are as many it takes no memory.
+    pub fn replace(&mut self, start: usize, end: usize, items: &[T]) -> Result<(), AllocError>
+        requires order { start ≤ end }
+        requires inside { end ≤ length self.old }
+        ensures ok { OnOk result (self.new ≡ take start self.old ++ (items.now ++ drop end self.old)) }
+        ensures err { OnErr result (self.new ≡ self.old) }
+    {
+        if items.len() == end - start {
+            self.items[start..end].copy_from_slice(items);
+            return Ok(());
+        }
+        let mut all = Vec::from_slice(*self.items.allocator(), &self.items[..start])?;
+        all.extend_from_slice(items)?;
+        all.extend_from_slice(&self.items[end..])?;
+        self.items = all;
         Ok(())
     }
 }

@@ -1,6 +1,6 @@
 #![tactic(auto)]
-//! Tests of flat forms: what a draft and a form tell of themselves, the values and weights of paths, the rows of steps that a builder
-//! makes, and the steps of flattening that every state allows.
+//! Tests of flat forms: what a draft and a form tell of themselves, the values and weights of paths, and the rows of steps that a builder
+//! makes. The steps of flattening are tested by whole programs in `test_flatten`.
 
 #[cfg(test)]
 mod builder;
@@ -8,5 +8,3 @@ mod builder;
 mod paths;
 #[cfg(test)]
 mod reads;
-#[cfg(test)]
-mod steps;

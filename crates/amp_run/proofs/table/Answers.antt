@@ -17,4 +17,4 @@ returns-clause-table c =
     whole c.args.circuit.now.qubits c.args.circuit.now.bits c.args.circuit.now.gates c.args.ins.now c.args.input.now c.args.outcome.now c.in_ok-qubits.qubits.items c.in_ok-bits.bits c.in_ok-run.field-0
     c.in_ok-qubits.ensures
     (c.in_ok-bits.ensures.value ∙ ap (λ qs. placed qs c.args.input.now (replicate c.qubits.result false)) c.deref-2.ensures.value ∙ ap (λ n. placed c.in_ok-qubits.qubits.items c.args.input.now (replicate n false)) c.qubits.ensures)
-    c.in_ok-run.ensures
+    c.in_ok-run.ensures.table

@@ -1,7 +1,9 @@
-use Rattle.std.proofs.Common.{◌≡◌, ◌+◌, ◌<◌, ◌≤◌, false, [], ◌∷◌, length, drop, replicate, ap, sym, ◌∙◌, subst, arith}
+use Rattle.std.proofs.Common.{◌≡◌, ◌+◌, ◌<◌, ◌≤◌, ◌^◌, false, [], ◌∷◌, length, drop, replicate, ap, sym, ◌∙◌, subst, arith}
 use Rattle.std.proofs.lemmas.List.{drop_all, length-replicate}
 use Rattle.amp_core.specs.Amplitude.{one}
+use Rattle.std.proofs.Math.Pow.{pow_mono}
 use Rattle.sum_laws.specs.Table.{TableOf}
+use Rattle.sum_laws.proofs.StandsFor.{stands_more}
 use Rattle.sum_laws.specs.Terms.{apply}
 use Rattle.gate_core.specs.Circuit.{qubits_of, bits_of}
 use Rattle.gate_core.specs.Local.{AllBelow}
@@ -67,9 +69,18 @@ loop-i-preserved c =
           (running_next c.args.circuit.now.qubits c.args.outcome.now c.loop-i.known c.unwrap-gate.result (drop (c.loop-i.i + 1) c.args.circuit.now.gates) whole c.loop-i.rows c.in_ok-rows-2.rows here table);
     }
 
-pub returns : goal.returns
-returns c =
+pub returns-clause-table : goal.returns-clause-table
+returns-clause-table c =
     let whole = run c.args.outcome.now (replicate c.args.circuit.now.bits false) c.args.circuit.now.gates ((c.args.bits, one) ∷ []) in
     let h : length c.args.circuit.now.gates ≤ c.loop-i.i = (let e = c.len-i-end.ensures.count in omega arith) in
     running_last c.args.circuit.now.qubits c.args.outcome.now c.loop-i.known whole c.loop-i.rows
     (subst (λ gs. Running c.args.circuit.now.qubits c.args.outcome.now c.loop-i.known gs whole c.loop-i.rows) (drop_all c.loop-i.i c.args.circuit.now.gates h) c.loop-i.invariant.running)
+
+pub returns-clause-wide : goal.returns-clause-wide
+returns-clause-wide c = c.loop-i.invariant.running.width
+
+pub returns-clause-small : goal.returns-clause-small
+returns-clause-small c =
+    let room = c.loop-i.invariant.running.room in
+    let l : room.halvings ≤ 50 = (let f = room.few in omega arith) in
+    stands_more (2 ^ room.halvings) (2 ^ 50) room.halvings 50 c.loop-i.rows (pow_mono l) l room.stands
