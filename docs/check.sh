@@ -112,21 +112,22 @@ compare_rows() {
     [ "$(said $table/stdin)" = "$(cat $table/stdout)" ] || differ "$table/stdout has another count than its rows"
 }
 
-# Every name of a cause, a limit or something unsupported stands in NOTES.md: as an entry, or among those that no program gets.
-compare_names() {
-    sed -n 's/^ *[A-Za-z]*::[A-Za-z0-9]* => "\([^"]*\)",$/\1/p' crates/silq_io/src/fault.rt crates/silq_io/src/limit.rt >"$room"
-    [ -s "$room" ] || differ "no names in crates/silq_io"
+# Every note has an entry in NOTES.md, and no other entry is there. The names of causes, of limits and of what is not supported that no
+# program gets stand in its last section.
+compare_notes() {
+    {
+        seq -f 'K%.0f' 24
+        sed -n 's/^ *[A-Za-z]*::[A-Za-z0-9]* => "\([^"]*\)",$/\1/p' crates/silq_io/src/fault.rt crates/silq_io/src/limit.rt
+        sed -n 's/.*"silqc: \([a-z ]*[a-z]\).*/\1/p' crates/silqc/src/status.rt | grep -v '^limit$'
+    } | sort -u >"$room"
+    sed -n 's/^### \([^:]*\).*/\1/p' docs/NOTES.md | sort >"$room.has"
+    last=$(sed -n '/^## Other kinds/,$p' docs/NOTES.md)
     while read -r name; do
-        grep -q "^### $name\(:\|\$\)" docs/NOTES.md || sed -n '/^## Other kinds/,$p' docs/NOTES.md | grep -q "\`$name\`" ||
-            differ "docs/NOTES.md has nothing on '$name'"
+        grep -qxF "$name" "$room.has" || echo "$last" | grep -qF "\`$name\`" || differ "docs/NOTES.md has nothing on '$name'"
     done <"$room"
-    for rule in $(seq 24); do
-        grep -q "^### K$rule: " docs/NOTES.md || differ "docs/NOTES.md has no entry K$rule"
-    done
-    sed -n 's/.*b"silqc: \([a-z ]*\)\\n".*/\1/p' crates/silqc/src/status.rt | sort -u >"$room"
     while read -r name; do
-        grep -q "^### $name\$" docs/NOTES.md || differ "docs/NOTES.md has no entry '$name'"
-    done <"$room"
+        grep -qxF "$name" "$room" || differ "docs/NOTES.md has an entry '$name', which no note is of"
+    done <"$room.has"
 }
 
 # Every program of examples/ is in its README and, by the command of its comment, in its table of circuits.
@@ -156,9 +157,9 @@ case ${1-} in
     --write) rows >$table/stdin && said $table/stdin >$table/stdout || exit 1 ;;
 esac
 room=$(mktemp) || exit 1
-trap 'rm -f "$room"' EXIT
+trap 'rm -f "$room" "$room.has"' EXIT
 compare_rows
-compare_names
+compare_notes
 compare_examples
 compare_counts
 exit $differs
