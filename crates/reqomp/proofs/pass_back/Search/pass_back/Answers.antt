@@ -42,8 +42,12 @@ loop-low-preserved c =
       search = c.step_back.ensures.search;
       newest = c.step_back.ensures.newest ∙ c.loop-low.invariant.newest;
       within = omega arith;
-      found = (found_at f marked (step_id n) p, found_marked f marked (step_id n) p inside, c.in_ok-low.ensures.found p c.loop-low.invariant.found.2,
-          c.loop-low.invariant.found.3 ∙ found_back f marked n i p (omega arith) inside (λ t a b. jumps.between (step_id i) t (omega (arith, c.requires.there)) (omega arith) b));
+      found = (
+        found_at f marked (step_id n) p,
+        found_marked f marked (step_id n) p inside,
+        c.in_ok-low.ensures.found p c.loop-low.invariant.found.2,
+        c.loop-low.invariant.found.3 ∙ found_back f marked n i p (omega arith) inside (λ t a b. jumps.between (step_id i) t (omega (arith, c.requires.there)) (omega arith) b),
+      );
     }
 
 pub returns-clause-steps : goal.returns-clause-steps
