@@ -56,7 +56,13 @@ pub fn answer(alloc: Global, command: &str, text: &str) -> Result<String, AllocE
     let mut files = files_of(alloc, words, text)?;
     let mut out = MemSink::new(alloc, room, Vec::new(alloc))?;
     let mut notes = MemSink::new(alloc, 1000, Vec::new(alloc))?;
-    let status = silqc(alloc, &words_of(alloc, words)?, &mut files, &mut out, &mut notes);
+    let status = silqc(
+        alloc,
+        &words_of(alloc, words)?,
+        &mut files,
+        &mut out,
+        &mut notes,
+    );
     if (status.code() == 0) != notes.bytes().is_empty() {
         return String::from_str(alloc, "a status that does not fit its note");
     }
