@@ -22,12 +22,13 @@ fn answer(alloc: Global, words: &Words) -> Result<&'static str, AllocError> {
 // Whether the answer to a row is the wanted one. Another one is printed.
 fn is_met(rt: &impl Print, alloc: Global, number: u64, row: &str) -> io::Result<bool> {
     let mut words = Words::new(alloc);
-    let mut wanted = "no answer";
-    for (i, part) in row.split('\t').enumerate() {
-        if i == 0 {
-            wanted = part;
-        } else {
-            words.push(part)?;
+    let (wanted, listed) = match row.split_once('\t') {
+        Some((wanted, listed)) => (wanted, Some(listed)),
+        None => (row, None),
+    };
+    if let Some(listed) = listed {
+        for word in listed.split('\t') {
+            words.push(word)?;
         }
     }
     let got = answer(alloc, &words)?;
