@@ -9,9 +9,19 @@ use silq_io::Words;
 use std::alloc::{AllocError, Global};
 use std::io::{self, BufRead, BufReader};
 
-// What the words are read as.
-fn answer(alloc: Global, words: &Words) -> Result<&'static str, AllocError> {
-    let list = texts(alloc, words)?;
+// The words of a row, each behind a tab.
+fn words_of(alloc: Global, row: &str) -> Result<Words, AllocError> {
+    let mut words = Words::new(alloc);
+    for word in row.split('\t').skip(1) {
+        words.push(word)?;
+    }
+    Ok(words)
+}
+
+// What the words of a row are read as.
+fn answer(alloc: Global, row: &str) -> Result<&'static str, AllocError> {
+    let words = words_of(alloc, row)?;
+    let list = texts(alloc, &words)?;
     Ok(match read_job(alloc, list.as_slice()) {
         Ok(_) => "job",
         Err(WordFault::NotAJob) => "none",
@@ -21,17 +31,8 @@ fn answer(alloc: Global, words: &Words) -> Result<&'static str, AllocError> {
 
 // Whether the answer to a row is the wanted one. Another one is printed.
 fn is_met(rt: &impl Print, alloc: Global, number: u64, row: &str) -> io::Result<bool> {
-    let mut words = Words::new(alloc);
-    let (wanted, listed) = match row.split_once('\t') {
-        Some((wanted, listed)) => (wanted, Some(listed)),
-        None => (row, None),
-    };
-    if let Some(listed) = listed {
-        for word in listed.split('\t') {
-            words.push(word)?;
-        }
-    }
-    let got = answer(alloc, &words)?;
+    let (wanted, _) = row.split_once('\t').unwrap_or((row, ""));
+    let got = answer(alloc, row)?;
     let met = got == wanted;
     if !met {
         println!(rt; "line {number}: got {got}, wanted {wanted}")?;
