@@ -31,7 +31,7 @@ sizes() {
 for family in ${*:-statements conjunctions rounds branches elements adders deep chains}; do
     for n in $(sizes "$family"); do
         budget=100000
-        [ "$family" = chains ] && budget=6
+        [ "$family" = chains ] && budget=8
         "$family" "$n" >"$file"
         echo "$family $n: report $(timed report), compile $(timed compile)"
     done
