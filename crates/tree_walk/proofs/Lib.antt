@@ -1,0 +1,13 @@
+pub mod Acts
+pub mod Blocks
+pub mod Calling
+pub mod Earlier
+pub mod Entries
+pub mod Faults
+pub mod Forms
+pub mod Items
+pub mod Levels
+pub mod Owning
+pub mod Statements
+pub mod WrittenLists
+pub mod WrittenTypes
