@@ -1,0 +1,3 @@
+pub mod Composing
+mod Parting
+mod Sequences
