@@ -1,6 +1,5 @@
 -- What is asked of an effect and of its parts, and what refuses them.
-use Rattle.std.proofs.Common.{◌≡◌, ℕ, Result, Ok, Err, IfErr, refl, sym, ap, ◌∙◌, subst}
-use Rattle.std.specs.Result.{IsErrAnd}
+use Rattle.std.proofs.Common.{◌≡◌, ℕ, refl, sym, ap, ◌∙◌, subst}
 use Rattle.silq_tree.specs.declared.node.NameId.{NameId}
 use Rattle.silq_io.specs.declared.limit.LimitFault.{LimitFault}
 use Rattle.silq_mean.specs.Effect.{Effect, nothing, ◌>>◌, statement, claim}
@@ -35,11 +34,6 @@ refused_after f a b s t e r = subst (λ u. Refused f (flat b u).built) e r
 
 pub refused_as : (f : LimitFault) (a b : Effect) (s : Flattening) → a ≡ b → Refused f (flat a s).built → Refused f (flat b s).built
 refused_as f a b s e r = subst (λ x. Refused f (flat x s).built) e r
-
--- a fault that is handed on
-pub if_err_from : {A E : Type 0} (r : Result A E) (x : E) (P : E → Type 0) → IsErrAnd r (λ e. e ≡ x) → P x → IfErr r P
-if_err_from (Ok a) x P h p = tt
-if_err_from (Err e) x P h p = subst P (sym h) p
 
 -- a walk that is under way: the rest of the effect, from the state now, leads to where the whole leads
 pub record Onward (rest : Effect) (whole now : Flattening) : Type 0 where

@@ -1,12 +1,10 @@
 -- Entries.
 use Rattle.std.proofs.Common.{◌≡◌, ℕ, ◌<◌, true, List, [], ◌∷◌, length, map, reverse, Some, None, ℤ, refl, sym, ap, ◌∙◌, subst}
-use Rattle.silq_tree.specs.Syntax.{Function}
 use Rattle.silq_types.specs.declared.types.Shape.{Shape}
-use Rattle.silq_types.specs.Programs.{paired}
 use Rattle.silq_io.specs.declared.limit.LimitFault.{LimitFault}
 use Rattle.silq_io.specs.declared.limit.LimitFault.TheVariants.{Memory, Limit}
 use Rattle.check_scope.specs.Library.{Shelf, function_at}
-use Rattle.silq_mean.specs.Meaning.{params_of, entry}
+use Rattle.silq_mean.specs.Meaning.{params_of}
 use Rattle.silq_mean.specs.Table.{Job}
 use Rattle.flat_core.specs.declared.step.WireId.{WireId}
 use Rattle.flat_core.specs.declared.step.End.{End}
@@ -27,10 +25,10 @@ use Rattle.flat_form.proofs.Giving.{below_in}
 use Rattle.flat_form.proofs.Goods.{good_flat}
 use Rattle.flat_steps.specs.Ready.{Ready}
 use Rattle.flat_steps.proofs.Stays.{stays}
-use Rattle.flat_build.specs.declared.body.Body.{Body}
-use Rattle.flat_build.specs.Seen.{job_at, instance_in, entry_in}
+use Rattle.tree_walk.specs.declared.body.Body.{Body}
+use Rattle.tree_walk.specs.Seen.{job_at, instance_in, entry_in}
+use Rattle.tree_walk.proofs.Entries.{effect_told, shapes_told}
 use Rattle.flat_build.proofs.Begins.{good_begin}
-use Rattle.flat_build.proofs.Earlier.{earlier_before}
 
 -- the wires of values that are there
 below_values : (n : ℕ) (ks : List Known) → AllOf (IsKnown n) ks → AllOf (λ ws. Below n ws) (wire_lists ks)
@@ -45,17 +43,6 @@ ends_over : (e : End) (ws : List WireId) (b : Built) → (end_all e ws b).over �
 ends_over e [] b = refl
 ends_over e (w ∷ ws) b = ends_over e ws (record b { draft = with_end b.draft w e })
 
-abbrev sizes : Shelf → Body → List Shape
-sizes l b = map (λ p. p.2.shape) (params_of (function_at l b.this) b.statics)
-
-abbrev whole_job : Shelf → Body → Job
-whole_job l b = record { effect = entry_in l b; shapes = sizes l b }
-
-job_is : (l : Shelf) (n : ℕ) (statics : List ℤ) → n < length l.funs → job_at l n statics ≡ whole_job l (instance_in l n statics true)
-job_is l n statics lt =
-    ap (λ (before : List Function). let j : Job = record { effect = entry l.words before (function_at l n) (paired (function_at l n).statics statics); shapes = sizes l (instance_in l n statics true) } in j)
-    (earlier_before l n lt)
-
 module _ (l : Shelf) (n : ℕ) (statics : List ℤ) (lt : n < length l.funs) (b : Body) (is : b ≡ instance_in l n statics true) where
   abbrev job : Job
   job = job_at l n statics
@@ -67,18 +54,12 @@ module _ (l : Shelf) (n : ℕ) (statics : List ℤ) (lt : n < length l.funs) (b 
   abbrev outs : List WireId
   outs = joined (wire_lists (reverse (flat job.effect first).values))
 
-  told : job ≡ whole_job l b
-  told = job_is l n statics lt ∙ ap (λ x. whole_job l x) (sym is)
-
   effect_is : entry_in l b ≡ job.effect
-  effect_is = ap (λ (j : Job). j.effect) (sym told)
-
-  pub body_there : b.this < length l.funs
-  body_there = subst (λ (x : Body). x.this < length l.funs) (sym is) lt
+  effect_is = effect_told l n statics lt b is
 
   module _ (shapes : List Shape) (h : shapes ≡ map (λ p. p.2.shape) (params_of (function_at l n) b.statics)) where
     shapes_are : shapes ≡ job.shapes
-    shapes_are = h ∙ (ap (λ k. map (λ p. p.2.shape) (params_of (function_at l k) b.statics)) (ap (λ (x : Body). x.this) (sym is)) ∙ ap (λ (j : Job). j.shapes) (sym told))
+    shapes_are = shapes_told l n statics lt b is shapes h
 
     pub begin_refused : (f : LimitFault) → Refused f (begin shapes).built → Refused f (record { draft = empty_draft; over = (flattened job).over })
     begin_refused Memory r = tt

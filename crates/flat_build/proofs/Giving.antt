@@ -1,20 +1,16 @@
 -- The values of names in turn.
-use Rattle.std.proofs.Common.{◌≡◌, ℕ, ◌+◌, ◌<◌, ◌≤◌, List, [], length, drop, get_or, sym, ap, ◌∙◌}
+use Rattle.std.proofs.Common.{◌≡◌, ℕ, ◌+◌, ◌<◌, ◌≤◌, List, [], length, drop, get_or, sym, ◌∙◌}
 use Rattle.std.proofs.lemmas.List.{at_drop_more, at_drop_all}
 use Rattle.silq_tree.specs.declared.node.NameId.{NameId}
 use Rattle.silq_io.specs.declared.limit.LimitFault.{LimitFault}
-use Rattle.silq_types.specs.declared.need.Need.{Need}
 use Rattle.silq_types.specs.declared.need.Need.TheVariants.{Held}
-use Rattle.silq_types.specs.declared.types.Ty.{Ty}
 use Rattle.silq_mean.specs.Effect.{Effect, ◌>>◌, step, give_part}
-use Rattle.silq_mean.specs.Meaning.{give_held}
 use Rattle.bit_arith.specs.Calls.{Refused}
 use Rattle.flat_form.specs.State.{Flattening}
 use Rattle.flat_form.specs.Flat.{flat}
 use Rattle.flat_steps.specs.Ready.{Ready}
-use Rattle.flat_build.specs.Written.{give_names, held_names}
+use Rattle.tree_walk.specs.Written.{give_names}
 use Rattle.flat_build.proofs.Carrying.{Onward, onward_as, onward_step, onward_refused, ready_first}
-use Rattle.flat_build.proofs.WrittenLists.{gives_names}
 
 module _ (xs : List NameId) (i : ℕ) (d : NameId) (whole now : Flattening) (lt : i < length xs) (o : Onward (give_names (drop i xs)) whole now) where
   abbrev one : Effect
@@ -34,7 +30,3 @@ module _ (xs : List NameId) (i : ℕ) (d : NameId) (whole now : Flattening) (lt 
 
 pub names_done : (xs : List NameId) (i : ℕ) (whole now : Flattening) → length xs ≤ i → Onward (give_names (drop i xs)) whole now → now ≡ whole
 names_done xs i whole now le o = sym (at_drop_all (λ ys. flat (give_names ys) now) xs i le) ∙ o.goes
-
--- those of const parameters
-pub told_held : (ps : List (NameId × Need × Ty)) (xs : List NameId) → xs ≡ held_names ps → give_held ps ≡ give_names xs
-told_held ps xs e = gives_names ps ∙ ap give_names (sym e)

@@ -1,16 +1,10 @@
 pub mod Acts
 pub mod Begins
 pub mod Blocks
-pub mod Calling
 pub mod Carrying
 pub mod Choosing
-pub mod Earlier
 pub mod Entries
-pub mod Forms
 pub mod Giving
-pub mod Levels
 pub mod Owning
 pub mod Statements
 pub mod Walking
-pub mod WrittenLists
-pub mod WrittenTypes

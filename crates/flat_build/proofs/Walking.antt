@@ -2,20 +2,18 @@
 use Rattle.std.proofs.Common.{◌≡◌, ℕ, ◌+◌, ◌<◌, List, length, drop, get_or, sym, ap, ◌∙◌, subst}
 use Rattle.silq_io.specs.declared.limit.LimitFault.{LimitFault}
 use Rattle.silq_tree.specs.declared.node.ExprId.{ExprId}
-use Rattle.silq_tree.specs.Arena.{expr_at}
-use Rattle.silq_tree.specs.Syntax.{Expressions}
-use Rattle.silq_tree.proofs.Lists.{expressions_of-drop}
 use Rattle.check_scope.specs.Library.{Shelf}
 use Rattle.silq_types.specs.declared.need.Need.{Need}
 use Rattle.silq_mean.specs.declared.receiver.Receiver.{Receiver}
 use Rattle.silq_mean.specs.Effect.{Effect, ◌>>◌}
-use Rattle.silq_mean.specs.Meaning.{exprs, need_or, taken_by}
+use Rattle.silq_mean.specs.Meaning.{need_or, taken_by}
 use Rattle.bit_arith.specs.Calls.{Refused}
 use Rattle.flat_form.specs.State.{Flattening}
 use Rattle.flat_form.specs.Flat.{flat}
 use Rattle.flat_steps.specs.Ready.{Ready}
-use Rattle.flat_build.specs.declared.body.Body.{Body}
-use Rattle.flat_build.specs.Seen.{seen_in, expr_in, exprs_in}
+use Rattle.tree_walk.specs.declared.body.Body.{Body}
+use Rattle.tree_walk.specs.Seen.{expr_in, exprs_in}
+use Rattle.tree_walk.proofs.Items.{items_at}
 use Rattle.flat_build.proofs.Carrying.{ready_first, ready_after, Onward, onward_as, onward_step, onward_refused}
 use Rattle.flat_steps.proofs.Stays.{refused_first}
 
@@ -26,13 +24,10 @@ module _ (l : Shelf) (b : Body) (ids : List ExprId) (i : ℕ) (d : ExprId) (othe
   abbrev behind : List Need → List Receiver → Effect
   behind ns rs = exprs_in l b (drop (i + 1) ids) other ns rs
 
-  items_at : i < length ids → exprs_in l b (drop i ids) other asked receivers ≡ one (need_or other asked) >> taken_by receivers >> behind (drop 1 asked) (drop 1 receivers)
-  items_at lt = ap (λ (es : Expressions). exprs es (seen_in l b) other asked receivers) (expressions_of-drop (expr_at l.nodes) ids i d lt)
-
   opened : (n : Need) (whole now : Flattening) → i < length ids → n ≡ need_or other asked → Onward (exprs_in l b (drop i ids) other asked receivers) whole now → Onward (one n >> taken_by receivers >> behind (drop 1 asked) (drop 1 receivers)) whole now
   opened n whole now lt e o =
       subst (λ m. Onward (one m >> taken_by receivers >> behind (drop 1 asked) (drop 1 receivers)) whole now) (sym e)
-      (onward_as (exprs_in l b (drop i ids) other asked receivers) (one (need_or other asked) >> taken_by receivers >> behind (drop 1 asked) (drop 1 receivers)) whole now (items_at lt) o)
+      (onward_as (exprs_in l b (drop i ids) other asked receivers) (one (need_or other asked) >> taken_by receivers >> behind (drop 1 asked) (drop 1 receivers)) whole now (items_at l b ids i d other asked receivers lt) o)
 
   module _ (n : Need) (whole now : Flattening) (lt : i < length ids) (e : n ≡ need_or other asked) (o : Onward (exprs_in l b (drop i ids) other asked receivers) whole now) where
     both_ready : Ready (one n >> taken_by receivers) now

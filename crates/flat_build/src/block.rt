@@ -1,25 +1,23 @@
 //! Blocks, choices and loops.
 
 ghost use Rattle.std.specs.Prelude.{◌≡◌, ◌<◌, length, IfErr, OnOk};
-ghost use Rattle.silq_tree.specs.Arena.{expr_at};
 ghost use Rattle.silq_tree.specs.Children.{AreStmtsBelow, else_stmts};
 ghost use Rattle.silq_mean.specs.Effect.{choice};
-ghost use Rattle.static_num.specs.Static.{is_true};
-ghost use Rattle.silq_mean.specs.Meaning.{static_value as static_value_of};
 ghost use Rattle.bit_arith.specs.Calls.{Refused};
 ghost use Rattle.flat_form.specs.Flat.{flat};
 ghost use Rattle.flat_steps.specs.Ready.{Ready};
-ghost use Rattle.flat_build.specs.Seen.{stmts_in, block_in, else_in, taken_in, choose_in, loop_in, with_value};
+ghost use Rattle.tree_walk.specs.Seen.{stmts_in, block_in, else_in, taken_in, choose_in, loop_in, with_value};
 
-use crate::body::Body;
 use crate::expr::expr;
 use crate::statement::statement;
-use crate::written::{is_static, static_value};
 use check_scope::Library;
 use flat_steps::Flattening;
 use silq_io::LimitFault;
 use silq_tree::{Else, ExprId, NameId, StmtId};
 use silq_types::Need;
+use tree_walk::Body;
+use tree_walk::block::holds;
+use tree_walk::written::{is_static, static_value};
 
 /// Flattens statements in turn.
 #[cycle(walk)]
@@ -111,14 +109,6 @@ pub(crate) fn choose(
         expr(library, body, state, cond, Need::Held)?;
         both(library, body, state, then, other)
     }
-}
-
-/// Whether a static condition holds.
-fn holds(library: &Library, body: &Body, cond: ExprId) -> bool
-    requires { cond.number < length library.now.nodes.exprs }
-    ensures { result ≡ is_true (static_value_of body.now.statics (expr_at library.now.nodes cond)) }
-{
-    static_value(library.tree(), &body.statics, cond) != 0
 }
 
 /// The branch that is taken.

@@ -1,25 +1,24 @@
 //! Calls.
 
-ghost use Rattle.std.specs.Prelude.{◌≡◌, ◌<◌, length, IfOk, IfErr, OnOk};
+ghost use Rattle.std.specs.Prelude.{◌≡◌, ◌<◌, length, IfErr, OnOk};
 ghost use Rattle.silq_tree.specs.Children.{AreExprsBelow};
-ghost use Rattle.silq_types.specs.Calls.{needs_of_built_in};
 ghost use Rattle.silq_mean.specs.Meaning.{gate};
 ghost use Rattle.bit_arith.specs.Calls.{Refused};
 ghost use Rattle.flat_form.specs.Flat.{flat};
 ghost use Rattle.flat_steps.specs.Ready.{Ready};
-ghost use Rattle.flat_build.specs.Seen.{call_in, built_in_call_in, instance_in, callee_in, arguments_in, own_call_in, run_in};
+ghost use Rattle.tree_walk.specs.Seen.{call_in, built_in_call_in, arguments_in, own_call_in, run_in};
 
 use crate::block::statements;
-use crate::body::Body;
 use crate::expr::values;
-use crate::written::{names, paired, results, static_values, takers};
 use check_scope::Library;
 use check_scope::uses::needs_of_own;
 use flat_steps::Flattening;
 use silq_io::LimitFault;
 use silq_tree::{ExprId, NameId};
 use silq_types::{BuiltIn, Need};
-use std::alloc::AllocError;
+use tree_walk::Body;
+use tree_walk::call::{callee, needs_of};
+use tree_walk::written::{names, takers};
 
 /// The arguments of a call, and the call.
 #[cycle(walk)]
@@ -66,20 +65,6 @@ fn built_in_call(
     apply(state, word)
 }
 
-/// How a built-in function uses its arguments; past the end of the list they are held.
-fn needs_of(word: BuiltIn) -> &'static [Need]
-    ensures { result.now ≡ needs_of_built_in word }
-{
-    match word {
-        BuiltIn::HGate => &[Need::Consumed],
-        BuiltIn::XGate => &[Need::Consumed],
-        BuiltIn::YGate => &[Need::Consumed],
-        BuiltIn::ZGate => &[Need::Consumed],
-        BuiltIn::Measure => &[Need::Consumed],
-        _ => &[],
-    }
-}
-
 /// A built-in function on its arguments, which are the last values.
 fn apply(state: &mut Flattening, word: BuiltIn) -> Result<(), LimitFault>
     requires { Ready (gate word) state.old }
@@ -102,37 +87,6 @@ fn apply(state: &mut Flattening, word: BuiltIn) -> Result<(), LimitFault>
         BuiltIn::RotateY => Ok(()),
         BuiltIn::RotateZ => Ok(()),
     }
-}
-
-/// What the body of a called function sees.
-fn callee(library: &Library, body: &Body, fun: u32, statics: &[ExprId]) -> Result<Body, AllocError>
-    requires statics { AreExprsBelow (length library.now.nodes.exprs) statics.now }
-    requires fun { fun < length library.now.funs }
-    ensures { IfOk result (λ inner. inner ≡ callee_in library.now body.now fun statics.now) }
-{
-    let alloc = library.alloc();
-    let numbers = static_values(alloc, library.tree(), &body.statics, statics)?;
-    instance(library, fun, numbers.as_slice(), false)
-}
-
-/// What the body of a function with static values sees, as an entry or in a call.
-pub(crate) fn instance(
-    library: &Library,
-    fun: u32,
-    values: &[i64],
-    entry: bool,
-) -> Result<Body, AllocError>
-    requires fun { fun < length library.now.funs }
-    ensures { IfOk result (λ inner. inner ≡ instance_in library.now fun values.now entry) }
-{
-    let names = library.fun(fun).statics.as_slice();
-    let statics = paired(library.alloc(), names, values)?;
-    let results = results(library, fun, &statics, entry)?;
-    Ok(Body {
-        this: fun,
-        statics,
-        results,
-    })
 }
 
 /// The arguments of a call, each taken over by its parameter.

@@ -6,18 +6,19 @@ ghost use Rattle.bit_arith.specs.Calls.{Refused};
 ghost use Rattle.flat_form.specs.Flat.{flat, flattened};
 ghost use Rattle.flat_form.specs.Jobs.{FineJob};
 ghost use Rattle.flat_steps.specs.Ready.{Ready};
-ghost use Rattle.flat_build.specs.Seen.{entry_in, job_at};
-ghost use Rattle.flat_build.specs.Written.{give_names};
+ghost use Rattle.tree_walk.specs.Seen.{entry_in, job_at};
+ghost use Rattle.tree_walk.specs.Written.{give_names};
 
-use crate::body::Body;
-use crate::call::{instance, run};
-use crate::written::{held_names, shapes};
+use crate::call::run;
 use check_scope::Library;
 use flat_core::Flat;
 use flat_steps::Flattening;
 use silq_io::LimitFault;
 use silq_tree::NameId;
 use silq_types::Need;
+use tree_walk::Body;
+use tree_walk::call::instance;
+use tree_walk::written::{held_names, shapes};
 
 /// The flat form of a function with static values, as an entry.
 pub fn flatten(library: &Library, fun: u32, statics: &[i64]) -> Result<Flat, LimitFault>

@@ -1,24 +1,24 @@
 //! Expressions.
 
-ghost use Rattle.std.specs.Prelude.{◌≡◌, ◌<◌, length, drop, IfErr, IfOk, OnOk};
+ghost use Rattle.std.specs.Prelude.{◌≡◌, ◌<◌, length, IfErr, OnOk};
 ghost use Rattle.silq_tree.specs.Children.{place_exprs, AreExprsBelow, HasFirst};
 ghost use Rattle.silq_mean.specs.Effect.{step, give_part};
-ghost use Rattle.silq_mean.specs.Meaning.{need_or, taken_by};
+ghost use Rattle.silq_mean.specs.Meaning.{taken_by};
 ghost use Rattle.bit_arith.specs.Calls.{Refused};
 ghost use Rattle.flat_form.specs.Flat.{flat};
 ghost use Rattle.flat_steps.specs.Ready.{Ready};
-ghost use Rattle.flat_build.specs.Seen.{expr_in, exprs_in, indices_in, unary_in, binary_in};
+ghost use Rattle.tree_walk.specs.Seen.{expr_in, exprs_in, indices_in, unary_in, binary_in};
 
-use crate::body::Body;
 use crate::call::call;
-use crate::written::{is_static, scalar_of, static_value, static_values};
 use check_scope::Library;
 use flat_steps::Flattening;
 use silq_io::LimitFault;
 use silq_mean::Receiver;
 use silq_tree::{BinaryOp, Expr, ExprId, PlaceNode, UnaryOp};
-use silq_types::{List, Need};
-use std::alloc::{AllocError, Global};
+use silq_types::Need;
+use tree_walk::Body;
+use tree_walk::expr::{behind_first, index_values, need_or};
+use tree_walk::written::{is_static, scalar_of, static_value};
 
 /// Flattens an expression in its use.
 #[cycle(walk)]
@@ -99,26 +99,6 @@ fn part(
     state.give_part(need, place.name, indices.as_slice())
 }
 
-/// The values of the indices of a place.
-pub(crate) fn index_values(
-    library: &Library,
-    body: &Body,
-    place: PlaceNode,
-) -> Result<List<i64>, AllocError>
-    requires parts { AreExprsBelow (length library.now.nodes.exprs) (place_exprs place) }
-    requires first { HasFirst place }
-    ensures { IfOk result (λ vs. vs ≡ indices_in library.now body.now place) }
-{
-    let mut indices = List::new(library.alloc());
-    if let Some(i) = place.first {
-        indices.push(static_value(library.tree(), &body.statics, i))?;
-        if let Some(j) = place.second {
-            indices.push(static_value(library.tree(), &body.statics, j))?;
-        }
-    }
-    Ok(indices)
-}
-
 /// A sign before its operand.
 #[cycle(walk)]
 fn unary(
@@ -188,16 +168,6 @@ pub(crate) fn values(
     Ok(())
 }
 
-/// The first use that is asked, or another one.
-fn need_or(other: Need, asked: &[Need]) -> Need
-    ensures { result ≡ need_or other asked.now }
-{
-    match asked {
-        [] => other,
-        [need, ..] => *need,
-    }
-}
-
 /// The first taker takes the last value over, if there is one.
 pub(crate) fn receive(state: &mut Flattening, takers: &[Receiver]) -> Result<(), LimitFault>
     requires { Ready (taken_by takers.now) state.old }
@@ -207,15 +177,5 @@ pub(crate) fn receive(state: &mut Flattening, takers: &[Receiver]) -> Result<(),
     match takers {
         [] => Ok(()),
         [taker, ..] => state.receive(*taker),
-    }
-}
-
-/// What stands behind the first item, if there is one.
-fn behind_first<T>(items: &[T]) -> &[T]
-    ensures { result.now ≡ drop 1 items.now }
-{
-    match items {
-        [] => items,
-        [_, rest @ ..] => rest,
     }
 }

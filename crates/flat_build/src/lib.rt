@@ -4,11 +4,9 @@
 //! A program's effect is not built: the walk goes through the arena and carries each step out at once, in the order of the text.
 
 mod block;
-mod body;
 mod call;
 mod entry;
 mod expr;
 mod statement;
-mod written;
 
 pub use entry::flatten;

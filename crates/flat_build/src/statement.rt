@@ -1,29 +1,24 @@
 //! Statements.
 
-ghost use Rattle.std.specs.Prelude.{◌≡◌, ◌<◌, length, map, IfOk, IfErr, IfSome, OnOk};
-ghost use Rattle.silq_tree.specs.declared.node.ExprId.{ExprId as Id};
-ghost use Rattle.silq_tree.specs.declared.node.StmtId.{StmtId as StatementId};
+ghost use Rattle.std.specs.Prelude.{◌≡◌, ◌<◌, length, IfErr, IfSome, OnOk};
 ghost use Rattle.silq_tree.specs.Children.{place_exprs, AreExprsBelow, HasFirst};
-ghost use Rattle.silq_tree.specs.Standing.{stmt_grown};
-ghost use Rattle.silq_tree.specs.Syntax.{Expression, Statement};
-ghost use Rattle.silq_mean.specs.Meaning.{stmt, Scope};
-ghost use Rattle.silq_mean.specs.declared.receiver.Receiver.TheVariants.{Variable};
 ghost use Rattle.bit_arith.specs.Calls.{Refused};
 ghost use Rattle.flat_form.specs.Flat.{flat};
 ghost use Rattle.flat_steps.specs.Ready.{Ready};
-ghost use Rattle.flat_build.specs.Seen.{stmt_in, items_in, assign_in, spread_in, update_in, forget_in, return_in, line_in, acts};
+ghost use Rattle.tree_walk.specs.Seen.{stmt_in, items_in, assign_in, spread_in, update_in, forget_in, return_in, acts};
 
 use crate::block::{choose, unroll};
-use crate::body::Body;
-use crate::expr::{expr, index_values, receive, values};
-use crate::written::eighths;
+use crate::expr::{expr, receive, values};
 use check_scope::Library;
 use flat_steps::Flattening;
 use silq_io::LimitFault;
 use silq_mean::Receiver;
 use silq_tree::{Expr, ExprId, NameId, PlaceNode, Stmt, StmtId, UpdateOp};
-use silq_types::{List, Need};
-use std::alloc::{AllocError, Global};
+use silq_types::Need;
+use tree_walk::Body;
+use tree_walk::expr::index_values;
+use tree_walk::statement::{line_of, variables};
+use tree_walk::written::eighths;
 
 /// Flattens a statement, on its line.
 #[cycle(walk)]
@@ -43,23 +38,6 @@ pub(crate) fn statement(
     act(library, body, state, id)?;
     state.end_statement(outer);
     Ok(())
-}
-
-/// The line of a statement.
-fn line_of(node: &Stmt) -> u32
-    ensures { (at : Id → Expression) (stmts : StatementId → Statement) (sc : Scope) → result ≡ line_in (stmt (stmt_grown at stmts node.now) sc) }
-{
-    match node {
-        Stmt::Assign { at, .. } => at.line,
-        Stmt::Spread { at, .. } => at.line,
-        Stmt::Update { at, .. } => at.line,
-        Stmt::Forget { at, .. } => at.line,
-        Stmt::Phase { at, .. } => at.line,
-        Stmt::If { at, .. } => at.line,
-        Stmt::For { at, .. } => at.line,
-        Stmt::Return { at, .. } => at.line,
-        Stmt::Call { at, .. } => at.line,
-    }
 }
 
 /// What a statement does on its line.
@@ -153,17 +131,6 @@ fn spread(
     let takers = variables(library.alloc(), names)?;
     items(library, body, state, value, takers.as_slice())?;
     state.assign_in_turn(names)
-}
-
-/// A variable for each name.
-fn variables(alloc: Global, names: &[NameId]) -> Result<List<Receiver>, AllocError>
-    ensures { IfOk result (λ takers. takers ≡ map (λ x. Variable) names.now) }
-{
-    let mut takers = List::new(alloc);
-    for _name in names {
-        takers.push(Receiver::Variable)?;
-    }
-    Ok(takers)
 }
 
 /// The values of a tuple, each of them taken over, or that of another expression.

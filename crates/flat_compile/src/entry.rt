@@ -5,7 +5,7 @@ ghost use Rattle.silq_io.specs.Counts.{Rose};
 ghost use Rattle.silq_io.specs.Sinks.{Adds, Breaks};
 ghost use Rattle.silq_io.specs.declared.limit.OverLimit.{OverLimit};
 ghost use Rattle.flat_form.specs.Jobs.{EndsWell, FineJob};
-ghost use Rattle.flat_build.specs.Seen.{job_at};
+ghost use Rattle.tree_walk.specs.Seen.{job_at};
 ghost use Rattle.graph_core.specs.Circuit.{circuit_graph};
 ghost use Rattle.graph_core.specs.Digraph.{IsAcyclic, IsCycle};
 ghost use Rattle.topo_order.specs.GivenCycle.{IsGivenCycle};

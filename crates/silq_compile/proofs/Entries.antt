@@ -14,7 +14,7 @@ use Rattle.silq_types.specs.Rules.{Fault}
 use Rattle.silq_types.specs.Words.{words_of}
 use Rattle.silq_mean.specs.Table.{Job, job_of}
 use Rattle.flat_form.specs.Jobs.{FineJob, EndsWell}
-use Rattle.flat_build.specs.Seen.{job_at}
+use Rattle.tree_walk.specs.Seen.{job_at}
 use Rattle.check_scope.specs.declared.fault.CheckFault.{CheckFault}
 use Rattle.check_scope.specs.Faults.{fault_as}
 use Rattle.check_scope.specs.Library.{AreFunsBelow, Shelf, found_at, functions_of}

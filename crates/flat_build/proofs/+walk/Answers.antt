@@ -1,10 +1,11 @@
 use Rattle.bit_arith.specs.Calls.{Refused}
-use Rattle.flat_build.proofs.Calling.{call_word, call_own, call_none, call_earlier}
-use Rattle.flat_build.proofs.Carrying.{claim_ready, ready_after, if_err_from, ready_as, refused_as, ready_first, refused_after, onward_start}
-use Rattle.flat_build.proofs.Forms.{told_items, told_single, tuple_below, told_static, told_dynamic, told_pi, told_call, told_tuple, told_unary, told_binary, statics_below, args_below, unary_below, left_below, right_below}
-use Rattle.flat_build.proofs.Levels.{level_less, level_call, level}
+use Rattle.tree_walk.proofs.Calling.{call_word, call_own, call_none, call_earlier}
+use Rattle.flat_build.proofs.Carrying.{claim_ready, ready_after, ready_as, refused_as, ready_first, refused_after, onward_start}
+use Rattle.tree_walk.proofs.Faults.{if_err_from}
+use Rattle.tree_walk.proofs.Forms.{told_items, told_single, tuple_below, told_static, told_dynamic, told_pi, told_call, told_tuple, told_unary, told_binary, statics_below, args_below, unary_below, left_below, right_below}
+use Rattle.tree_walk.proofs.Levels.{level_less, level_call, level}
 use Rattle.flat_build.proofs.Walking.{item_ready, item_refused, taken_ready, taken_refused, items_more}
-use Rattle.flat_build.specs.Seen.{expr_in, exprs_in, call_in, built_in_call_in, own_call_in, forget_in, indices_in, items_in, return_in, stmt_in, stmts_in, block_in, else_in, taken_in, choose_in, acts, arguments_in, run_in}
+use Rattle.tree_walk.specs.Seen.{expr_in, exprs_in, call_in, built_in_call_in, own_call_in, forget_in, indices_in, items_in, return_in, stmt_in, stmts_in, block_in, else_in, taken_in, choose_in, acts, arguments_in, run_in}
 use Rattle.flat_form.specs.Flat.{flat}
 use Rattle.flat_steps.proofs.Stays.{refused_first}
 use Rattle.flat_steps.specs.Ready.{Ready}
@@ -19,14 +20,17 @@ use Rattle.std.proofs.lemmas.Int.{to_z-of_z}
 use Rattle.silq_tree.specs.Arena.{Forest}
 use Rattle.silq_tree.specs.Children.{AreStmtsBelow, else_stmts}
 use Rattle.flat_form.specs.State.{Flattening}
-use Rattle.flat_build.specs.declared.body.Body.{Body}
-use Rattle.flat_build.proofs.Acts.{line_told, act_refused, statement_done, told_assign, told_spread, told_update, told_phase, told_if, told_for, told_return, told_do, forget_ready, forget_flat, assign_parts, assign_value, spread_value, update_parts, update_value, forget_value, phase_value, if_condition, for_low, for_high, return_value, do_value, assign_first, update_first, then_below, else_below, loop_below}
-use Rattle.flat_build.proofs.Blocks.{one_ready, one_refused, one_more, all_done, told_else_block, told_else_choice, else_ids, else_same, else_one, told_static_choice, told_run_choice, taken_first, taken_other, loop_still, lt_told, ge_told, next_number, loop_start, round_ready, round_refused, round_more, rounds_over, distance_less}
+use Rattle.tree_walk.specs.declared.body.Body.{Body}
+use Rattle.flat_build.proofs.Acts.{act_refused, statement_done, forget_ready, forget_flat}
+use Rattle.tree_walk.proofs.Acts.{line_told, told_assign, told_spread, told_update, told_phase, told_if, told_for, told_return, told_do, assign_parts, assign_value, spread_value, update_parts, update_value, forget_value, phase_value, if_condition, for_low, for_high, return_value, do_value, assign_first, update_first, then_below, else_below, loop_below}
+use Rattle.flat_build.proofs.Blocks.{one_ready, one_refused, one_more, all_done, loop_still, loop_start, round_ready, round_refused, round_more, rounds_over}
+use Rattle.tree_walk.proofs.Blocks.{told_else_block, told_else_choice, else_ids, else_same, else_one, told_static_choice, told_run_choice, taken_first, taken_other, lt_told, ge_told, next_number, distance_less}
 use Rattle.std.proofs.lemmas.Bool.{eqb-true}
 use Rattle.std.proofs.Math.Facts.{sfits_to_z}
 use Rattle.std.specs.Prelude.{pos, ◌+ℤ◌}
 use Rattle.flat_build.proofs.Choosing.{first_ready, first_refused, second_good, second_safe, second_refused, other_ready, other_refused, choice_done, refused_start}
-use Rattle.flat_build.proofs.Owning.{arguments_ready, arguments_refused, run_ready, run_refused, leave_is, told_run, told_arguments}
+use Rattle.flat_build.proofs.Owning.{arguments_ready, arguments_refused, run_ready, run_refused, leave_is}
+use Rattle.tree_walk.proofs.Owning.{told_run, told_arguments}
 use Rattle.flat_build.proofs.Statements.{act_ready, count_refused}
 use Rattle.flat_build.proofs.+walk.Goals as goal
 

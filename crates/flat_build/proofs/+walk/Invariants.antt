@@ -4,9 +4,9 @@ use Rattle.silq_tree.specs.Children.{else_stmts}
 use Rattle.silq_tree.proofs.Lists.{exprs_top, stmts_top}
 use Rattle.silq_types.specs.Programs.{distance}
 use Rattle.flat_form.specs.Flat.{flat}
-use Rattle.flat_build.specs.Seen.{exprs_in, stmts_in, rounds_in, loop_in}
+use Rattle.tree_walk.specs.Seen.{exprs_in, stmts_in, rounds_in, loop_in}
 use Rattle.flat_build.proofs.Carrying.{Onward}
-use Rattle.flat_build.proofs.Levels.{level}
+use Rattle.tree_walk.proofs.Levels.{level}
 use Rattle.flat_build.proofs.+walk.Given as goal
 
 abbrev pub decreases-expr::expr : goal.decreases-expr::expr

@@ -4,7 +4,8 @@ use Rattle.silq_mean.specs.Meaning.{gate}
 use Rattle.bit_arith.specs.Calls.{Refused}
 use Rattle.flat_form.specs.Flat.{flat}
 use Rattle.flat_steps.specs.Ready.{Ready}
-use Rattle.flat_build.proofs.Carrying.{ready_after, if_err_from}
+use Rattle.flat_build.proofs.Carrying.{ready_after}
+use Rattle.tree_walk.proofs.Faults.{if_err_from}
 use Rattle.flat_steps.proofs.Stays.{refused_first}
 use Rattle.flat_build.proofs.call.apply.Goals as goal
 

@@ -5,10 +5,11 @@ use Rattle.bit_arith.specs.Calls.{Refused}
 use Rattle.flat_form.specs.State.{Flattening}
 use Rattle.flat_form.specs.Flat.{flat}
 use Rattle.flat_steps.proofs.Stays.{refused_first}
-use Rattle.flat_build.specs.Written.{give_names}
-use Rattle.flat_build.specs.Seen.{run_in}
-use Rattle.flat_build.proofs.Carrying.{ready_first, ready_after, ready_as, if_err_from}
-use Rattle.flat_build.proofs.Giving.{told_held}
+use Rattle.tree_walk.specs.Written.{give_names}
+use Rattle.tree_walk.specs.Seen.{run_in}
+use Rattle.flat_build.proofs.Carrying.{ready_first, ready_after, ready_as}
+use Rattle.tree_walk.proofs.Faults.{if_err_from}
+use Rattle.tree_walk.proofs.WrittenLists.{told_held}
 use Rattle.flat_build.proofs.entry.carry_out.Goals as goal
 
 pub run-requires-clause-ready : goal.run-requires-clause-ready

@@ -1,7 +1,8 @@
 use Rattle.std.proofs.Common.{sym, ◌∙◌, subst}
 use Rattle.flat_core.specs.Drafts.{FitsEnds}
-use Rattle.flat_build.proofs.Carrying.{if_err_from}
-use Rattle.flat_build.proofs.Entries.{body_there, begin_refused, entry_ready, entry_refused, end_wires, form_is, form_within}
+use Rattle.tree_walk.proofs.Faults.{if_err_from}
+use Rattle.flat_build.proofs.Entries.{begin_refused, entry_ready, entry_refused, end_wires, form_is, form_within}
+use Rattle.tree_walk.proofs.Entries.{body_there}
 use Rattle.flat_build.proofs.entry.flatten.Goals as goal
 
 pub shapes-requires : goal.shapes-requires

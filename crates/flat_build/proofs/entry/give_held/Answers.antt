@@ -1,5 +1,6 @@
-use Rattle.flat_build.specs.Written.{give_names}
-use Rattle.flat_build.proofs.Carrying.{if_err_from, onward_start}
+use Rattle.tree_walk.specs.Written.{give_names}
+use Rattle.flat_build.proofs.Carrying.{onward_start}
+use Rattle.tree_walk.proofs.Faults.{if_err_from}
 use Rattle.flat_build.proofs.Giving.{name_ready, name_refused, name_more, names_done}
 use Rattle.flat_build.proofs.entry.give_held.Goals as goal
 

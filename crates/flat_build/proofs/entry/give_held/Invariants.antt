@@ -1,6 +1,6 @@
 use Rattle.std.proofs.Common.{drop}
 use Rattle.flat_form.specs.Flat.{flat}
-use Rattle.flat_build.specs.Written.{give_names}
+use Rattle.tree_walk.specs.Written.{give_names}
 use Rattle.flat_build.proofs.Carrying.{Onward}
 use Rattle.flat_build.proofs.entry.give_held.Given as goal
 

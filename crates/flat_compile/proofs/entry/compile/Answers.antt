@@ -1,6 +1,6 @@
 use Rattle.std.proofs.Common.{◌≡◌, ◌∙◌, Err, ap, subst}
 use Rattle.flat_laws.proofs.EndsWhole.{ends_fit}
-use Rattle.flat_build.specs.Seen.{job_at}
+use Rattle.tree_walk.specs.Seen.{job_at}
 use Rattle.flat_compile.specs.Ends.{NeedsMore}
 use Rattle.flat_compile.specs.declared.fault.CompileFault.TheVariants as faults
 use Rattle.flat_compile.proofs.entry.compile.Goals as goal

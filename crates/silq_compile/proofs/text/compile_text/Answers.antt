@@ -1,5 +1,5 @@
 use Rattle.std.proofs.Common.{◌∙◌, Err, ap, subst, arith}
-use Rattle.flat_build.specs.Seen.{job_at}
+use Rattle.tree_walk.specs.Seen.{job_at}
 use Rattle.silq_compile.specs.Headline.{Refuses}
 use Rattle.silq_compile.proofs.Entries.{entry_fine, funs_below, told}
 use Rattle.silq_compile.proofs.Circuits.{refuses, text_put, told_as_it_is}

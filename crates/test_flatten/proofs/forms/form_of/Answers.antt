@@ -1,6 +1,6 @@
 use Rattle.std.proofs.Common.{◌∙◌, arith}
 use Rattle.check_fun.specs.Program.{Accepted}
-use Rattle.flat_build.specs.Seen.{job_at}
+use Rattle.tree_walk.specs.Seen.{job_at}
 use Rattle.flat_laws.proofs.EndsWhole.{ends_fit}
 use Rattle.silq_compile.proofs.Entries.{entry_fine, funs_below}
 use Rattle.test_flatten.proofs.forms.form_of.Goals as goal
