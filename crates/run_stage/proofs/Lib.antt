@@ -1,3 +1,3 @@
 pub mod Composing
 mod Parting
-mod Sequences
+pub mod Sequences

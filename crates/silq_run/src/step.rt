@@ -5,6 +5,7 @@ use silq_tree::{BinaryOp, NameId, UnaryOp, UpdateOp};
 use silq_types::{Need, Scalar};
 
 /// A step of a program.
+#[derive(Drop)]
 pub enum Step<'a> {
     /// The value of a static expression.
     GiveStatic(i64),
