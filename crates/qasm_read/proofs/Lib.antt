@@ -10,3 +10,5 @@ pub mod Spaces
 pub mod Plain
 pub mod Qubits
 pub mod Gathered
+pub mod News
+pub mod Headed

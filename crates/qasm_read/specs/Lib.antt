@@ -9,3 +9,4 @@ pub mod Declarations
 pub mod Text
 pub mod Read
 pub mod Written
+pub mod News
