@@ -1,4 +1,5 @@
 pub mod Order
+pub mod Barriers
 pub mod Found
 pub mod Operands
 pub mod Kept
