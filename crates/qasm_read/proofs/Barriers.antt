@@ -16,15 +16,15 @@ pub record HaveAsked (s : State) (os : List ReadOperand) (first : Option Refusal
 pub at_first : (s : State) (os : List ReadOperand) → HaveAsked s os None 0
 at_first s os = record { left = refl }
 
-from_next : (os : List ReadOperand) (i : ℕ) (x : ReadOperand) → i < length os → x ≡ get_or os i x → drop i os ≡ x ∷ drop (i + 1) os
-from_next os i x l e = drop-cons os i x l ∙ (ap (λ (y : ReadOperand). y ∷ drop (suc i) os) (sym e) ∙ ap (λ (j : ℕ). x ∷ drop j os) (sym (add-one i)))
+from_next : (os : List ReadOperand) (i : ℕ) (d : ReadOperand) → i < length os → drop i os ≡ get_or os i d ∷ drop (i + 1) os
+from_next os i d l = drop-cons os i d l ∙ ap (λ (j : ℕ). get_or os i d ∷ drop j os) (sym (add-one i))
 
-pub one_more : (s : State) (os : List ReadOperand) (first here : Option Refusal) (i : ℕ) (x : ReadOperand) → i < length os → x ≡ get_or os i x
-    → here ≡ first_refusal (name_refusals s.qubits (operand_of x)) → HaveAsked s os first i → HaveAsked s os (earlier first here) (i + 1)
-one_more s os first here i x l e n h = record {
-  left = first_refusal-step first (earlier first here) (name_refusals s.qubits (operand_of x)) (barrier_refusals s (operands_of (drop (i + 1) os))) (barrier_refusals s (operands_of os))
-      (ap (λ (rest : List ReadOperand). earlier first (first_refusal (barrier_refusals s (operands_of rest)))) (sym (from_next os i x l e)) ∙ h.left)
-      (ap (λ (r : Option Refusal). earlier first r) n);
+pub one_more : (s : State) (os : List ReadOperand) (first here after : Option Refusal) (i : ℕ) (d : ReadOperand) → i < length os
+    → here ≡ first_refusal (name_refusals s.qubits (operand_of (get_or os i d))) → after ≡ earlier first here → HaveAsked s os first i → HaveAsked s os after (i + 1)
+one_more s os first here after i d l n ea h = record {
+  left = first_refusal-step first after (name_refusals s.qubits (operand_of (get_or os i d))) (barrier_refusals s (operands_of (drop (i + 1) os))) (barrier_refusals s (operands_of os))
+      (ap (λ (rest : List ReadOperand). earlier first (first_refusal (barrier_refusals s (operands_of rest)))) (sym (from_next os i d l)) ∙ h.left)
+      (ea ∙ ap (λ (r : Option Refusal). earlier first r) n);
 }
 
 drop_all : (os : List ReadOperand) → drop (length os) os ≡ []
