@@ -1,7 +1,6 @@
 -- The bits that operands of a gate have named, and those that statements measure.
-use Rattle.std.proofs.Common.{◌≡◌, ◌↔◌, ℕ, Bool, true, false, cond, not, List, [], ◌∷◌, Contains, Equal, refl, sym, ◌∙◌, ap}
-use Rattle.std.specs.Prelude.{Option, Some, None, ◌==◌, ◌||◌, IsTrue}
-use Rattle.std.specs.List.{list_any}
+use Rattle.std.proofs.Common.{◌≡◌, ◌↔◌, ℕ, Bool, true, false, cond, not, List, Contains, Equal, refl, sym, ◌∙◌, ap}
+use Rattle.std.specs.Prelude.{Some, None, ◌==◌, ◌||◌, IsTrue}
 use Rattle.std.specs.Bool.{Decides}
 use Rattle.std.specs.BTreeSet.{BTreeSet, contains, Updates}
 use Rattle.std.specs.BTreeMap.{is_at}
@@ -13,7 +12,7 @@ use Rattle.std.proofs.lemmas.Map.Lookups.{exact_unsigned}
 use Rattle.gate_core.specs.declared.gate.Gate.{Gate}
 use Rattle.gate_core.specs.Circuit.{measured_bits}
 use Rattle.qasm_read.specs.Refusals.{is_among, all_some}
-use Rattle.qasm_read.specs.Seen.{HasSeen, Sees}
+use Rattle.qasm_read.specs.Seen.{Sees}
 
 same_at : (b q : ℕ) → is_at (nat_cmp b) q ≡ (b == q)
 same_at b q =
@@ -36,7 +35,8 @@ sees_none s = record {
 }
 
 -- a bit comes to those seen
-pub sees_some : (s n : BTreeSet ℕ) (bit : ℕ) (added : Bool) → added ≡ not (contains nat_cmp s bit) → Updates nat_cmp s n bit true → Sees s (Some bit) (not added) n
+pub sees_some : (s n : BTreeSet ℕ) (bit : ℕ) (added : Bool) → added ≡ not (contains nat_cmp s bit)
+    → Updates nat_cmp s n bit true → Sees s (Some bit) (not added) n
 sees_some s n bit added e u = record {
   among = λ seen h. ap not e ∙ (not_not (contains nat_cmp s bit) ∙ h.index bit);
   added = λ seen h. record {

@@ -1,6 +1,6 @@
 -- The first refusal of the operands of a gate, one operand after another.
-use Rattle.std.proofs.Common.{◌≡◌, ℕ, suc, ◌+◌, ◌<◌, Bool, List, [], ◌∷◌, ◌++◌, length, drop, get_or, refl, sym, ◌∙◌, ap, subst, add-one, drop-cons}
-use Rattle.std.specs.Prelude.{Option, Some, None}
+use Rattle.std.proofs.Common.{◌≡◌, ℕ, ◌+◌, ◌<◌, Bool, List, [], ◌∷◌, ◌++◌, length, drop, get_or, refl, sym, ◌∙◌, ap, subst}
+use Rattle.std.specs.Prelude.{Option, None}
 use Rattle.std.specs.List.{list_any}
 use Rattle.std.specs.BTreeSet.{BTreeSet}
 use Rattle.std.specs.BTreeMap.{is_at}
@@ -13,6 +13,7 @@ use Rattle.qasm_read.specs.Refusals.{Operand, bad, bit_named, is_among, operand_
 use Rattle.qasm_read.specs.Earlier.{earlier}
 use Rattle.qasm_read.specs.Read.{operand_of, operands_of}
 use Rattle.qasm_read.specs.Seen.{HasSeen, Sees}
+use Rattle.qasm_read.proofs.Barriers.{from_next, drop_all}
 use Rattle.qasm_read.proofs.Order.{earlier-none, first_refusal-step}
 
 -- the first refusal and the bits seen, once i operands were told
@@ -28,12 +29,10 @@ at_first rs os bits e = record {
   left = refl;
 }
 
-from_next : (os : List ReadOperand) (i : ℕ) (d : ReadOperand) → i < length os → drop i os ≡ get_or os i d ∷ drop (i + 1) os
-from_next os i d l = drop-cons os i d l ∙ ap (λ (j : ℕ). get_or os i d ∷ drop j os) (sym (add-one i))
-
-pub one_more : (rs : List Register) (os : List ReadOperand) (first here repeated after : Option Refusal) (bit : Option ℕ) (was : Bool) (old new : BTreeSet ℕ) (i : ℕ) (d : ReadOperand)
-    → i < length os → bit ≡ bit_named rs (operand_of (get_or os i d)) → Sees old bit was new
-    → here ≡ first_refusal (operand_refusals rs (operand_of (get_or os i d))) → repeated ≡ first_refusal (where_ was (bad (get_or os i d).name.at cause.Repeated))
+pub one_more : (rs : List Register) (os : List ReadOperand) (first here repeated after : Option Refusal) (bit : Option ℕ) (was : Bool)
+    (old new : BTreeSet ℕ) (i : ℕ) (d : ReadOperand) → i < length os → bit ≡ bit_named rs (operand_of (get_or os i d)) → Sees old bit was new
+    → here ≡ first_refusal (operand_refusals rs (operand_of (get_or os i d)))
+    → repeated ≡ first_refusal (where_ was (bad (get_or os i d).name.at cause.Repeated))
     → after ≡ earlier (earlier first here) repeated → HaveTold rs os first old i → HaveTold rs os after new (i + 1)
 one_more rs os first here repeated after bit was old new i d l n s eh er ea h =
     let o : Operand = operand_of (get_or os i d) in
@@ -51,13 +50,12 @@ one_more rs os first here repeated after bit was old new i d l n s eh er ea h =
       seen = bit_named rs o ∷ h.seen;
       index = now.added h.seen h.index;
       left = first_refusal-step (earlier first here) after (where_ twice fault) (qubit_refusals rs (bit_named rs o ∷ h.seen) rest) all middle
-          (ea ∙ ap (λ (r : Option Refusal). earlier (earlier first here) r) (er ∙ ap (λ (b : Bool). first_refusal (where_ b fault)) (now.among h.seen h.index)));
+          (ea ∙ ap (λ (r : Option Refusal). earlier (earlier first here) r)
+          (er ∙ ap (λ (b : Bool). first_refusal (where_ b fault)) (now.among h.seen h.index)));
     }
 
-drop_all : (os : List ReadOperand) → drop (length os) os ≡ []
-drop_all [] = refl
-drop_all (o ∷ os) = drop_all os
-
-pub at_end : (rs : List Register) (os : List ReadOperand) (first : Option Refusal) (bits : BTreeSet ℕ) → HaveTold rs os first bits (length os) → first ≡ first_refusal (qubit_refusals rs [] (operands_of os))
+pub at_end : (rs : List Register) (os : List ReadOperand) (first : Option Refusal) (bits : BTreeSet ℕ) → HaveTold rs os first bits (length os)
+    → first ≡ first_refusal (qubit_refusals rs [] (operands_of os))
 at_end rs os first bits h =
-    sym (earlier-none first) ∙ (ap (λ (left : List ReadOperand). earlier first (first_refusal (qubit_refusals rs h.seen (operands_of left)))) (sym (drop_all os)) ∙ h.left)
+    sym (earlier-none first)
+    ∙ (ap (λ (left : List ReadOperand). earlier first (first_refusal (qubit_refusals rs h.seen (operands_of left)))) (sym (drop_all os)) ∙ h.left)

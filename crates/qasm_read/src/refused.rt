@@ -135,7 +135,9 @@ fn is_remeasured(gates: &Gates, bit: Option<u32>) -> bool
 /// The refusal of the bit of a measure, which was not measured before.
 #[tactic(auto, using(crate::proofs::Order::first_refusals))]
 fn bit_refusal(state: &State, first: &Token, operand: &Operand) -> Option<Refusal>
-    ensures { result ≡ first_refusal (spec.operand_refusals state.now.bits (operand_of operand.now) ++ spec.where_ (spec.is_among (spec.measured state.now) (spec.bit_named state.now.bits (operand_of operand.now))) (spec.unsupported first.now.at what.Remeasure)) }
+    ensures { result ≡ first_refusal (spec.operand_refusals state.now.bits (operand_of operand.now)
+        ++ spec.where_ (spec.is_among (spec.measured state.now) (spec.bit_named state.now.bits (operand_of operand.now)))
+        (spec.unsupported first.now.at what.Remeasure)) }
 {
     let is_again = is_remeasured(&state.gates, bit_named(&state.bits, operand));
     let again = where_(is_again, unsupported(first.at, What::Remeasure));
@@ -204,7 +206,8 @@ fn register_refusal(
     most: u32,
     operand: &Operand,
 ) -> Option<Refusal>
-    ensures { result ≡ first_refusal (spec.declaration_refusals state.now registers.now whole (token_of first.now) which most (operand_of operand.now ∷ [])) }
+    ensures { result
+        ≡ first_refusal (spec.declaration_refusals state.now registers.now whole (token_of first.now) which most (operand_of operand.now ∷ [])) }
 {
     let name = operand.name;
     earlier(
@@ -226,7 +229,8 @@ fn declaration_refusal(
     most: u32,
     operands: &[Operand],
 ) -> Option<Refusal>
-    ensures { result ≡ first_refusal (spec.declaration_refusals state.now registers.now whole (token_of first.now) which most (operands_of operands.now)) }
+    ensures { result
+        ≡ first_refusal (spec.declaration_refusals state.now registers.now whole (token_of first.now) which most (operands_of operands.now)) }
 {
     match operands {
         [operand, ..] => register_refusal(state, registers, whole, first, which, most, operand),
@@ -326,7 +330,9 @@ fn qubits_declared_refusal(
     tokens: &[Token],
 ) -> Result<Option<Refusal>, AllocError>
     requires { All IsSpelled tokens.now }
-    ensures { IfOk result (λ r. r ≡ first_refusal (spec.declaration_refusals state.now state.now.qubits whole (token_of first.now) limits.Qubits 100000 (spec.operands (tokens_of tokens.now)))) }
+    ensures { IfOk result
+        (λ r. r ≡ first_refusal (spec.declaration_refusals state.now state.now.qubits whole (token_of first.now)
+        limits.Qubits 100000 (spec.operands (tokens_of tokens.now)))) }
 {
     let operands = operands(alloc, tokens)?;
     Ok(declaration_refusal(
@@ -349,7 +355,9 @@ fn bits_declared_refusal(
     tokens: &[Token],
 ) -> Result<Option<Refusal>, AllocError>
     requires { All IsSpelled tokens.now }
-    ensures { IfOk result (λ r. r ≡ first_refusal (spec.declaration_refusals state.now state.now.bits whole (token_of first.now) limits.Outcomes 4096 (spec.operands (tokens_of tokens.now)))) }
+    ensures { IfOk result
+        (λ r. r ≡ first_refusal (spec.declaration_refusals state.now state.now.bits whole (token_of first.now)
+        limits.Outcomes 4096 (spec.operands (tokens_of tokens.now)))) }
 {
     let operands = operands(alloc, tokens)?;
     Ok(declaration_refusal(
@@ -373,7 +381,9 @@ fn measure_item_refusal(
     tokens: &[Token],
 ) -> Result<Option<Refusal>, AllocError>
     requires { All IsSpelled tokens.now }
-    ensures { IfOk result (λ r. r ≡ first_refusal (spec.measure_refusals state.now (token_of first.now) (spec.operands (tokens_of tokens.now)) ++ spec.count_refusals state.now whole (token_of first.now))) }
+    ensures { IfOk result
+        (λ r. r ≡ first_refusal (spec.measure_refusals state.now (token_of first.now) (spec.operands (tokens_of tokens.now))
+        ++ spec.count_refusals state.now whole (token_of first.now))) }
 {
     let operands = operands(alloc, tokens)?;
     let measure = measure_refusal(state, first, &operands);
@@ -390,7 +400,9 @@ fn if_item_refusal(
     tokens: &[Token],
 ) -> Result<Option<Refusal>, AllocError>
     requires { All IsSpelled tokens.now }
-    ensures { IfOk result (λ r. r ≡ first_refusal (spec.if_refusals state.now (token_of first.now) (tokens_of tokens.now) ++ spec.count_refusals state.now whole (token_of first.now))) }
+    ensures { IfOk result
+        (λ r. r ≡ first_refusal (spec.if_refusals state.now (token_of first.now) (tokens_of tokens.now)
+        ++ spec.count_refusals state.now whole (token_of first.now))) }
 {
     let held = if_refusal(alloc, state, first, tokens)?;
     Ok(earlier(held, count_refusal(state, whole, first)))
@@ -406,7 +418,9 @@ fn gate_item_refusal(
     tokens: &[Token],
 ) -> Result<Option<Refusal>, AllocError>
     requires { All IsSpelled tokens.now }
-    ensures { IfOk result (λ r. r ≡ first_refusal (spec.gate_refusals state.now (token_of first.now) (tokens_of tokens.now) ++ spec.count_refusals state.now whole (token_of first.now))) }
+    ensures { IfOk result
+        (λ r. r ≡ first_refusal (spec.gate_refusals state.now (token_of first.now) (tokens_of tokens.now)
+        ++ spec.count_refusals state.now whole (token_of first.now))) }
 {
     let gate = gate_refusal(alloc, state, first, tokens)?;
     Ok(earlier(gate, count_refusal(state, whole, first)))
