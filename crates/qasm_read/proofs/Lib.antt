@@ -1,10 +1,14 @@
 pub mod Order
+pub mod Barriers
+pub mod Seen
+pub mod Twice
 pub mod Found
 pub mod Operands
 pub mod Kept
 pub mod Bits
 pub mod Allowed
 pub mod Items
+pub mod Held
 pub mod Cuts
 pub mod Spaces
 pub mod Plain

@@ -3,6 +3,7 @@ pub mod Stored
 pub mod State
 pub mod Lines
 pub mod Refusals
+pub mod Seen
 pub mod Earlier
 pub mod Statements
 pub mod Declarations

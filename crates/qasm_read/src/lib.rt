@@ -8,6 +8,7 @@ mod line;
 mod named;
 pub mod operand;
 pub mod refusal;
+mod refused;
 pub mod registers;
 mod state;
 mod statement;
