@@ -16,3 +16,5 @@ pub mod Qubits
 pub mod Gathered
 pub mod News
 pub mod Headed
+pub mod Stepped
+pub mod Spelled

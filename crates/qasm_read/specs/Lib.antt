@@ -11,3 +11,4 @@ pub mod Text
 pub mod Read
 pub mod Written
 pub mod News
+pub mod Step

@@ -1,6 +1,7 @@
 #![tactic(auto)]
 //! Reading OpenQASM 2.0.
 
+pub mod circuit;
 pub mod fault;
 mod gate;
 mod gates;
@@ -12,5 +13,8 @@ mod refused;
 pub mod registers;
 mod state;
 mod statement;
+pub mod text;
 
+pub use circuit::ReadCircuit;
 pub use fault::QasmFault;
+pub use text::read;

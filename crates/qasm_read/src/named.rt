@@ -1,6 +1,6 @@
 //! The qubits that comment lines name.
 
-ghost use Rattle.std.specs.Prelude.{◌≡◌, [], ◌∷◌, ◌++◌, length, option_map, flat_map, IfOk, OnOk};
+ghost use Rattle.std.specs.Prelude.{◌≡◌, [], ◌∷◌, ◌++◌, length, option_map, map, flat_map, IfOk, OnOk};
 ghost use Rattle.gate_core.specs.Circuit.{AddsAll};
 ghost use Rattle.qasm_read.specs.Lines as spec;
 ghost use Rattle.qasm_read.specs.Lines.{add_list};
@@ -45,6 +45,14 @@ impl Named {
         ensures { result ≡ length self.now }
     {
         self.lists.len()
+    }
+
+    /// The lists, in order.
+    pub(crate) fn into_lists(self) -> Vec<Vec<u32>>
+        ensures { map (λ l. l.items) result.items ≡ self }
+    {
+        let Named { lists, qubits: _ } = self;
+        lists
     }
 
     /// These qubits, where they are all new and none stands twice.
