@@ -1,7 +1,7 @@
 -- The first of the refusals of two lists is the first of their two first ones.
-use Rattle.std.proofs.Common.{◌≡◌, ℕ, Bool, true, false, List, [], ◌∷◌, ◌++◌, Some, refl, ◌∙◌, ap, arith}
+use Rattle.std.proofs.Common.{◌≡◌, ℕ, Bool, true, false, List, [], ◌∷◌, ◌++◌, refl, sym, ◌∙◌, ap, arith}
 use Rattle.std.proofs.lemmas.Bool.Decides.{nat_tests}
-use Rattle.std.specs.Prelude.{nat_lt, ◌==◌, ◌||◌, ◌&&◌}
+use Rattle.std.specs.Prelude.{Option, Some, None, nat_lt, ◌==◌, ◌||◌, ◌&&◌}
 use Rattle.qasm_read.specs.declared.refusal.Refusal.{Refusal}
 use Rattle.qasm_read.specs.Refusals.{is_before, first_of, first_refusal, rank}
 use Rattle.qasm_read.specs.Earlier.{sooner, earlier}
@@ -25,6 +25,16 @@ sooner-assoc a b c = go (is_before b a) refl (is_before c b) refl
     go false e true f = rw (e, f)
     go false e false f = rw (e, f, e, not_through c.at.start (rank c.fault) b.at.start (rank b.fault) a.at.start (rank a.fault) f e)
 
+pub earlier-assoc : (a b c : Option Refusal) → earlier (earlier a b) c ≡ earlier a (earlier b c)
+earlier-assoc None b c = refl
+earlier-assoc (Some a) None c = refl
+earlier-assoc (Some a) (Some b) None = refl
+earlier-assoc (Some a) (Some b) (Some c) = ap Some (sooner-assoc a b c)
+
+pub earlier-none : (a : Option Refusal) → earlier a None ≡ a
+earlier-none None = refl
+earlier-none (Some a) = refl
+
 first_of-sooner : (a b : Refusal) (cs : List Refusal) → first_of (sooner a b) cs ≡ sooner a (first_of b cs)
 first_of-sooner a b [] = refl
 first_of-sooner a b (c ∷ cs) = ap (λ (r : Refusal). first_of r cs) (sooner-assoc a b c) ∙ first_of-sooner a (sooner b c) cs
@@ -41,3 +51,14 @@ pub first_refusal-append : (xs ys : List Refusal) → first_refusal (xs ++ ys) �
 first_refusal-append [] ys = refl
 first_refusal-append (x ∷ xs) [] = ap Some (append_none x xs)
 first_refusal-append (x ∷ xs) (y ∷ ys) = ap Some (first_of-append x xs y ys)
+
+-- the first so far, one list further
+pub first_refusal-step : (first next : Option Refusal) (xs ys all : List Refusal) → earlier first (first_refusal (xs ++ ys)) ≡ first_refusal all
+    → next ≡ earlier first (first_refusal xs) → earlier next (first_refusal ys) ≡ first_refusal all
+first_refusal-step first next xs ys all h e =
+    ap (λ (r : Option Refusal). earlier r (first_refusal ys)) e
+    ∙ (earlier-assoc first (first_refusal xs) (first_refusal ys)
+    ∙ (ap (λ (r : Option Refusal). earlier first r) (sym (first_refusal-append xs ys)) ∙ h))
+
+-- the laws by which the first refusal of lists in a row is told
+pub ruleset first_refusals = (first_refusal-append)

@@ -3,9 +3,12 @@ pub mod Stored
 pub mod State
 pub mod Lines
 pub mod Refusals
+pub mod Seen
 pub mod Earlier
 pub mod Statements
 pub mod Declarations
 pub mod Text
 pub mod Read
 pub mod Written
+pub mod News
+pub mod Step

@@ -45,6 +45,14 @@ impl Gates {
         self.list.len()
     }
 
+    /// The statements, in order.
+    pub(crate) fn into_list(self) -> Vec<Gate>
+        ensures { result.items ≡ self }
+    {
+        let Gates { list, measured: _ } = self;
+        list
+    }
+
     /// Whether a statement measures into this bit.
     pub(crate) fn is_measured(&self, bit: u32) -> bool
         ensures { IsTrue result ↔ Contains (measured_bits self.now) bit }

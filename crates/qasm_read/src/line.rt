@@ -1,15 +1,17 @@
 //! Comment lines that name qubits.
 
-ghost use Rattle.std.specs.Prelude.{◌≡◌, ◌<◌, ◌==◌, not, chars, length, option_map, IfOk, IfNone, IfSome};
+ghost use Rattle.std.specs.Prelude.{◌≡◌, ◌<◌, ◌==◌, not, true, nat_lt, bytes_eq, chars, length, option_map, IfOk, OnOk, IfNone, IfSome};
 ghost use Rattle.std.specs.List.{list_all};
 ghost use Rattle.std.specs.Str.{IsUtf8};
 ghost use Rattle.silq_lex.specs.Characters.{is_digit};
 ghost use Rattle.silq_lex.specs.Runs.{run};
 ghost use Rattle.qasm_read.specs.Lines as spec;
-ghost use Rattle.qasm_read.specs.Lines.{between_spaces, written_number};
-ghost use Rattle.qasm_read.specs.Written.{Cuts, in_64_bits, texts_of};
+ghost use Rattle.qasm_read.specs.Lines.{between_spaces, with_line, with_lines, written_number};
+ghost use Rattle.qasm_read.specs.Written.{Cuts, in_64_bits, is_headed, is_marked, is_numbered, texts_of};
 
+use crate::named::Named;
 use crate::registers::Registers;
+use crate::state::State;
 use std::alloc::{AllocError, Global};
 
 /// The text before the first of these ASCII characters, and the text behind it.
@@ -104,4 +106,93 @@ fn qubits_named(
         }
     }
     Ok(Some(found))
+}
+
+/// Whether a text is this word of ASCII characters.
+fn is_word(text: &str, word: &str) -> bool
+    requires { list_all (λ c. nat_lt c 128) word.now ≡ true }
+    ensures { result ≡ bytes_eq (chars text.now) word.now }
+{
+    text == word
+}
+
+/// Whether this number is written so.
+fn is_written(text: &str, number: u64) -> bool
+    ensures { result ≡ spec.is_written (chars text.now) number }
+{
+    match written_number(text) {
+        Some(written) => written == number,
+        None => false,
+    }
+}
+
+/// Whether these are the words `//` and `silqc`.
+fn is_marked(slashes: &str, silqc: &str) -> bool
+    ensures { result ≡ is_marked (chars slashes.now) (chars silqc.now) }
+{
+    is_word(slashes, "//") && is_word(silqc, "silqc")
+}
+
+/// Whether these are this kind and this number.
+fn is_numbered(kind: &str, number: u64, word: &str, digits: &str) -> bool
+    requires { list_all (λ c. nat_lt c 128) kind.now ≡ true }
+    ensures { result ≡ is_numbered kind.now number (chars word.now) (chars digits.now) }
+{
+    is_word(word, kind) && is_written(digits, number)
+}
+
+/// Whether words begin with `//`, `silqc`, this kind and this number, and more of them follow.
+fn is_headed(kind: &str, number: u64, words: &[&str]) -> bool
+    requires { list_all (λ c. nat_lt c 128) kind.now ≡ true }
+    ensures { result ≡ is_headed kind.now number (texts_of words.now) }
+{
+    let [slashes, silqc, word, digits, _, ..] = words else {
+        return false;
+    };
+    is_marked(slashes, silqc) && is_numbered(kind, number, word, digits)
+}
+
+/// The qubits that the words of a line name, where it is the next line of this kind.
+fn named_by(
+    alloc: Global,
+    registers: &Registers,
+    kind: &str,
+    named: &Named,
+    words: &[&str],
+) -> Result<Option<Vec<u32>>, AllocError>
+    requires { list_all (λ c. nat_lt c 128) kind.now ≡ true }
+    ensures { IfOk result (λ found. option_map (λ qs. qs.items) found ≡ spec.named_by registers.now kind.now named.now (texts_of words.now)) }
+{
+    if !is_headed(kind, named.len() as u64, words) {
+        return Ok(None);
+    }
+    match qubits_named(alloc, registers, words.split_at(4).1)? {
+        Some(qubits) => named.if_new(alloc, qubits),
+        None => Ok(None),
+    }
+}
+
+impl<'s> State<'s> {
+    /// Reads a comment line. It fails only where memory runs out; the state is of no further use
+    /// then.
+    pub(crate) fn line(&mut self, alloc: Global, text: &str) -> Result<(), AllocError>
+        ensures { OnOk result (self.new ≡ with_line self.old (chars text.now)) }
+    {
+        let words = between_spaces(alloc, text)?;
+        let ins = named_by(alloc, &self.qubits, "in", &self.ins, &words)?;
+        let outs = named_by(alloc, &self.qubits, "out", &self.outs, &words)?;
+        self.ins.add(ins)?;
+        self.outs.add(outs)
+    }
+
+    /// Reads comment lines in turn. It fails only where memory runs out; the state is of no
+    /// further use then.
+    pub(crate) fn lines(&mut self, alloc: Global, texts: &[&str]) -> Result<(), AllocError>
+        ensures { OnOk result (self.new ≡ with_lines self.old (texts_of texts.now)) }
+    {
+        for text in texts {
+            self.line(alloc, text)?;
+        }
+        Ok(())
+    }
 }
