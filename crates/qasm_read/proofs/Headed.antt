@@ -54,16 +54,9 @@ pub both_true : (a b r s : Bool) → r ≡ a → r ≡ true → s ≡ b → s �
 both_true true b r s e t f = f
 both_true false b r s e t f = absurd (cc)
 
-pub headed_short : (kind : List ℕ) (n : ℕ) (words : List (Bor (List ℕ))) → length words < 5 → false ≡ is_headed kind n (texts_of words)
-headed_short kind n [] l = refl
-headed_short kind n (a ∷ []) l = refl
-headed_short kind n (a ∷ b ∷ []) l = refl
-headed_short kind n (a ∷ b ∷ c ∷ []) l = refl
-headed_short kind n (a ∷ b ∷ c ∷ d ∷ []) l = refl
-headed_short kind n (a ∷ b ∷ c ∷ d ∷ e ∷ words) l = absurd (omega arith)
-
 pub headed_long : (kind : List ℕ) (n : ℕ) (words : List (Bor (List ℕ))) (w x y z : Bor (List ℕ)) → 5 ≤ length words
-    → (is_marked (chars (get_or words 0 w).now) (chars (get_or words 1 x).now) && is_numbered kind n (chars (get_or words 2 y).now) (chars (get_or words 3 z).now))
+    → (is_marked (chars (get_or words 0 w).now) (chars (get_or words 1 x).now)
+    && is_numbered kind n (chars (get_or words 2 y).now) (chars (get_or words 3 z).now))
     ≡ is_headed kind n (texts_of words)
 headed_long kind n (a ∷ b ∷ c ∷ d ∷ e ∷ words) w x y z l = refl
 headed_long kind n [] w x y z l = absurd (omega arith)

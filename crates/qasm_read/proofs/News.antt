@@ -8,7 +8,7 @@ use Rattle.std.proofs.lemmas.List.{map-append}
 use Rattle.std.specs.List.{list_any}
 use Rattle.std.proofs.lemmas.Bool.Decides.{nat_tests}
 use Rattle.gate_core.specs.Circuit.{AddsAll}
-use Rattle.gate_core.proofs.Added.{contains_iff, AddsAll-insert, AddsAll-nothing}
+use Rattle.gate_core.proofs.Added.{contains_iff, AddsAll-insert}
 use Rattle.std.proofs.lemmas.List.Elements.{Contains-append_left, Contains-append_right, Contains-append_cases}
 use Rattle.qasm_read.specs.Lines.{is_new, are_new}
 use Rattle.qasm_read.specs.Stored.{IsNamed}
@@ -156,9 +156,6 @@ AddsAll-next old set new qubits i d q l e a b = subst (AddsAll old new) (sym (ta
             | inr f ↦ (b.each p).1 (inr f)
           ]
         ]
-
-pub AddsAll-none : (set qubits : List ℕ) → AddsAll set set (take 0 qubits)
-AddsAll-none set qubits = AddsAll-nothing set
 
 all_lists-push : (lists : List (List ℕ)) (qubits : List ℕ) → flat_map (λ l. l) (lists ++ qubits ∷ []) ≡ flat_map (λ l. l) lists ++ qubits
 all_lists-push [] qubits = append-nil qubits

@@ -3,13 +3,11 @@
 ghost use Rattle.std.specs.Prelude.{◌≡◌, ◌≢◌, All, Ok, Err, Some, None, OnOk, IfOk, IfErr};
 ghost use Rattle.qasm_tokens.specs.Taken.{is_at_semicolon, item_of};
 ghost use Rattle.qasm_read.specs.declared.fault.QasmFault.TheVariants.{Memory};
-ghost use Rattle.qasm_read.specs.Lines.{with_lines};
 ghost use Rattle.qasm_read.specs.Read.{IsSpelled, tokens_of};
 ghost use Rattle.qasm_read.specs.Refusals.{first_refusal};
 ghost use Rattle.qasm_read.specs.State.{read_form};
-ghost use Rattle.qasm_read.specs.Statements.{after};
 ghost use Rattle.qasm_read.specs.Step as spec;
-ghost use Rattle.qasm_read.specs.Step.{Reads, fault_of, refusal_by, spelled, syntax_by};
+ghost use Rattle.qasm_read.specs.Step.{Reads, after_item, fault_of, refusal_by, refusal_in, spelled, syntax_by};
 ghost use Rattle.qasm_read.specs.Text.{reading};
 ghost use Rattle.qasm_read.specs.Written.{texts_of};
 
@@ -71,9 +69,9 @@ impl<'s> State<'s> {
     /// Does what an item that was taken says, after the comment lines before and in it.
     fn read_item(&mut self, alloc: Global, taken: &Taken<'s>) -> Result<(), QasmFault>
         requires { All IsSpelled taken.now.tokens.items }
-        ensures allowed { OnOk result (None ≡ refusal_by taken.now.ending (with_lines self.old (item_of taken.now).lines) (item_of taken.now).tokens) }
-        ensures state { OnOk result (self.new ≡ after (with_lines self.old (item_of taken.now).lines) (item_of taken.now).tokens) }
-        ensures refused { IfErr result (λ f. f ≢ Memory → Some f ≡ fault_of (refusal_by taken.now.ending (with_lines self.old (item_of taken.now).lines) (item_of taken.now).tokens)) }
+        ensures allowed { OnOk result (None ≡ refusal_in self.old taken.now.ending (item_of taken.now)) }
+        ensures state { OnOk result (self.new ≡ after_item self.old (item_of taken.now)) }
+        ensures refused { IfErr result (λ f. f ≢ Memory → Some f ≡ fault_of (refusal_in self.old taken.now.ending (item_of taken.now))) }
     {
         self.lines(alloc, &taken.lines)?;
         if let Some(refusal) = self.first_refusal(alloc, taken)? {

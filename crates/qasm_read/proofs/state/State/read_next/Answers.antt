@@ -17,5 +17,5 @@ returns-in_err-read_item-clause-refused c =
 pub returns-clause-reads : goal.returns-clause-reads
 returns-clause-reads c =
     rw c.in_ok-read_item.ensures.state
-    (stepped c.args.reader.now c.take_item.new.self c.args.self.now (item_of c.in_ok-taken.taken) c.in_ok-taken.taken.ending c.is_followed.result c.is_followed.ensures
-    c.in_ok-taken.ensures.item c.in_ok-read_item.ensures.allowed)
+    (stepped c.args.reader.now c.take_item.new.self c.args.self.now (item_of c.in_ok-taken.taken) c.in_ok-taken.taken.ending
+    c.is_followed.result c.is_followed.ensures c.in_ok-taken.ensures.item c.in_ok-read_item.ensures.allowed)
