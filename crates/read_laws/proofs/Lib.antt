@@ -1,3 +1,5 @@
 mod Rows
 mod Decimals
 mod Parts
+mod Lines
+mod Registers
