@@ -3,3 +3,5 @@ mod Decimals
 mod Parts
 mod Lines
 mod Registers
+mod GateParts
+mod Operands
