@@ -5,3 +5,5 @@ mod Lines
 mod Registers
 mod GateParts
 mod Operands
+mod Statements
+mod Walk

@@ -61,7 +61,7 @@ bit_names n i at place h l =
 
 -- ---- qubits of a gate
 
-other_bit : (a b : ℕ) → a ≢ b → (a == b) ≡ false
+pub other_bit : (a b : ℕ) → a ≢ b → (a == b) ≡ false
 other_bit a b n = of (a == b) refl
   where
     of : (t : Bool) → (a == b) ≡ t → t ≡ false
