@@ -7,3 +7,7 @@ mod GateParts
 mod Operands
 mod Statements
 mod Walk
+mod Comments
+mod Lists
+mod Heads
+mod ReadBack

@@ -124,7 +124,7 @@ pub behind_feed : (xs : List ℕ) (at : Place) → (behind_all at (xs ++ 10 ∷ 
 behind_feed [] at = refl
 behind_feed (x ∷ xs) at = behind_feed xs (behind at x)
 
-marks_of_feed : (at : Place) (rest : List ℕ) → marks_from at (10 ∷ rest) ≡ marks_from (behind_all at (10 ∷ [])) rest
+pub marks_of_feed : (at : Place) (rest : List ℕ) → marks_from at (10 ∷ rest) ≡ marks_from (behind_all at (10 ∷ [])) rest
 marks_of_feed at rest = marks_of_front at 10 [] rest (blank 10) refl refl
 
 kinds_at : (ps : List Part) (at : Place) → map (λ t. t.kind) (tokens_at at ps) ≡ kinds_of ps

@@ -28,7 +28,7 @@ absent_front : (x : ℕ) (xs ys : List ℕ) → Absent x (xs ++ ys) → Absent x
 absent_front x [] ys h = tt
 absent_front x (z ∷ zs) ys h = (h.0, absent_front x zs ys h.1)
 
-front_differs : (xs ys : List ℕ) → AllDiffer (xs ++ ys) → AllDiffer xs
+pub front_differs : (xs ys : List ℕ) → AllDiffer (xs ++ ys) → AllDiffer xs
 front_differs [] ys h = tt
 front_differs (x ∷ xs) ys h = (absent_front x xs ys h.0, front_differs xs ys h.1)
 
