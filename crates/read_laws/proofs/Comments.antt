@@ -1,18 +1,17 @@
 -- Comment lines are read as the lists that they were written for.
-use Rattle.std.proofs.Common.{◌≡◌, ◌≢◌, ℕ, suc, ◌+◌, ◌<◌, ◌≤◌, ◌^◌, Bool, true, false, not, ◌&&◌, ◌||◌, List, [], ◌∷◌, ◌++◌, map, Option, Some, None, nat_eq, ◌==◌, decimal, length, drop, append_assoc, append-nil, length-append, refl, sym, ◌∙◌, ap, subst, arith}
+use Rattle.std.proofs.Common.{◌≡◌, ◌≢◌, ℕ, ◌<◌, ◌^◌, Bool, true, false, not, List, [], ◌∷◌, ◌++◌, map, Some, None, nat_eq, ◌==◌, decimal, length, drop, append-nil, refl, sym, ◌∙◌, ap, subst, arith}
 use Rattle.std.specs.Prelude.{codes, bytes_eq, flat_map, option_and_then, if◌then◌else◌}
-use Rattle.std.specs.List.{list_all, list_any, starts_with}
+use Rattle.std.specs.List.{list_all, list_any}
 use Rattle.std.proofs.Math.Seq.{drop-append_seam}
 use Rattle.std.proofs.lemmas.Bool.Decides.{Decides-eqb}
 use Rattle.silq_lex.specs.Characters.{is_digit}
-use Rattle.silq_lex.specs.Kinds.{is_number, number_of}
 use Rattle.silq_lex.specs.Runs.{run}
 use Rattle.silq_lex.proofs.Texts.{and_left, and_right, and_true}
 use Rattle.gate_core.specs.Local.{Absent, AllDiffer, AllBelow}
 use Rattle.qasm_write.specs.Written.{qubit_text, qubit_texts}
 use Rattle.qasm_tokens.proofs.Steps.{run_before}
 use Rattle.qasm_read.specs.Registers.{bit_of}
-use Rattle.qasm_read.specs.Lines.{with_first, between_spaces, is_plain, written_number, is_written, index_in, qubit_named, qubits_named, put, is_new, are_new, if_new, named_by}
+use Rattle.qasm_read.specs.Lines.{with_first, between_spaces, is_plain, written_number, is_written, index_in, qubit_named, qubits_named, are_new, if_new}
 use Rattle.read_laws.proofs.Decimals.{IsSpelled, Spelling, spelled, digits_of, value_of, is_low, is_high, digits_are}
 use Rattle.read_laws.proofs.Registers.{qubit_name, qubit_registers, qubit_is}
 use Rattle.read_laws.proofs.Operands.{other_bit}

@@ -1,11 +1,11 @@
 -- Numbers in digits, and their characters.
-use Rattle.std.proofs.Common.{◌≡◌, ℕ, zero, suc, ◌<◌, ◌≤◌, ◌^◌, ◌⊎◌, inl, inr, Bool, true, false, not, ◌&&◌, ◌||◌, List, [], ◌∷◌, length, nat_eq, nat_le, ◌==◌, decimal, refl, sym, ◌∙◌, ap, arith}
+use Rattle.std.proofs.Common.{◌≡◌, ℕ, zero, suc, ◌<◌, ◌≤◌, ◌^◌, ◌⊎◌, inl, inr, Bool, true, false, ◌||◌, List, [], ◌∷◌, length, nat_eq, nat_le, ◌==◌, decimal, refl, sym, ◌∙◌, ap, arith}
 use Rattle.std.specs.List.{list_all}
 use Rattle.std.proofs.lemmas.Bool.{leb-true}
 use Rattle.std.proofs.lemmas.Bool.Decides.{Decides-eqb}
 use Rattle.std.proofs.lemmas.Fmt.{digits_decimal, digits_value-decimal, decimal_nonempty, first_decimal, decimal_digit}
 use Rattle.silq_lex.specs.Characters.{is_digit, is_blank}
-use Rattle.silq_lex.specs.Kinds.{number_of, is_number}
+use Rattle.silq_lex.specs.Kinds.{number_of}
 use Rattle.silq_lex.proofs.Texts.{and_left, and_right, and_true, digits_model}
 use Rattle.qasm_tokens.specs.Words.{is_letter, goes_on}
 

@@ -1,22 +1,18 @@
 -- The lines of statements, in parts.
-use Rattle.std.proofs.Common.{◌≡◌, ℕ, ◌<◌, ◌^◌, Bool, true, false, cond, List, [], ◌∷◌, ◌++◌, Some, decimal, refl, sym, ◌∙◌, ap, arith, append_assoc}
+use Rattle.std.proofs.Common.{◌≡◌, ℕ, ◌<◌, ◌^◌, true, false, List, [], ◌∷◌, ◌++◌, Some, refl, append_assoc}
 use Rattle.std.specs.Prelude.{codes}
 use Rattle.gate_core.specs.declared.gate.OneKind.{OneKind}
 use Rattle.gate_core.specs.declared.gate.OneKind.TheVariants as o
 use Rattle.gate_core.specs.declared.gate.PlainGate.{PlainGate}
 use Rattle.gate_core.specs.declared.gate.PlainGate.TheVariants.{One as PlainOne, Cx as PlainCx, Cz as PlainCz, Ccx as PlainCcx}
-use Rattle.gate_core.specs.declared.gate.Gate.{Gate}
-use Rattle.gate_core.specs.declared.gate.Gate.TheVariants.{One, Cx, Cz, Ccx, Measure, If}
+use Rattle.gate_core.specs.declared.gate.Gate.TheVariants.{Measure, If}
 use Rattle.gate_core.specs.Local.{AllBelow, gate_qubits}
-use Rattle.gate_core.specs.Circuit.{qubits_of, bits_of}
 use Rattle.grammar_core.specs.Table.{expected}
-use Rattle.qasm_tokens.specs.declared.kind.Kind.{Kind}
 use Rattle.qasm_tokens.specs.declared.kind.Kind.TheVariants as k
 use Rattle.qasm_tokens.specs.Words.{piece}
 use Rattle.qasm_tokens.specs.Table.{table, same_kind}
 use Rattle.qasm_write.specs.Written.{kind_text, plain_line, gate_line}
-use Rattle.read_laws.specs.Laws.{ValueFits}
-use Rattle.read_laws.proofs.Parts.{Part, space, word, part_text, text_of_parts, kinds_of, Stands, StandInTurn, Ends, number, number_stands, bit_part, bit_stands, closed}
+use Rattle.read_laws.proofs.Parts.{Part, space, word, text_of_parts, kinds_of, Stands, StandInTurn, Ends, number, number_stands, bit_part, bit_stands, closed}
 use Rattle.read_laws.proofs.Lines.{items, closes}
 
 abbrev pub left : Part

@@ -1,5 +1,5 @@
 -- The lines before the statements: the version, the library, and the registers.
-use Rattle.std.proofs.Common.{◌≡◌, ◌≢◌, ℕ, zero, suc, ◌+◌, ◌<◌, ◌≤◌, ◌^◌, Bool, true, false, not, ◌&&◌, ◌||◌, List, [], ◌∷◌, ◌++◌, Some, nat_eq, nat_lt, ◌==◌, decimal, append_assoc, refl, sym, ◌∙◌, ap, subst, arith}
+use Rattle.std.proofs.Common.{◌≡◌, ℕ, zero, suc, ◌+◌, ◌<◌, ◌≤◌, Bool, true, false, ◌||◌, List, [], ◌∷◌, ◌++◌, nat_lt, decimal, append_assoc, refl, sym, ◌∙◌, ap, subst, arith}
 use Rattle.std.specs.Prelude.{codes}
 use Rattle.std.proofs.lemmas.Bool.{ltb-true}
 use Rattle.silq_lex.specs.declared.token.Place.{Place}
@@ -13,12 +13,11 @@ use Rattle.qasm_tokens.specs.Tokens.{Token}
 use Rattle.qasm_tokens.specs.Table.{a_text}
 use Rattle.qasm_read.specs.declared.operand.Index.TheVariants.{At}
 use Rattle.qasm_read.specs.Registers.{Register, has, width}
-use Rattle.qasm_read.specs.State.{State, at_start}
-use Rattle.qasm_read.specs.Refusals.{size_refusals, refusals_of}
-use Rattle.qasm_read.specs.Statements.{after}
+use Rattle.qasm_read.specs.State.{at_start}
+use Rattle.qasm_read.specs.Refusals.{size_refusals}
 use Rattle.qasm_write.specs.Written.{qubits_line, outcome_line, outcome_lines, start_text}
 use Rattle.read_laws.proofs.Decimals.{value_of}
-use Rattle.read_laws.proofs.Parts.{Part, space, word, part_text, text_of_parts, tokens_at, StandInTurn, closed, bit_name, bit_part, bit_stands}
+use Rattle.read_laws.proofs.Parts.{Part, space, word, text_of_parts, closed, bit_name, bit_part, bit_stands}
 use Rattle.read_laws.proofs.Lines.{Reads, IsItem, items, reads_nothing, reads_both, reads_line}
 use Rattle.read_laws.proofs.Registers.{qubit_registers, bit_register, bit_registers, no_bit_name, bit_width, bits_add}
 use Rattle.read_laws.proofs.GateParts.{left, right, semicolon, qubit_parts, qubit_stands}

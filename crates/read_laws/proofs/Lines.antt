@@ -1,11 +1,11 @@
 -- Reading a text from its front on, a line after another.
-use Rattle.std.proofs.Common.{◌≡◌, ◌≢◌, ℕ, Bool, true, false, cond, ◌&&◌, List, [], ◌∷◌, ◌++◌, map, Option, Some, None, nat_eq, refl, sym, ◌∙◌, ap, append_assoc, if◌then◌else◌}
-use Rattle.std.specs.Prelude.{Result, Ok, Err}
+use Rattle.std.proofs.Common.{◌≡◌, ◌≢◌, ℕ, Bool, true, false, cond, List, [], ◌∷◌, ◌++◌, map, Option, Some, None, refl, sym, ◌∙◌, ap, append_assoc, if◌then◌else◌}
+use Rattle.std.specs.Prelude.{Result}
 use Rattle.std.specs.List.{list_all}
 use Rattle.silq_lex.specs.declared.token.Place.{Place}
 use Rattle.silq_lex.specs.Tokens.{behind, behind_all}
 use Rattle.silq_lex.proofs.Passing.{behind_all-append}
-use Rattle.grammar_core.specs.Table.{advance, expected, then_maybe, may_stop}
+use Rattle.grammar_core.specs.Table.{advance, expected, then_maybe}
 use Rattle.qasm_tokens.specs.declared.kind.Kind.{Kind}
 use Rattle.qasm_tokens.specs.declared.kind.Kind.TheVariants as k
 use Rattle.qasm_tokens.specs.declared.symbol.Symbol.{Symbol}
@@ -17,9 +17,9 @@ use Rattle.qasm_tokens.proofs.Steps.{marks_of_front}
 use Rattle.qasm_tokens.proofs.Added.{some_item}
 use Rattle.qasm_read.specs.declared.fault.QasmFault.{QasmFault}
 use Rattle.qasm_read.specs.State.{State, ReadForm}
-use Rattle.qasm_read.specs.Text.{read_items, syntax_in, is_whole, decide}
+use Rattle.qasm_read.specs.Text.{read_items}
 use Rattle.qasm_read.specs.Lines.{with_line}
-use Rattle.qasm_read.specs.Refusals.{refusals_of, first_refusal}
+use Rattle.qasm_read.specs.Refusals.{refusals_of}
 use Rattle.qasm_read.specs.Statements.{after}
 use Rattle.read_laws.proofs.Parts.{Part, space, word, part_text, text_of_parts, kinds_of, tokens_at, is_ascii, StandInTurn, marks_of_parts, ascii_append, ascii_of_parts}
 

@@ -1,11 +1,10 @@
 -- Reading the comment lines of lists, one after another.
-use Rattle.std.proofs.Common.{◌≡◌, ◌≢◌, ℕ, suc, ◌+◌, ◌<◌, ◌≤◌, ◌^◌, Bool, true, false, not, ◌&&◌, List, [], ◌∷◌, ◌++◌, map, Option, Some, None, ◌==◌, decimal, length, append_assoc, append-nil, length-append, refl, sym, ◌∙◌, ap, subst, arith}
+use Rattle.std.proofs.Common.{◌≡◌, ◌≢◌, ℕ, suc, ◌+◌, ◌<◌, ◌^◌, Bool, true, false, not, ◌&&◌, List, [], ◌∷◌, ◌++◌, map, Some, None, ◌==◌, decimal, length, append_assoc, append-nil, length-append, refl, sym, ◌∙◌, ap, subst, arith}
 use Rattle.std.specs.Prelude.{codes, bytes_eq, flat_map, option_and_then, All}
 use Rattle.std.specs.List.{list_all}
 use Rattle.std.proofs.lemmas.List.Elements.{All-head, All-tail}
 use Rattle.silq_lex.specs.declared.token.Place.{Place}
 use Rattle.silq_lex.specs.Characters.{is_digit}
-use Rattle.silq_lex.specs.Runs.{run}
 use Rattle.silq_lex.specs.Tokens.{behind_all}
 use Rattle.silq_lex.proofs.Passing.{behind_all-append}
 use Rattle.gate_core.specs.declared.gate.Gate.{Gate}

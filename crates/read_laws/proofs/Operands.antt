@@ -1,18 +1,17 @@
 -- Operands that are not refused, and what they name.
-use Rattle.std.proofs.Common.{◌≡◌, ◌≢◌, ℕ, ◌+◌, ◌<◌, ◌≤◌, ◌^◌, inl, inr, Bool, true, false, not, ◌&&◌, ◌||◌, List, [], ◌∷◌, ◌++◌, Option, Some, None, nat_eq, nat_lt, ◌==◌, decimal, refl, sym, ◌∙◌, ap, arith, lt-ltb, length}
-use Rattle.std.specs.Prelude.{is_none, option_and_then, if◌then◌else◌, bytes_eq}
-use Rattle.std.specs.List.{filter_map, list_any, cons_option}
+use Rattle.std.proofs.Common.{◌≡◌, ◌≢◌, ℕ, ◌+◌, ◌<◌, ◌^◌, Bool, true, false, ◌||◌, List, [], ◌∷◌, ◌++◌, Option, Some, ◌==◌, decimal, refl, sym, ◌∙◌, ap, arith}
+use Rattle.std.specs.Prelude.{option_and_then, if◌then◌else◌, bytes_eq}
+use Rattle.std.specs.List.{filter_map, cons_option}
 use Rattle.std.proofs.lemmas.Bool.Decides.{Decides-eqb}
 use Rattle.silq_lex.specs.declared.token.Place.{Place}
 use Rattle.silq_lex.specs.Kinds.{number_of}
-use Rattle.gate_core.specs.Local.{Absent, AllDiffer, AllBelow}
+use Rattle.gate_core.specs.Local.{AllDiffer}
 use Rattle.qasm_tokens.specs.declared.kind.Kind.TheVariants as k
-use Rattle.qasm_tokens.specs.Tokens.{Token}
 use Rattle.qasm_read.specs.declared.refusal.Refusal.{Refusal}
 use Rattle.qasm_read.specs.declared.registers.Bits.{Bits}
 use Rattle.qasm_read.specs.declared.operand.Index.TheVariants.{At}
 use Rattle.qasm_read.specs.Registers.{Register, has, bits_from, bits_of, bit_of, bit_in}
-use Rattle.qasm_read.specs.Refusals.{Operand, bit_named, operand_refusals, qubit_refusals, is_among, where_, has_index}
+use Rattle.qasm_read.specs.Refusals.{Operand, bit_named, operand_refusals, qubit_refusals, is_among, where_}
 use Rattle.read_laws.proofs.Decimals.{value_of}
 use Rattle.read_laws.proofs.Parts.{bit_name}
 use Rattle.read_laws.proofs.Registers.{qubit_name, qubit_registers, bit_registers, qubit_is, has_qubits, bit_is}

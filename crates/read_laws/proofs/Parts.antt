@@ -1,20 +1,19 @@
 -- The parts of a line, and the marks that they leave.
-use Rattle.std.proofs.Common.{◌≡◌, ℕ, ◌<◌, ◌^◌, inl, inr, Bool, true, false, not, cond, ◌&&◌, List, [], ◌∷◌, ◌++◌, map, nat_eq, nat_lt, nat_le, ◌==◌, decimal, refl, sym, ◌∙◌, ap, arith, append_assoc, lt-ltb, eqb-true}
+use Rattle.std.proofs.Common.{◌≡◌, ℕ, ◌<◌, ◌^◌, Bool, true, false, ◌&&◌, List, [], ◌∷◌, ◌++◌, map, nat_eq, nat_lt, decimal, refl, sym, ◌∙◌, ap, arith, append_assoc, lt-ltb, eqb-true}
 use Rattle.std.specs.Prelude.{codes, if◌then◌else◌}
 use Rattle.std.specs.List.{starts_with, list_all}
 use Rattle.silq_lex.specs.declared.token.Place.{Place}
 use Rattle.silq_lex.specs.Characters.{is_digit}
-use Rattle.silq_lex.specs.Kinds.{number_of}
 use Rattle.silq_lex.specs.Runs.{run}
 use Rattle.silq_lex.specs.Tokens.{behind_all}
 use Rattle.silq_lex.proofs.Passing.{behind_all-append}
 use Rattle.silq_lex.proofs.Texts.{and_left, and_right, and_true}
 use Rattle.qasm_tokens.specs.declared.kind.Kind.{Kind}
 use Rattle.qasm_tokens.specs.declared.kind.Kind.TheVariants as k
-use Rattle.qasm_tokens.specs.Words.{Piece, piece, piece_at, digits_at, number_kind, word_kind, goes_on, is_letter}
-use Rattle.qasm_tokens.specs.Tokens.{Token, Mark, token, Front, blank, one, front_of, front_text, mark_at, marks_from}
+use Rattle.qasm_tokens.specs.Words.{Piece, piece, digits_at, number_kind, word_kind, goes_on}
+use Rattle.qasm_tokens.specs.Tokens.{Token, token, Front, blank, one, front_of, front_text, mark_at, marks_from}
 use Rattle.qasm_tokens.proofs.Steps.{marks_of_front, run_before}
-use Rattle.read_laws.proofs.Decimals.{IsSpelled, Spelling, spelled, digits_of, value_of, low_digit, high_digit, not_low, not_high, is_low, digit_blank, digit_letter, digits_go_on, digits_are}
+use Rattle.read_laws.proofs.Decimals.{IsSpelled, Spelling, spelled, digits_of, high_digit, not_low, not_high, digit_blank, digit_letter, digits_go_on, digits_are}
 
 -- a part of a line: a space, or a token
 pub data Part : Type 0 where

@@ -1,6 +1,6 @@
 -- What the writer writes is read back.
-use Rattle.std.proofs.Common.{◌≡◌, ◌≢◌, ℕ, zero, suc, ◌+◌, ◌<◌, ◌≤◌, ◌^◌, Bool, true, false, ◌&&◌, List, [], ◌∷◌, ◌++◌, None, nat_lt, length, append-nil, length-append, refl, sym, ◌∙◌, ap, arith}
-use Rattle.std.specs.Prelude.{codes, Result, Ok, Err, if◌then◌else◌}
+use Rattle.std.proofs.Common.{◌≡◌, ℕ, zero, suc, ◌+◌, ◌<◌, ◌≤◌, ◌^◌, Bool, true, false, List, [], ◌∷◌, ◌++◌, nat_lt, length, append-nil, length-append, refl, sym, ◌∙◌, ap, arith}
+use Rattle.std.specs.Prelude.{codes, Ok, Err, if◌then◌else◌}
 use Rattle.std.specs.List.{list_all}
 use Rattle.std.specs.Str.{chars, IsAscii}
 use Rattle.std.proofs.lemmas.Bool.{ltb-true}
@@ -17,11 +17,11 @@ use Rattle.qasm_write.specs.Written.{head_text, start_text, outcome_lines, gate_
 use Rattle.qasm_read.specs.declared.fault.QasmFault.TheVariants.{Limit}
 use Rattle.qasm_read.specs.Registers.{width}
 use Rattle.qasm_read.specs.State.{State, at_start, ReadForm, read_form}
-use Rattle.qasm_read.specs.Text.{reading, read_chars, read_items}
+use Rattle.qasm_read.specs.Text.{read_chars, read_items}
 use Rattle.read_laws.specs.Laws.{IsReadable, text_of, WrittenTextsReadBack}
 use Rattle.read_laws.proofs.Parts.{is_ascii}
 use Rattle.read_laws.proofs.Lines.{Reads, items, read_on, reads_both}
-use Rattle.read_laws.proofs.Registers.{qubit_registers, bit_registers, qubit_width, bit_width}
+use Rattle.read_laws.proofs.Registers.{bit_registers, qubit_width, bit_width}
 use Rattle.read_laws.proofs.Statements.{state_of}
 use Rattle.read_laws.proofs.Walk.{gates_read}
 use Rattle.read_laws.proofs.Lists.{ins_read, outs_read}

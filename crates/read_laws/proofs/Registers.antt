@@ -1,11 +1,10 @@
 -- The registers of a written text, and the bits that its names name.
-use Rattle.std.proofs.Common.{◌≡◌, ◌≢◌, ℕ, zero, suc, ◌+◌, ◌<◌, ◌≤◌, ◌^◌, Bool, true, false, ◌&&◌, ◌||◌, not, List, [], ◌∷◌, ◌++◌, Option, Some, None, nat_eq, nat_lt, decimal, refl, sym, ◌∙◌, ap, arith, lt-ltb}
-use Rattle.std.specs.Prelude.{codes, bytes_eq, if◌then◌else◌, sum_by, fold}
+use Rattle.std.proofs.Common.{◌≡◌, ◌≢◌, ℕ, zero, suc, ◌+◌, ◌<◌, ◌≤◌, ◌^◌, Bool, true, false, List, [], ◌∷◌, ◌++◌, Some, nat_eq, refl, sym, ◌∙◌, ap, arith, lt-ltb}
+use Rattle.std.specs.Prelude.{bytes_eq, fold}
 use Rattle.std.proofs.lemmas.Bool.Decides.{Decides-eqb}
 use Rattle.std.proofs.lemmas.Slice.Eq.{bytes_eq-Decides}
 use Rattle.std.proofs.lemmas.Fmt.{decimal_injective}
-use Rattle.qasm_read.specs.declared.registers.Bits.{Bits}
-use Rattle.qasm_read.specs.Registers.{Register, has, width, bits_from, bits_of, bit_in, bit_of}
+use Rattle.qasm_read.specs.Registers.{Register, has, width, bits_from, bits_of, bit_of}
 use Rattle.read_laws.proofs.Parts.{bit_name}
 
 abbrev pub qubit_name : List ℕ

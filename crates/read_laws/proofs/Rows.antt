@@ -1,5 +1,5 @@
 -- Three texts that are read back, by computing.
-use Rattle.std.proofs.Common.{◌≡◌, ℕ, List, [], ◌∷◌, Ok, refl}
+use Rattle.std.proofs.Common.{◌≡◌, [], ◌∷◌, Ok, refl}
 use Rattle.std.specs.Str.{chars}
 use Rattle.std.specs.Fmt.{digits}
 use lib.Utf8.{encode}

@@ -1,5 +1,5 @@
 -- The statements of a written text are not refused, and are read as what they are.
-use Rattle.std.proofs.Common.{◌≡◌, ◌≢◌, ℕ, ◌+◌, ◌<◌, ◌≤◌, ◌^◌, Bool, true, false, not, ◌&&◌, ◌||◌, List, [], ◌∷◌, ◌++◌, Option, Some, None, nat_lt, ◌==◌, decimal, length, refl, sym, ◌∙◌, ap, arith, lt-ltb}
+use Rattle.std.proofs.Common.{◌≡◌, ℕ, ◌<◌, ◌^◌, true, false, List, [], ◌∷◌, ◌++◌, Option, Some, decimal, length, refl, ◌∙◌, ap, arith, lt-ltb}
 use Rattle.std.specs.Prelude.{codes, option_map}
 use Rattle.silq_lex.specs.declared.token.Place.{Place}
 use Rattle.silq_lex.specs.Kinds.{number_of}
@@ -16,16 +16,15 @@ use Rattle.qasm_tokens.specs.declared.kind.Kind.TheVariants as k
 use Rattle.qasm_tokens.specs.Words.{piece}
 use Rattle.qasm_tokens.specs.Tokens.{Token}
 use Rattle.qasm_read.specs.declared.refusal.Refusal.{Refusal}
-use Rattle.qasm_read.specs.declared.registers.Bits.{Bits}
 use Rattle.qasm_read.specs.Registers.{bits_of}
 use Rattle.qasm_read.specs.State.{State}
-use Rattle.qasm_read.specs.Refusals.{Operand, bit_named, gate_refusals, held_refusals, is_among, refusals_of, count_refusals}
+use Rattle.qasm_read.specs.Refusals.{Operand, bit_named, gate_refusals, held_refusals, is_among, all_some, refusals_of, count_refusals}
 use Rattle.qasm_read.specs.Statements.{plain_of, plain_in, with_gate, measure_from, if_from, after}
 use Rattle.read_laws.proofs.Decimals.{value_of}
 use Rattle.read_laws.proofs.Parts.{Part, space, word, part_text, tokens_at, number, bit_name, bit_part}
 use Rattle.read_laws.proofs.Lines.{IsItem, items}
 use Rattle.read_laws.proofs.Registers.{qubit_name, qubit_registers, bit_registers, bit_is}
-use Rattle.read_laws.proofs.GateParts.{left, comma, right, qubit_word, qubit_parts, plain_parts, measure_parts, if_parts, plain_stands, plain_grammar, plain_whole, measure_stands, measure_grammar, if_stands, if_grammar, if_whole}
+use Rattle.read_laws.proofs.GateParts.{left, comma, qubit_word, qubit_parts, plain_parts, measure_parts, if_parts, plain_stands, plain_grammar, plain_whole, measure_stands, measure_grammar, if_stands, if_grammar, if_whole}
 use Rattle.read_laws.proofs.Operands.{no_refusals, where_no, Names, indexed, qubit_names, bit_names, other_bit, one_allowed, two_allowed, three_allowed, one_named, two_named, three_named}
 
 -- the state behind the head of a text, with so many qubits and bits
@@ -168,10 +167,6 @@ module _ (n b : ℕ) (gates : List Gate) (ins outs : List (List ℕ)) (few : n <
       }
 
   -- ---- measure
-
-  abbrev all_some : List ℕ → List (Option ℕ)
-  all_some [] = []
-  all_some (x ∷ xs) = Some x ∷ all_some xs
 
   not_among : (bs : List ℕ) (bit : ℕ) → Absent bit bs → is_among (all_some bs) (Some bit) ≡ false
   not_among [] bit h = refl
