@@ -1,5 +1,5 @@
 -- Comment lines are read as the lists that they were written for.
-use Rattle.std.proofs.Common.{◌≡◌, ◌≢◌, ℕ, ◌<◌, ◌^◌, Bool, true, false, not, List, [], ◌∷◌, ◌++◌, map, Some, None, nat_eq, ◌==◌, decimal, length, drop, append-nil, refl, sym, ◌∙◌, ap, subst, arith}
+use Rattle.std.proofs.Common.{◌≡◌, ℕ, ◌<◌, ◌^◌, Bool, true, false, not, List, [], ◌∷◌, ◌++◌, map, Some, None, nat_eq, ◌==◌, decimal, length, drop, append-nil, refl, sym, ◌∙◌, ap, subst, arith}
 use Rattle.std.specs.Prelude.{codes, bytes_eq, flat_map, option_and_then, if◌then◌else◌}
 use Rattle.std.specs.List.{list_all, list_any}
 use Rattle.std.proofs.Math.Seq.{drop-append_seam}
@@ -13,6 +13,8 @@ use Rattle.qasm_tokens.proofs.Steps.{run_before}
 use Rattle.qasm_read.specs.Registers.{bit_of}
 use Rattle.qasm_read.specs.Lines.{with_first, between_spaces, is_plain, written_number, is_written, index_in, qubit_named, qubits_named, are_new, if_new}
 use Rattle.read_laws.proofs.Decimals.{IsSpelled, Spelling, spelled, digits_of, value_of, is_low, is_high, digits_are}
+use Rattle.read_laws.proofs.Differ.{AreAbsent, one_more, are_absent, back_differs}
+use Rattle.read_laws.proofs.Parts.{all_both}
 use Rattle.read_laws.proofs.Registers.{qubit_name, qubit_registers, qubit_is}
 use Rattle.read_laws.proofs.Operands.{other_bit}
 
@@ -44,10 +46,6 @@ digit_no_space c e = ap not (is_low c 32 (omega arith) e)
 
 pub number_no_space : (n : ℕ) → n < 2 ^ 64 → list_all no_space (decimal n) ≡ true
 number_no_space n h = digits_are no_space digit_no_space (decimal n) (digits_of n h)
-
-pub all_both : (test : ℕ → Bool) (xs ys : List ℕ) → list_all test xs ≡ true → list_all test ys ≡ true → list_all test (xs ++ ys) ≡ true
-all_both test [] ys h k = k
-all_both test (x ∷ xs) ys h k = and_true _ _ (and_left _ _ h) (all_both test xs ys (and_right (test x) _ h) k)
 
 qubit_no_space : (q : ℕ) → q < 2 ^ 64 → list_all no_space (qubit_text q) ≡ true
 qubit_no_space q h = all_both no_space (decimal q) (93 ∷ []) (number_no_space q h) refl
@@ -103,41 +101,9 @@ not_any : (seen : List ℕ) (q : ℕ) → Absent q seen → list_any (λ p. p ==
 not_any [] q h = refl
 not_any (p ∷ ps) q h = rw (other_bit p q h.0) (not_any ps q h.1)
 
-abbrev AreAbsent : List ℕ → List ℕ → Type 0
-AreAbsent seen [] = Unit {0}
-AreAbsent seen (q ∷ qs) = Absent q seen × AreAbsent seen qs
-
-one_more : (q : ℕ) (seen qs : List ℕ) → AreAbsent seen qs → Absent q qs → AreAbsent (q ∷ seen) qs
-one_more q seen [] h a = tt
-one_more q seen (p ∷ ps) h a = ((λ e. a.0 (sym e), h.0), one_more q seen ps h.1 a.1)
-
 all_new : (seen qs : List ℕ) → AreAbsent seen qs → AllDiffer qs → are_new seen qs ≡ true
 all_new seen [] h d = refl
 all_new seen (q ∷ qs) h d = and_true _ _ (ap not (not_any seen q h.0)) (all_new (q ∷ seen) qs (one_more q seen qs h.1 d.0) d.1)
 
-absent_in : (x b : ℕ) (xs ys : List ℕ) → Absent x (xs ++ b ∷ ys) → b ≢ x
-absent_in x b [] ys h = h.0
-absent_in x b (z ∷ zs) ys h = absent_in x b zs ys h.1
-
-absent_last : (b : ℕ) (xs ys : List ℕ) → AllDiffer (xs ++ b ∷ ys) → Absent b xs
-absent_last b [] ys h = tt
-absent_last b (x ∷ xs) ys h = (λ e. absent_in x b xs ys h.0 (sym e), absent_last b xs ys h.1)
-
-without : (x b : ℕ) (xs ys : List ℕ) → Absent x (xs ++ b ∷ ys) → Absent x (xs ++ ys)
-without x b [] ys h = h.1
-without x b (z ∷ zs) ys h = (h.0, without x b zs ys h.1)
-
-differ_without : (b : ℕ) (xs ys : List ℕ) → AllDiffer (xs ++ b ∷ ys) → AllDiffer (xs ++ ys)
-differ_without b [] ys h = h.1
-differ_without b (x ∷ xs) ys h = (without x b xs ys h.0, differ_without b xs ys h.1)
-
-are_absent : (xs qs : List ℕ) → AllDiffer (xs ++ qs) → AreAbsent xs qs
-are_absent xs [] h = tt
-are_absent xs (q ∷ qs) h = (absent_last q xs qs h, are_absent xs qs (differ_without q xs qs h))
-
-last_differ : (xs qs : List ℕ) → AllDiffer (xs ++ qs) → AllDiffer qs
-last_differ [] qs h = h
-last_differ (x ∷ xs) qs h = last_differ xs qs h.1
-
 pub new_list : (lists : List (List ℕ)) (qs : List ℕ) → AllDiffer (flat_map (λ l. l) lists ++ qs) → if_new lists qs ≡ Some qs
-new_list lists qs h = rw (all_new (flat_map (λ l. l) lists) qs (are_absent (flat_map (λ l. l) lists) qs h) (last_differ (flat_map (λ l. l) lists) qs h)) refl
+new_list lists qs h = rw (all_new (flat_map (λ l. l) lists) qs (are_absent (flat_map (λ l. l) lists) qs h) (back_differs (flat_map (λ l. l) lists) qs h)) refl

@@ -1,5 +1,6 @@
 mod Rows
 mod Decimals
+mod Differ
 mod Parts
 mod Lines
 mod Registers

@@ -7,6 +7,7 @@ use Rattle.silq_lex.specs.declared.token.Place.{Place}
 use Rattle.silq_lex.specs.Characters.{is_digit}
 use Rattle.silq_lex.specs.Tokens.{behind_all}
 use Rattle.silq_lex.proofs.Passing.{behind_all-append}
+use Rattle.silq_lex.proofs.Texts.{and_true}
 use Rattle.gate_core.specs.declared.gate.Gate.{Gate}
 use Rattle.gate_core.specs.Local.{AllDiffer, AllBelow}
 use Rattle.qasm_write.specs.Written.{qubit_text, qubit_texts, list_line, list_lines}
@@ -16,12 +17,12 @@ use Rattle.qasm_read.specs.Registers.{Register}
 use Rattle.qasm_read.specs.State.{State}
 use Rattle.qasm_read.specs.Lines.{between_spaces, is_written, qubits_named, if_new, named_by, add_list, with_line}
 use Rattle.read_laws.proofs.Decimals.{digits_of, is_low, digits_are}
-use Rattle.read_laws.proofs.Parts.{is_ascii, ascii_append, digits_ascii}
+use Rattle.read_laws.proofs.Parts.{is_ascii, all_both, ascii_append, digits_ascii}
 use Rattle.read_laws.proofs.Lines.{Reads, items, read_on, read_line, reads_nothing, reads_both, behind_feed, marks_of_feed}
 use Rattle.read_laws.proofs.Registers.{qubit_registers}
 use Rattle.read_laws.proofs.Statements.{state_of}
-use Rattle.read_laws.proofs.Walk.{front_differs}
-use Rattle.read_laws.proofs.Comments.{no_space, next_word, words_of, number_no_space, all_both, number_is_written, qubits_read, new_list}
+use Rattle.read_laws.proofs.Differ.{front_differs, below_front, below_back}
+use Rattle.read_laws.proofs.Comments.{no_space, next_word, words_of, number_no_space, number_is_written, qubits_read, new_list}
 
 -- ---- a comment line
 
@@ -74,27 +75,24 @@ record Passes (test : ℕ → Bool) : Type 0 where
   name : list_all test (113 ∷ 91 ∷ []) ≡ true
   close : list_all test (93 ∷ []) ≡ true
 
-and_pass : (a b : Bool) → a ≡ true → b ≡ true → (a && b) ≡ true
-and_pass a b e f = cc
-
 qubits_pass : (test : ℕ → Bool) → Passes test → (qs : List ℕ) → AllBelow (2 ^ 64) qs → list_all test (qubit_texts qs) ≡ true
 qubits_pass test p [] h = refl
 qubits_pass test p (q ∷ qs) h =
-    and_pass _ _ p.space (all_both test (qubit_text q) (qubit_texts qs)
+    and_true _ _ p.space (all_both test (qubit_text q) (qubit_texts qs)
     (all_both test (113 ∷ 91 ∷ []) (decimal q ++ 93 ∷ []) p.name (all_both test (decimal q) (93 ∷ []) (digits_are test p.digit (decimal q) (digits_of q h.0)) p.close))
     (qubits_pass test p qs h.1))
 
 numbered_pass : (test : ℕ → Bool) → Passes test → (kind : List ℕ) (number : ℕ) (qs : List ℕ) → list_all test kind ≡ true → number < 2 ^ 64 → AllBelow (2 ^ 64) qs
     → list_all test (numbered kind number qs) ≡ true
 numbered_pass test p kind number qs k h b =
-    all_both test kind (32 ∷ (decimal number ++ qubit_texts qs)) k (and_pass _ _ p.space
+    all_both test kind (32 ∷ (decimal number ++ qubit_texts qs)) k (and_true _ _ p.space
     (all_both test (decimal number) (qubit_texts qs) (digits_are test p.digit (decimal number) (digits_of number h)) (qubits_pass test p qs b)))
 
 digit_no_feed : (c : ℕ) → is_digit c ≡ true → no_feed c ≡ true
 digit_no_feed c e = ap not (is_low c 10 (omega arith) e)
 
 digit_is_ascii : (c : ℕ) → is_digit c ≡ true → is_ascii c ≡ true
-digit_is_ascii c e = let all : list_all is_ascii (c ∷ []) ≡ true = digits_ascii (c ∷ []) (and_pass _ _ e refl) in of (is_ascii c) all
+digit_is_ascii c e = let all : list_all is_ascii (c ∷ []) ≡ true = digits_ascii (c ∷ []) (and_true _ _ e refl) in of (is_ascii c) all
   where
     of : (b : Bool) → (b && true) ≡ true → b ≡ true
     of true f = refl
@@ -197,14 +195,6 @@ module _ (n b : ℕ) (gates : List Gate) (few : n < 2 ^ 32) where
   flat_last : (done : List (List ℕ)) (qs : List ℕ) → flat_map (λ l. l) (done ++ qs ∷ []) ≡ flat_map (λ l. l) done ++ qs
   flat_last [] qs = append-nil qs
   flat_last (l ∷ ls) qs = ap (λ z. l ++ z) (flat_last ls qs) ∙ sym (append_assoc l (flat_map (λ x. x) ls) qs)
-
-  below_front : (m : ℕ) (xs ys : List ℕ) → AllBelow m (xs ++ ys) → AllBelow m xs
-  below_front m [] ys h = tt
-  below_front m (x ∷ xs) ys h = (h.0, below_front m xs ys h.1)
-
-  below_back : (m : ℕ) (xs ys : List ℕ) → AllBelow m (xs ++ ys) → AllBelow m ys
-  below_back m [] ys h = h
-  below_back m (x ∷ xs) ys h = below_back m xs ys h.1
 
   module _ (kind : List ℕ) (is : IsKind kind) (st : List (List ℕ) → State)
       (next : (done : List (List ℕ)) (qs : List ℕ) → IsNext n done qs → with_line (st done) (comment_text kind (length done) qs) ≡ st (done ++ qs ∷ [])) where

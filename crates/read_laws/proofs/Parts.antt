@@ -77,12 +77,12 @@ marks_of_parts (word p ∷ ps) behind at h =
     ∙ ap (λ q. (mark_at (one p) at ++ map token (tokens_at (behind_all at (part_text (word p))) ps)) ++ marks_from q behind)
     (sym (behind_all-append (part_text (word p)) (text_of_parts ps) at))
 
-all_append : (test : ℕ → Bool) (xs ys : List ℕ) → list_all test xs ≡ true → list_all test ys ≡ true → list_all test (xs ++ ys) ≡ true
-all_append test [] ys h k = k
-all_append test (x ∷ xs) ys h k = and_true _ _ (and_left _ _ h) (all_append test xs ys (and_right (test x) _ h) k)
+pub all_both : (test : ℕ → Bool) (xs ys : List ℕ) → list_all test xs ≡ true → list_all test ys ≡ true → list_all test (xs ++ ys) ≡ true
+all_both test [] ys h k = k
+all_both test (x ∷ xs) ys h k = and_true _ _ (and_left _ _ h) (all_both test xs ys (and_right (test x) _ h) k)
 
 pub ascii_append : (xs ys : List ℕ) → list_all is_ascii xs ≡ true → list_all is_ascii ys ≡ true → list_all is_ascii (xs ++ ys) ≡ true
-ascii_append xs ys h k = all_append is_ascii xs ys h k
+ascii_append xs ys h k = all_both is_ascii xs ys h k
 
 -- parts that stand in turn are of ASCII
 pub ascii_of_parts : (ps : List Part) (behind : List ℕ) → StandInTurn ps behind → list_all is_ascii (text_of_parts ps) ≡ true

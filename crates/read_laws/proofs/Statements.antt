@@ -1,5 +1,5 @@
 -- The statements of a written text are not refused, and are read as what they are.
-use Rattle.std.proofs.Common.{◌≡◌, ℕ, ◌<◌, ◌^◌, true, false, List, [], ◌∷◌, ◌++◌, Option, Some, decimal, length, refl, ◌∙◌, ap, arith, lt-ltb}
+use Rattle.std.proofs.Common.{◌≡◌, ℕ, ◌<◌, ◌^◌, true, false, List, [], ◌∷◌, ◌++◌, Some, decimal, length, refl, ◌∙◌, ap, arith, lt-ltb}
 use Rattle.std.specs.Prelude.{codes, option_map}
 use Rattle.silq_lex.specs.declared.token.Place.{Place}
 use Rattle.silq_lex.specs.Kinds.{number_of}

@@ -1,36 +1,19 @@
 -- The statements of a written text, one after another.
-use Rattle.std.proofs.Common.{◌≡◌, ◌≢◌, ℕ, ◌+◌, ◌<◌, ◌≤◌, ◌^◌, List, [], ◌∷◌, ◌++◌, length, length-append, append_assoc, append-nil, refl, sym, ◌∙◌, ap, subst, arith}
+use Rattle.std.proofs.Common.{◌≡◌, ℕ, ◌+◌, ◌<◌, ◌≤◌, ◌^◌, List, [], ◌∷◌, ◌++◌, length, length-append, append_assoc, append-nil, refl, sym, ◌∙◌, ap, subst, arith}
 use Rattle.std.specs.Prelude.{All}
 use Rattle.std.proofs.lemmas.List.Elements.{All-head, All-tail}
 use Rattle.gate_core.specs.declared.gate.PlainGate.{PlainGate}
 use Rattle.gate_core.specs.declared.gate.PlainGate.TheVariants.{One as PlainOne, Cx as PlainCx, Cz as PlainCz, Ccx as PlainCcx}
 use Rattle.gate_core.specs.declared.gate.Gate.{Gate}
 use Rattle.gate_core.specs.declared.gate.Gate.TheVariants.{One, Cx, Cz, Ccx, Measure, If}
-use Rattle.gate_core.specs.Local.{Absent, AllDiffer, AllBelow, gate_qubits, as_gate}
+use Rattle.gate_core.specs.Local.{AllDiffer, AllBelow, gate_qubits, as_gate}
 use Rattle.gate_core.specs.Circuit.{GateFits, measured_by, measured_bits}
 use Rattle.qasm_write.specs.Written.{plain_line, gate_line, gate_lines}
 use Rattle.read_laws.specs.Laws.{ValueFits}
+use Rattle.read_laws.proofs.Differ.{differ_middle, front_differs}
 use Rattle.read_laws.proofs.Lines.{Reads, items, reads_nothing, reads_both, reads_line}
 use Rattle.read_laws.proofs.GateParts.{plain_parts, measure_parts, if_parts, plain_text, measure_text, if_text}
 use Rattle.read_laws.proofs.Statements.{state_of, plain_item, measure_item, if_item}
-
--- ---- lists without repetition
-
-absent_middle : (x b : ℕ) (xs ys : List ℕ) → Absent x (xs ++ b ∷ ys) → b ≢ x
-absent_middle x b [] ys h = h.0
-absent_middle x b (z ∷ zs) ys h = absent_middle x b zs ys h.1
-
-pub differ_middle : (b : ℕ) (xs ys : List ℕ) → AllDiffer (xs ++ b ∷ ys) → Absent b xs
-differ_middle b [] ys h = tt
-differ_middle b (x ∷ xs) ys h = (λ e. absent_middle x b xs ys h.0 (sym e), differ_middle b xs ys h.1)
-
-absent_front : (x : ℕ) (xs ys : List ℕ) → Absent x (xs ++ ys) → Absent x xs
-absent_front x [] ys h = tt
-absent_front x (z ∷ zs) ys h = (h.0, absent_front x zs ys h.1)
-
-pub front_differs : (xs ys : List ℕ) → AllDiffer (xs ++ ys) → AllDiffer xs
-front_differs [] ys h = tt
-front_differs (x ∷ xs) ys h = (absent_front x xs ys h.0, front_differs xs ys h.1)
 
 measured_append : (gs hs : List Gate) → measured_bits (gs ++ hs) ≡ measured_bits gs ++ measured_bits hs
 measured_append [] hs = refl
