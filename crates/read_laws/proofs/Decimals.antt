@@ -40,7 +40,17 @@ spelled n h = of (decimal n) refl
     of [] e = let l : 0 < length (decimal n) = decimal_nonempty n h in let m : length (decimal n) ≡ 0 = ap length e in absurd (omega arith)
     of (d ∷ ds) e =
         let own : list_all is_digit (d ∷ ds) ≡ true = ap (list_all is_digit) (sym e) ∙ digits_decimal digits_model n h in
-        record { first = d; rest = ds; is = record { text = e; all = own; plain = plain_digits n d ds h e; value = ap number_of (sym e) ∙ digits_value-decimal digits_model n h } }
+        record {
+          first = d;
+          rest = ds;
+          is = record {
+            text = e;
+            all = own;
+            plain = plain_digits n d ds h e;
+            value = ap number_of (sym e)
+                ∙ digits_value-decimal digits_model n h;
+          };
+        }
 
 pub digits_of : (n : ℕ) → n < 2 ^ 64 → list_all is_digit (decimal n) ≡ true
 digits_of n h = digits_decimal digits_model n h

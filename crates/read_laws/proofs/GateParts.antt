@@ -77,9 +77,13 @@ pub paren_ends : Ends 41
 paren_ends = record { no_digit = refl; no_dot = refl }
 
 pub qubit_stands : (i : ℕ) (more : List Part) (behind : List ℕ) → i < 2 ^ 32 → StandInTurn more behind → StandInTurn (qubit_parts i more) behind
-qubit_stands i more behind h m =
-    (closed qubit_word 113 [] _ refl refl refl, (closed left 91 [] _ refl refl refl,
-    (number_stands i 93 (text_of_parts more ++ behind) bracket_ends h, (closed right 93 [] _ refl refl refl, m))))
+qubit_stands i more behind h m = (
+  closed qubit_word 113 [] _ refl refl refl,
+  (
+    closed left 91 [] _ refl refl refl,
+    (number_stands i 93 (text_of_parts more ++ behind) bracket_ends h, (closed right 93 [] _ refl refl refl, m)),
+  ),
+)
 
 end_stands : (behind : List ℕ) → StandInTurn (semicolon ∷ []) behind
 end_stands behind = (closed semicolon 59 [] _ refl refl refl, tt)
@@ -103,36 +107,79 @@ kind_stands o.Tdg rest = record { first = 116; rest = 100 ∷ 103 ∷ []; text =
 
 pub plain_stands : (g : PlainGate) (behind : List ℕ) → AllBelow (2 ^ 32) (gate_qubits g) → StandInTurn (plain_parts g) behind
 plain_stands (PlainOne kind q) behind h = (kind_stands kind _, (space_here _, qubit_stands q (semicolon ∷ []) behind h.0 (end_stands behind)))
-plain_stands (PlainCx c t) behind h =
-    (closed (word (piece k.Cx (codes "cx"))) 99 (120 ∷ []) _ refl refl refl, (space_here _,
-    qubit_stands c (comma ∷ qubit_parts t (semicolon ∷ [])) behind h.0 (comma_here _, qubit_stands t (semicolon ∷ []) behind h.1.0 (end_stands behind))))
-plain_stands (PlainCz c t) behind h =
-    (closed (word (piece k.Cz (codes "cz"))) 99 (122 ∷ []) _ refl refl refl, (space_here _,
-    qubit_stands c (comma ∷ qubit_parts t (semicolon ∷ [])) behind h.0 (comma_here _, qubit_stands t (semicolon ∷ []) behind h.1.0 (end_stands behind))))
-plain_stands (PlainCcx a b t) behind h =
-    (closed (word (piece k.Ccx (codes "ccx"))) 99 (99 ∷ 120 ∷ []) _ refl refl refl, (space_here _,
-    qubit_stands a (comma ∷ qubit_parts b (comma ∷ qubit_parts t (semicolon ∷ []))) behind h.0 (comma_here _,
-    qubit_stands b (comma ∷ qubit_parts t (semicolon ∷ [])) behind h.1.0 (comma_here _,
-    qubit_stands t (semicolon ∷ []) behind h.1.1.0 (end_stands behind)))))
+plain_stands (PlainCx c t) behind h = (
+  closed (word (piece k.Cx (codes "cx"))) 99 (120 ∷ []) _ refl refl refl,
+  (
+    space_here _,
+    qubit_stands c (comma ∷ qubit_parts t (semicolon ∷ [])) behind h.0 (comma_here _, qubit_stands t (semicolon ∷ []) behind h.1.0 (end_stands behind)),
+  ),
+)
+plain_stands (PlainCz c t) behind h = (
+  closed (word (piece k.Cz (codes "cz"))) 99 (122 ∷ []) _ refl refl refl,
+  (
+    space_here _,
+    qubit_stands c (comma ∷ qubit_parts t (semicolon ∷ [])) behind h.0 (comma_here _, qubit_stands t (semicolon ∷ []) behind h.1.0 (end_stands behind)),
+  ),
+)
+plain_stands (PlainCcx a b t) behind h = (
+  closed (word (piece k.Ccx (codes "ccx"))) 99 (99 ∷ 120 ∷ []) _ refl refl refl,
+  (
+    space_here _,
+    qubit_stands a (comma ∷ qubit_parts b (comma ∷ qubit_parts t (semicolon ∷ []))) behind h.0 (
+      comma_here _,
+      qubit_stands b (comma ∷ qubit_parts t (semicolon ∷ [])) behind h.1.0 (
+        comma_here _,
+        qubit_stands t (semicolon ∷ []) behind h.1.1.0 (end_stands behind),
+      ),
+    ),
+  ),
+)
 
 outcome_stands : (bit : ℕ) (behind : List ℕ) → bit < 2 ^ 64 → StandInTurn (outcome_parts bit) behind
-outcome_stands bit behind h =
-    (bit_stands bit 91 _ refl h, (closed left 91 [] _ refl refl refl, (closed (word (piece k.Number (48 ∷ []))) 48 [] _ refl refl refl,
-    (closed right 93 [] _ refl refl refl, end_stands behind))))
+outcome_stands bit behind h = (
+  bit_stands bit 91 _ refl h,
+  (
+    closed left 91 [] _ refl refl refl,
+    (
+      closed (word (piece k.Number (48 ∷ []))) 48 [] _ refl refl refl,
+      (closed right 93 [] _ refl refl refl, end_stands behind),
+    ),
+  ),
+)
 
 pub measure_stands : (q bit : ℕ) (behind : List ℕ) → q < 2 ^ 32 → bit < 2 ^ 64 → StandInTurn (measure_parts q bit) behind
-measure_stands q bit behind h b =
-    (closed (word (piece k.Measure (codes "measure"))) 109 (101 ∷ 97 ∷ 115 ∷ 117 ∷ 114 ∷ 101 ∷ []) _ refl refl refl, (space_here _,
-    qubit_stands q (space ∷ word (piece k.Arrow (codes "->")) ∷ space ∷ outcome_parts bit) behind h (space_here _,
-    (closed (word (piece k.Arrow (codes "->"))) 45 (62 ∷ []) _ refl refl refl, (space_here _, outcome_stands bit behind b)))))
+measure_stands q bit behind h b = (
+  closed (word (piece k.Measure (codes "measure"))) 109 (101 ∷ 97 ∷ 115 ∷ 117 ∷ 114 ∷ 101 ∷ []) _ refl refl refl,
+  (
+    space_here _,
+    qubit_stands q (space ∷ word (piece k.Arrow (codes "->")) ∷ space ∷ outcome_parts bit) behind h (
+      space_here _,
+      (closed (word (piece k.Arrow (codes "->"))) 45 (62 ∷ []) _ refl refl refl, (space_here _, outcome_stands bit behind b)),
+    ),
+  ),
+)
 
 pub if_stands : (bit value : ℕ) (g : PlainGate) (behind : List ℕ) → bit < 2 ^ 64 → value < 2 ^ 32 → AllBelow (2 ^ 32) (gate_qubits g)
     → StandInTurn (if_parts bit value g) behind
-if_stands bit value g behind b v h =
-    (closed (word (piece k.If (codes "if"))) 105 (102 ∷ []) _ refl refl refl, (space_here _,
-    (closed (word (piece k.LeftParen (40 ∷ []))) 40 [] _ refl refl refl, (bit_stands bit 61 _ refl b,
-    (closed (word (piece k.Equal (codes "=="))) 61 (61 ∷ []) _ refl refl refl, (number_stands value 41 _ paren_ends v,
-    (closed (word (piece k.RightParen (41 ∷ []))) 41 [] _ refl refl refl, (space_here _, plain_stands g behind h))))))))
+if_stands bit value g behind b v h = (
+  closed (word (piece k.If (codes "if"))) 105 (102 ∷ []) _ refl refl refl,
+  (
+    space_here _,
+    (
+      closed (word (piece k.LeftParen (40 ∷ []))) 40 [] _ refl refl refl,
+      (
+        bit_stands bit 61 _ refl b,
+        (
+          closed (word (piece k.Equal (codes "=="))) 61 (61 ∷ []) _ refl refl refl,
+          (
+            number_stands value 41 _ paren_ends v,
+            (closed (word (piece k.RightParen (41 ∷ []))) 41 [] _ refl refl refl, (space_here _, plain_stands g behind h)),
+          ),
+        ),
+      ),
+    ),
+  ),
+)
 
 -- ---- the grammar takes them
 

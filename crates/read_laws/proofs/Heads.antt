@@ -35,9 +35,13 @@ library_parts = word (piece k.Include (codes "include")) ∷ space ∷ word (pie
 version_item : IsItem a_text at_start at_start version_parts
 unfolding version_parts
 version_item = record {
-  stands = λ rest.
-      (closed (word (piece k.OpenQasm (codes "OPENQASM"))) 79 (80 ∷ 69 ∷ 78 ∷ 81 ∷ 65 ∷ 83 ∷ 77 ∷ []) _ refl refl refl, (closed space 32 [] _ refl refl refl,
-      (closed (word (piece k.Version (codes "2.0"))) 50 (46 ∷ 48 ∷ []) _ refl refl refl, (closed semicolon 59 [] _ refl refl refl, tt))));
+  stands = λ rest. (
+    closed (word (piece k.OpenQasm (codes "OPENQASM"))) 79 (80 ∷ 69 ∷ 78 ∷ 81 ∷ 65 ∷ 83 ∷ 77 ∷ []) _ refl refl refl,
+    (
+      closed space 32 [] _ refl refl refl,
+      (closed (word (piece k.Version (codes "2.0"))) 50 (46 ∷ 48 ∷ []) _ refl refl refl, (closed semicolon 59 [] _ refl refl refl, tt)),
+    ),
+  );
   grammar = refl;
   whole = refl;
   allowed = λ at. refl;
@@ -47,10 +51,16 @@ version_item = record {
 library_item : IsItem items at_start (state_of 0 0 [] [] []) library_parts
 unfolding library_parts
 library_item = record {
-  stands = λ rest.
-      (closed (word (piece k.Include (codes "include"))) 105 (110 ∷ 99 ∷ 108 ∷ 117 ∷ 100 ∷ 101 ∷ []) _ refl refl refl, (closed space 32 [] _ refl refl refl,
-      (closed (word (piece k.Library (codes "\"qelib1.inc\""))) 34 (113 ∷ 101 ∷ 108 ∷ 105 ∷ 98 ∷ 49 ∷ 46 ∷ 105 ∷ 110 ∷ 99 ∷ 34 ∷ []) _ refl refl refl,
-      (closed semicolon 59 [] _ refl refl refl, tt))));
+  stands = λ rest. (
+    closed (word (piece k.Include (codes "include"))) 105 (110 ∷ 99 ∷ 108 ∷ 117 ∷ 100 ∷ 101 ∷ []) _ refl refl refl,
+    (
+      closed space 32 [] _ refl refl refl,
+      (
+        closed (word (piece k.Library (codes "\"qelib1.inc\""))) 34 (113 ∷ 101 ∷ 108 ∷ 105 ∷ 98 ∷ 49 ∷ 46 ∷ 105 ∷ 110 ∷ 99 ∷ 34 ∷ []) _ refl refl refl,
+        (closed semicolon 59 [] _ refl refl refl, tt),
+      ),
+    ),
+  );
   grammar = refl;
   whole = refl;
   allowed = λ at. refl;
@@ -94,9 +104,13 @@ unfolding qreg_parts
 qreg_item m h =
     let value : number_of (decimal (suc m)) ≡ suc m = value_of (suc m) (omega arith) in
     record {
-      stands = λ rest.
-          (closed (word (piece k.Qreg (codes "qreg"))) 113 (114 ∷ 101 ∷ 103 ∷ []) _ refl refl refl, (closed space 32 [] _ refl refl refl,
-          qubit_stands (suc m) (semicolon ∷ []) (10 ∷ rest) (omega arith) (closed semicolon 59 [] _ refl refl refl, tt)));
+      stands = λ rest. (
+        closed (word (piece k.Qreg (codes "qreg"))) 113 (114 ∷ 101 ∷ 103 ∷ []) _ refl refl refl,
+        (
+          closed space 32 [] _ refl refl refl,
+          qubit_stands (suc m) (semicolon ∷ []) (10 ∷ rest) (omega arith) (closed semicolon 59 [] _ refl refl refl, tt),
+        ),
+      );
       grammar = refl;
       whole = refl;
       allowed = λ at.
@@ -135,10 +149,22 @@ creg_item n bit h =
     ap (λ z. bit_registers 0 bit ++ bit_register z ∷ []) (sym zero_on) ∙ bits_add bit 0 in
     let wide : width (bit_registers 0 bit) ≡ bit = bit_width bit 0 in
     record {
-      stands = λ rest.
-          (closed (word (piece k.Creg (codes "creg"))) 99 (114 ∷ 101 ∷ 103 ∷ []) _ refl refl refl, (closed space 32 [] _ refl refl refl,
-          (bit_stands bit 91 _ refl (omega arith), (closed left 91 [] _ refl refl refl, (closed (word (piece k.Number (codes "1"))) 49 [] _ refl refl refl,
-          (closed right 93 [] _ refl refl refl, (closed semicolon 59 [] _ refl refl refl, tt)))))));
+      stands = λ rest. (
+        closed (word (piece k.Creg (codes "creg"))) 99 (114 ∷ 101 ∷ 103 ∷ []) _ refl refl refl,
+        (
+          closed space 32 [] _ refl refl refl,
+          (
+            bit_stands bit 91 _ refl (omega arith),
+            (
+              closed left 91 [] _ refl refl refl,
+              (
+                closed (word (piece k.Number (codes "1"))) 49 [] _ refl refl refl,
+                (closed right 93 [] _ refl refl refl, (closed semicolon 59 [] _ refl refl refl, tt)),
+              ),
+            ),
+          ),
+        ),
+      );
       grammar = refl;
       whole = refl;
       allowed = λ at.
@@ -148,7 +174,8 @@ creg_item n bit h =
       after_it = λ at. ap (λ rs. record (state_of n bit [] [] []) { bits = rs }) added;
     }
 
-outcomes_read : (n first count : ℕ) → first + count ≤ 4096 → Reads items (state_of n first [] [] []) (state_of n (first + count) [] [] []) (outcome_lines first count)
+outcomes_read : (n first count : ℕ) → first + count ≤ 4096
+    → Reads items (state_of n first [] [] []) (state_of n (first + count) [] [] []) (outcome_lines first count)
 outcomes_read n first zero h =
     let e : first ≡ first + 0 = omega arith in
     subst (λ z. Reads items (state_of n first [] [] []) (state_of n z [] [] []) []) e (reads_nothing (state_of n first [] [] []))
@@ -156,7 +183,8 @@ outcomes_read n first (suc m) h =
     let e : suc first + m ≡ first + suc m = omega arith in
     subst (λ z. Reads items (state_of n first [] [] []) (state_of n z [] [] []) (outcome_lines first (suc m))) e
     (reads_both items _ _ _ (outcome_line first) (outcome_lines (suc first) m)
-    (reads_line items _ _ (creg_parts first) (outcome_line first) (creg_text first) (creg_item n first (omega arith))) (outcomes_read n (suc first) m (omega arith)))
+    (reads_line items _ _ (creg_parts first) (outcome_line first) (creg_text first) (creg_item n first (omega arith))) (outcomes_read n (suc first) m
+    (omega arith)))
 
 pub start_read : (n : ℕ) → n ≤ 100000 → Reads a_text at_start (state_of n 0 [] [] []) (start_text n)
 start_read n h =

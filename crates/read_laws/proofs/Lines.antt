@@ -36,7 +36,8 @@ reach_over end [] xs ys ms h = let e : xs ≡ ys = cc in ap (λ zs. reach end zs
 reach_over end (t ∷ ts) xs ys ms h = of (advance table xs t.kind) h (λ zs. reach_over end ts zs ys ms)
   where
     of : (o : Option (List Symbol)) → then_maybe o (λ zs. expected table zs (map (λ u. u.kind) ts)) ≡ Some ys
-        → ((zs : List Symbol) → expected table zs (map (λ u. u.kind) ts) ≡ Some ys → reach end zs (map token ts ++ ms) ≡ with_marks (map token ts) (reach end ys ms))
+        → ((zs : List Symbol) → expected table zs (map (λ u. u.kind) ts) ≡ Some ys
+        → reach end zs (map token ts ++ ms) ≡ with_marks (map token ts) (reach end ys ms))
         → reach_at o t (λ zs. reach end zs (map token ts ++ ms)) ≡ with_mark (token t) (with_marks (map token ts) (reach end ys ms))
     of None e f = cc
     of (Some zs) e f = ap (with_mark (token t)) (f zs e)
@@ -68,7 +69,8 @@ items_over (t ∷ ts) ms h = of (same_kind k.Semicolon t.kind) ts h (items_over 
   where
     of : (b : Bool) (us : List Token) → cond b (is_nil (map (λ u. u.kind) us)) (closes (map (λ u. u.kind) us)) ≡ true
         → (closes (map (λ u. u.kind) us) ≡ true → items_of (map token us ++ ms) ≡ record { lines = []; tokens = us } ∷ items_of ms)
-        → with_token t (if b then no_item ∷ items_of (map token us ++ ms) else items_of (map token us ++ ms)) ≡ record { lines = []; tokens = t ∷ us } ∷ items_of ms
+        → with_token t (if b then no_item ∷ items_of (map token us ++ ms) else items_of
+        (map token us ++ ms)) ≡ record { lines = []; tokens = t ∷ us } ∷ items_of ms
     of true [] e f = refl
     of true (u ∷ us) e f = cc
     of false us e f = ap (with_token t) (f e)

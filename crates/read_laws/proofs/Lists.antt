@@ -79,10 +79,12 @@ qubits_pass : (test : ℕ → Bool) → Passes test → (qs : List ℕ) → AllB
 qubits_pass test p [] h = refl
 qubits_pass test p (q ∷ qs) h =
     and_true _ _ p.space (all_both test (qubit_text q) (qubit_texts qs)
-    (all_both test (113 ∷ 91 ∷ []) (decimal q ++ 93 ∷ []) p.name (all_both test (decimal q) (93 ∷ []) (digits_are test p.digit (decimal q) (digits_of q h.0)) p.close))
+    (all_both test (113 ∷ 91 ∷ []) (decimal q ++ 93 ∷ []) p.name (all_both test (decimal q) (93 ∷ []) (digits_are test p.digit (decimal q)
+    (digits_of q h.0)) p.close))
     (qubits_pass test p qs h.1))
 
-numbered_pass : (test : ℕ → Bool) → Passes test → (kind : List ℕ) (number : ℕ) (qs : List ℕ) → list_all test kind ≡ true → number < 2 ^ 64 → AllBelow (2 ^ 64) qs
+numbered_pass : (test : ℕ → Bool) → Passes test → (kind : List ℕ) (number : ℕ) (qs : List ℕ) → list_all test kind ≡ true → number < 2 ^ 64
+    → AllBelow (2 ^ 64) qs
     → list_all test (numbered kind number qs) ≡ true
 numbered_pass test p kind number qs k h b =
     all_both test kind (32 ∷ (decimal number ++ qubit_texts qs)) k (and_true _ _ p.space
@@ -125,11 +127,13 @@ line_words kind number qs k h b =
 
 -- ---- what it names
 
-named_as : (registers : List Register) (kind : List ℕ) (lists : List (List ℕ)) (number first : List ℕ) (more : List (List ℕ)) (qs : List ℕ) → bytes_eq kind kind ≡ true
+named_as : (registers : List Register) (kind : List ℕ) (lists : List (List ℕ)) (number first : List ℕ) (more : List (List ℕ)) (qs : List ℕ)
+    → bytes_eq kind kind ≡ true
     → is_written number (length lists) ≡ true → qubits_named registers (first ∷ more) ≡ Some qs → if_new lists qs ≡ Some qs
     → named_by registers kind lists (codes "//" ∷ codes "silqc" ∷ kind ∷ number ∷ first ∷ more) ≡ Some qs
 named_as registers kind lists number first more qs h w r f =
-    let goes : named_by registers kind lists (codes "//" ∷ codes "silqc" ∷ kind ∷ number ∷ first ∷ more) ≡ option_and_then (λ l. if_new lists l) (qubits_named registers (first ∷ more)) =
+    let goes : named_by registers kind lists (codes "//" ∷ codes "silqc" ∷ kind ∷ number ∷ first ∷ more) ≡ option_and_then (λ l. if_new lists l)
+    (qubits_named registers (first ∷ more)) =
     rw (h, w) refl in
     goes ∙ ap (option_and_then (λ l. if_new lists l)) r ∙ f
 
@@ -179,7 +183,8 @@ module _ (n b : ℕ) (gates : List Gate) (few : n < 2 ^ 32) where
   in_next outs done qs h =
       ap (with_words (state_of n b gates done outs)) (line_words (codes "in") (length done) qs in_kind h.few (below_word n qs few h.in_range))
       ∙ ap (λ x. state_of n b gates (add_list done (named_by (qubit_registers n) (codes "in") done
-      (codes "//" ∷ codes "silqc" ∷ codes "in" ∷ decimal (length done) ∷ map qubit_text qs))) (add_list outs x)) (not_out outs (decimal (length done)) (map qubit_text qs))
+      (codes "//" ∷ codes "silqc" ∷ codes "in" ∷ decimal (length done) ∷ map qubit_text qs))) (add_list outs x)) (not_out outs (decimal (length done))
+      (map qubit_text qs))
       ∙ ap (λ x. state_of n b gates (add_list done x) outs) (named_next (codes "in") done qs refl h)
 
   out_next : (ins done : List (List ℕ)) (qs : List ℕ) → IsNext n done qs
@@ -222,10 +227,12 @@ module _ (n b : ℕ) (gates : List Gate) (few : n < 2 ^ 32) where
         subst (λ z. Reads items (st done) (st z) (list_lines kind (length done) (qs ∷ lists))) (append_assoc done (qs ∷ []) lists)
         (reads_both items _ _ _ (list_line kind (length done) qs) (list_lines kind (suc (length done)) lists) first others)
 
-  pub ins_read : (outs ins : List (List ℕ)) → All (λ l. l ≢ []) ins → AllBelow n (flat_map (λ l. l) ins) → AllDiffer (flat_map (λ l. l) ins) → length ins < 2 ^ 63
+  pub ins_read : (outs ins : List (List ℕ)) → All (λ l. l ≢ []) ins → AllBelow n (flat_map (λ l. l) ins) → AllDiffer (flat_map (λ l. l) ins)
+      → length ins < 2 ^ 63
       → Reads items (state_of n b gates [] outs) (state_of n b gates ins outs) (list_lines (codes "in") 0 ins)
   ins_read outs ins s r d l = lists_read (codes "in") in_kind (λ done. state_of n b gates done outs) (in_next outs) [] ins s r d (omega arith)
 
-  pub outs_read : (ins outs : List (List ℕ)) → All (λ l. l ≢ []) outs → AllBelow n (flat_map (λ l. l) outs) → AllDiffer (flat_map (λ l. l) outs) → length outs < 2 ^ 63
+  pub outs_read : (ins outs : List (List ℕ)) → All (λ l. l ≢ []) outs → AllBelow n (flat_map (λ l. l) outs) → AllDiffer (flat_map (λ l. l) outs)
+      → length outs < 2 ^ 63
       → Reads items (state_of n b gates ins []) (state_of n b gates ins outs) (list_lines (codes "out") 0 outs)
   outs_read ins outs s r d l = lists_read (codes "out") out_kind (λ done. state_of n b gates ins done) (out_next ins) [] outs s r d (omega arith)

@@ -80,7 +80,8 @@ module _ (registers : List Register) where
   pub one_allowed : (x : Operand) (p : ℕ) → Names registers x p → qubit_refusals registers [] (x ∷ []) ≡ []
   one_allowed x p h = no_refusals _ _ h.allowed (no_refusals _ _ (where_no _ _ (seen_none _ p h.bit)) refl)
 
-  pub two_allowed : (x y : Operand) (p q : ℕ) → Names registers x p → Names registers y q → AllDiffer (p ∷ q ∷ []) → qubit_refusals registers [] (x ∷ y ∷ []) ≡ []
+  pub two_allowed : (x y : Operand) (p q : ℕ) → Names registers x p → Names registers y q → AllDiffer (p ∷ q ∷ [])
+      → qubit_refusals registers [] (x ∷ y ∷ []) ≡ []
   two_allowed x y p q h i d =
       no_refusals _ _ h.allowed (no_refusals _ _ (where_no _ _ (seen_none _ p h.bit))
       (no_refusals _ _ i.allowed (no_refusals _ _ (where_no _ _ (seen_one _ _ p q h.bit i.bit d.0.0)) refl)))

@@ -124,8 +124,15 @@ kind_of_number n c cs s h = rw (s.value, lt-ltb n (2 ^ 32) h) refl
 number_front : (n c d : ℕ) (cs rest : List ℕ) → IsSpelled n c cs → Ends d → n < 2 ^ 32 → front_of c (cs ++ d ∷ rest) ≡ one (piece k.Number (c ∷ cs))
 number_front n c d cs rest s e h =
     let digit : is_digit c ≡ true = and_left _ _ s.all in
-    rw (digit_blank c digit, not_low 47 c (omega arith) digit, digit_letter c digit, no_version c d cs rest (and_right (is_digit c) _ s.all) e, digit,
-    run_digits n c d cs rest s e, kind_of_number n c cs s h) refl
+    rw (
+      digit_blank c digit,
+      not_low 47 c (omega arith) digit,
+      digit_letter c digit,
+      no_version c d cs rest (and_right (is_digit c) _ s.all) e,
+      digit,
+      run_digits n c d cs rest s e,
+      kind_of_number n c cs s h,
+    ) refl
 
 abbrev pub number : ℕ → Part
 number n = word (piece k.Number (decimal n))
@@ -167,5 +174,6 @@ bit_stands n d rest e h =
 
 -- ---- words and signs that are told by computing
 
-pub closed : (p : Part) (c : ℕ) (cs behind : List ℕ) → part_text p ≡ c ∷ cs → front_of c (cs ++ behind) ≡ part_front p → list_all is_ascii (c ∷ cs) ≡ true → Stands p behind
+pub closed : (p : Part) (c : ℕ) (cs behind : List ℕ) → part_text p ≡ c ∷ cs → front_of c (cs ++ behind) ≡ part_front p
+    → list_all is_ascii (c ∷ cs) ≡ true → Stands p behind
 closed p c cs behind t f a = record { first = c; rest = cs; text = t; front = f; ascii = a }

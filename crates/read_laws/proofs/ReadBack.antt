@@ -32,7 +32,8 @@ many_lines : (kind : List ℕ) (number : ℕ) (lists : List (List ℕ)) → leng
 many_lines kind number [] = omega arith
 many_lines kind number (l ∷ ls) =
     let more : length ls ≤ length (list_lines kind (suc number) ls) = many_lines kind (suc number) ls in
-    let parts : length (list_line kind number l ++ list_lines kind (suc number) ls) ≡ length (list_line kind number l) + length (list_lines kind (suc number) ls) =
+    let parts : length (list_line kind number l ++ list_lines kind (suc number) ls) ≡ length (list_line kind number l) + length (list_lines kind
+    (suc number) ls) =
     length-append (list_line kind number l) (list_lines kind (suc number) ls) in
     let some : 0 < length (list_line kind number l) = omega arith in
     omega arith
@@ -47,7 +48,8 @@ few_lists f h =
     let outs : length f.outs ≤ length (list_lines (codes "out") 0 f.outs) = many_lines (codes "out") 0 f.outs in
     let e1 : length (text_of f) ≡ length (head_text n b f.ins) + length tail = length-append (head_text n b f.ins) tail in
     let e2 : length (head_text n b f.ins) ≡ length (start_text n) + length heads = length-append (start_text n) heads in
-    let e3 : length heads ≡ length (outcome_lines 0 b) + length (list_lines (codes "in") 0 f.ins) = length-append (outcome_lines 0 b) (list_lines (codes "in") 0 f.ins) in
+    let e3 : length heads ≡ length (outcome_lines 0 b) + length (list_lines (codes "in") 0 f.ins) = length-append (outcome_lines 0 b) (list_lines
+    (codes "in") 0 f.ins) in
     let e4 : length tail ≡ length (gate_lines f.circuit.gates) + length (out_text f.outs) = length-append (gate_lines f.circuit.gates) (out_text f.outs) in
     (omega arith, omega arith)
 
@@ -83,12 +85,23 @@ at_end end at s = refl
 
 read_whole : (text : List ℕ) (s : State) → Reads a_text at_start s text → read_chars text ≡ Ok (read_form s)
 read_whole text s h =
-    ap (read_on (end_of text) a_text at_start start) (sym (append-nil text)) ∙ h.goes (end_of text) start [] refl ∙ at_end (end_of text) (behind_all start text) s
+    ap (read_on (end_of text) a_text at_start start) (sym (append-nil text)) ∙ h.goes (end_of text) start [] refl
+    ∙ at_end (end_of text) (behind_all start text) s
 
 form_is : (f : ReadForm) → read_form (final f) ≡ f
 form_is f =
-    ap (λ n. record { circuit = record { qubits = n; bits = width (bit_registers 0 f.circuit.bits); gates = f.circuit.gates }; ins = f.ins; outs = f.outs }) (qubit_width f.circuit.qubits)
-    ∙ ap (λ b. record { circuit = record { qubits = f.circuit.qubits; bits = b; gates = f.circuit.gates }; ins = f.ins; outs = f.outs }) (bit_width f.circuit.bits 0)
+    ap (λ n. record {
+      circuit = record {
+        qubits = n;
+        bits = width
+            (bit_registers 0 f.circuit.bits);
+        gates = f.circuit.gates;
+      };
+      ins = f.ins;
+      outs = f.outs;
+    }) (qubit_width f.circuit.qubits)
+    ∙ ap (λ b. record { circuit = record { qubits = f.circuit.qubits; bits = b; gates = f.circuit.gates }; ins = f.ins; outs = f.outs })
+    (bit_width f.circuit.bits 0)
 
 of_ascii : (cs : List ℕ) → list_all is_ascii cs ≡ true → IsAscii cs
 of_ascii [] h i = omega arith
@@ -105,7 +118,8 @@ short_enough n h = of (nat_lt 268435456 n) refl
 pub read_back : WrittenTextsReadBack
 read_back f r =
     let h : Reads a_text at_start (final f) (text_of f) = text_read f r in
-    ap (λ b. if b then Err (Limit (record { which = limits.Text; count = 268435457 })) else read_chars (chars (text_of f))) (short_enough (length (text_of f)) r.short)
+    ap (λ b. if b then Err (Limit (record { which = limits.Text; count = 268435457 })) else read_chars (chars (text_of f))) (short_enough (length
+    (text_of f)) r.short)
     ∙ ap read_chars (chars-IsAscii (text_of f) (of_ascii (text_of f) h.ascii))
     ∙ read_whole (text_of f) (final f) h
     ∙ ap Ok (form_is f)

@@ -68,11 +68,13 @@ sum_from a (suc n) first = let e : fold (λ x r. x + r.size) (a + 1) (bit_regist
 pub bit_width : (n first : ℕ) → width (bit_registers first n) ≡ n
 bit_width n first = sum_from 0 n first ∙ omega arith
 
-pub bits_is : (n i first : ℕ) → i < 2 ^ 64 → first ≤ i → i < first + n → bits_from first (bit_registers first n) (bit_name i) ≡ Some (record { first = i; size = 1 })
+pub bits_is : (n i first : ℕ) → i < 2 ^ 64 → first ≤ i → i < first + n
+    → bits_from first (bit_registers first n) (bit_name i) ≡ Some (record { first = i; size = 1 })
 bits_is zero i first h k l = absurd (omega arith)
 bits_is (suc n) i first h k l = of (nat_eq first i) refl (λ m. bits_is n i (suc first) h m (omega arith))
   where
-    of : (b : Bool) → nat_eq first i ≡ b → (suc first ≤ i → bits_from (suc first) (bit_registers (suc first) n) (bit_name i) ≡ Some (record { first = i; size = 1 }))
+    of : (b : Bool) → nat_eq first i ≡ b → (suc first ≤ i
+        → bits_from (suc first) (bit_registers (suc first) n) (bit_name i) ≡ Some (record { first = i; size = 1 }))
         → bits_from first (bit_registers first (suc n)) (bit_name i) ≡ Some (record { first = i; size = 1 })
     of true e f = let same : first ≡ i = (Decides-eqb first i).0 e in rw same (rw (same_text (bit_name i)) refl)
     of false e f =

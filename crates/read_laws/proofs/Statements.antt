@@ -93,9 +93,11 @@ module _ (n b : ℕ) (gates : List Gate) (ins outs : List (List ℕ)) (few : n <
       let q : Place = behind_parts (behind_qubit p a) (comma ∷ []) in
       let r : Place = behind_parts (behind_qubit q c) (comma ∷ []) in
       record {
-        allowed = three_allowed (qubit_registers n) (operand_at p a) (operand_at q c) (operand_at r t) a c t (name_at p a h.0) (name_at q c h.1.0) (name_at r t h.1.1.0) d;
+        allowed = three_allowed (qubit_registers n) (operand_at p a) (operand_at q c) (operand_at r t) a c t (name_at p a h.0) (name_at q c h.1.0)
+            (name_at r t h.1.1.0) d;
         spelled = ap (plain_of k.Ccx)
-            (three_named (qubit_registers n) (operand_at p a) (operand_at q c) (operand_at r t) a c t (name_at p a h.0) (name_at q c h.1.0) (name_at r t h.1.1.0));
+            (three_named (qubit_registers n) (operand_at p a) (operand_at q c) (operand_at r t) a c t (name_at p a h.0) (name_at q c h.1.0)
+            (name_at r t h.1.1.0));
       }
 
   plain_allowed : (g : PlainGate) (at : Place) → IsPlainIn here g (tokens_at at (plain_parts g)) → length gates < 6000000
@@ -105,7 +107,8 @@ module _ (n b : ℕ) (gates : List Gate) (ins outs : List (List ℕ)) (few : n <
   plain_allowed (PlainCz c t) at p h = no_refusals _ _ p.allowed (count_none here (token_of k.Cz (codes "cz") at) h)
   plain_allowed (PlainCcx a c t) at p h = no_refusals _ _ p.allowed (count_none here (token_of k.Ccx (codes "ccx") at) h)
 
-  plain_after : (g : PlainGate) (at : Place) → after here (tokens_at at (plain_parts g)) ≡ with_gate here (option_map as_gate (plain_in here (tokens_at at (plain_parts g))))
+  plain_after : (g : PlainGate) (at : Place)
+      → after here (tokens_at at (plain_parts g)) ≡ with_gate here (option_map as_gate (plain_in here (tokens_at at (plain_parts g))))
   plain_after (PlainOne kind q) at = refl
   plain_after (PlainCx c t) at = refl
   plain_after (PlainCz c t) at = refl
@@ -127,7 +130,8 @@ module _ (n b : ℕ) (gates : List Gate) (ins outs : List (List ℕ)) (few : n <
 
   -- ---- if
 
-  held_is : (first : Token) (g : PlainGate) (at : Place) → held_refusals here first (tokens_at at (plain_parts g)) ≡ refusals_in here (tokens_at at (plain_parts g))
+  held_is : (first : Token) (g : PlainGate) (at : Place)
+      → held_refusals here first (tokens_at at (plain_parts g)) ≡ refusals_in here (tokens_at at (plain_parts g))
   held_is first (PlainOne kind q) at = refl
   held_is first (PlainCx c t) at = refl
   held_is first (PlainCz c t) at = refl
@@ -154,7 +158,8 @@ module _ (n b : ℕ) (gates : List Gate) (ins outs : List (List ℕ)) (few : n <
       ∙ ap (λ x. with_gate here (if_from (Some (record { first = bit; size = 1 })) (Some x) (plain_in here ts))) v
       ∙ ap (λ x. with_gate here (if_from (Some (record { first = bit; size = 1 })) (Some value) x)) p.spelled
 
-  pub if_item : (bit value : ℕ) (g : PlainGate) → AllBelow n (gate_qubits g) → AllDiffer (gate_qubits g) → bit < b → b < 2 ^ 32 → value < 2 ^ 32 → length gates < 6000000
+  pub if_item : (bit value : ℕ) (g : PlainGate) → AllBelow n (gate_qubits g) → AllDiffer (gate_qubits g) → bit < b → b < 2 ^ 32 → value < 2 ^ 32
+      → length gates < 6000000
       → IsItem items here (state_of n b (gates ++ If bit value g ∷ []) ins outs) (if_parts bit value g)
   if_item bit value g h d m f v l =
       let e : bits_of (bit_registers 0 b) (bit_name bit) ≡ Some (record { first = bit; size = 1 }) = bit_is b bit (omega arith) m in
@@ -177,14 +182,17 @@ module _ (n b : ℕ) (gates : List Gate) (ins outs : List (List ℕ)) (few : n <
       let p : Place = behind_parts (behind_qubit at q) (space ∷ word (piece k.Arrow (codes "->")) ∷ space ∷ []) in
       indexed (bit_name bit) p (behind_parts p (bit_part bit ∷ left ∷ [])) (48 ∷ [])
 
-  measure_allowed : (q bit : ℕ) (at : Place) → Names (qubit_registers n) (operand_at (behind_parts at (word (piece k.Measure (codes "measure")) ∷ space ∷ [])) q) q
+  measure_allowed : (q bit : ℕ) (at : Place)
+      → Names (qubit_registers n) (operand_at (behind_parts at (word (piece k.Measure (codes "measure")) ∷ space ∷ [])) q) q
       → Names (bit_registers 0 b) (outcome_at (behind_parts at (word (piece k.Measure (codes "measure")) ∷ space ∷ [])) q bit) bit
       → Absent bit (measured_bits gates) → length gates < 6000000 → refusals_of here true (tokens_at at (measure_parts q bit)) ≡ []
   measure_allowed q bit at x y f h =
       no_refusals _ _ (no_refusals _ _ x.allowed (no_refusals _ _ y.allowed
-      (where_no _ _ (ap (is_among (all_some (measured_bits gates))) y.bit ∙ not_among (measured_bits gates) bit f)))) (count_none here (token_of k.Measure (codes "measure") at) h)
+      (where_no _ _ (ap (is_among (all_some (measured_bits gates))) y.bit
+      ∙ not_among (measured_bits gates) bit f)))) (count_none here (token_of k.Measure (codes "measure") at) h)
 
-  measure_after : (q bit : ℕ) (at : Place) → Names (qubit_registers n) (operand_at (behind_parts at (word (piece k.Measure (codes "measure")) ∷ space ∷ [])) q) q
+  measure_after : (q bit : ℕ) (at : Place)
+      → Names (qubit_registers n) (operand_at (behind_parts at (word (piece k.Measure (codes "measure")) ∷ space ∷ [])) q) q
       → Names (bit_registers 0 b) (outcome_at (behind_parts at (word (piece k.Measure (codes "measure")) ∷ space ∷ [])) q bit) bit
       → after here (tokens_at at (measure_parts q bit)) ≡ state_of n b (gates ++ Measure q bit ∷ []) ins outs
   measure_after q bit at x y =

@@ -37,7 +37,8 @@ module _ (n b : ℕ) (ins outs : List (List ℕ)) (few_qubits : n < 2 ^ 32) (few
       reads_line items _ _ (if_parts bit value g) _ (if_text bit value g)
       (if_item n b done ins outs few_qubits bit value g f.qubits_in_range f.qubits_differ f.bits_in_range.0 few_bits v l)
 
-  pub gates_read : (done gs : List Gate) → All (GateFits n b) gs → All ValueFits gs → AllDiffer (measured_bits done ++ measured_bits gs) → length done + length gs ≤ 6000000
+  pub gates_read : (done gs : List Gate) → All (GateFits n b) gs → All ValueFits gs → AllDiffer (measured_bits done ++ measured_bits gs)
+      → length done + length gs ≤ 6000000
       → Reads items (state_of n b done ins outs) (state_of n b (done ++ gs) ins outs) (gate_lines gs)
   gates_read done [] f v a l = subst (λ z. Reads items (state_of n b done ins outs) (state_of n b z ins outs) []) (sym (append-nil done)) (reads_nothing _)
   gates_read done (g ∷ gs) f v a l =
@@ -48,7 +49,8 @@ module _ (n b : ℕ) (ins outs : List (List ℕ)) (few_qubits : n < 2 ^ 32) (few
       let first : Reads items (state_of n b done ins outs) (state_of n b (done ++ g ∷ []) ins outs) (gate_line g) =
       gate_read done g (All-head (GateFits n b) g gs f) (All-head ValueFits g gs v) (front_differs _ (measured_bits gs) each) (omega arith) in
       let others : Reads items (state_of n b (done ++ g ∷ []) ins outs) (state_of n b ((done ++ g ∷ []) ++ gs) ins outs) (gate_lines gs) =
-      gates_read (done ++ g ∷ []) gs (All-tail (GateFits n b) g gs f) (All-tail ValueFits g gs v) (subst (λ z. AllDiffer (z ++ measured_bits gs)) (sym now) each)
+      gates_read (done ++ g ∷ []) gs (All-tail (GateFits n b) g gs f) (All-tail ValueFits g gs v) (subst (λ z. AllDiffer (z ++ measured_bits gs))
+      (sym now) each)
       (omega (arith, length-append done (g ∷ []))) in
       subst (λ z. Reads items (state_of n b done ins outs) (state_of n b z ins outs) (gate_lines (g ∷ gs))) (append_assoc done (g ∷ []) gs)
       (reads_both items _ _ _ (gate_line g) (gate_lines gs) first others)
