@@ -5,6 +5,7 @@ pub mod Kept
 pub mod Bits
 pub mod Allowed
 pub mod Items
+pub mod Accepted
 pub mod Cuts
 pub mod Spaces
 pub mod Plain

@@ -6,6 +6,7 @@ pub mod Refusals
 pub mod Earlier
 pub mod Statements
 pub mod Declarations
+pub mod Added
 pub mod Text
 pub mod Read
 pub mod Written

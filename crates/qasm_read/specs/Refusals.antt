@@ -113,6 +113,13 @@ count_refusals s whole first = where_ (whole && not (nat_lt (length s.gates) 600
 abbrev pub gate_refusals : State → Token → List Token → List Refusal
 gate_refusals s name ts = where_ (not s.included) (bad name.at cause.Undeclared) ++ qubit_refusals s.qubits [] (operands ts)
 
+abbrev pub all_some : List ℕ → List (Option ℕ)
+all_some [] = []
+all_some (b ∷ bs) = Some b ∷ all_some bs
+
+abbrev pub measured : State → List (Option ℕ)
+measured s = all_some (measured_bits s.gates)
+
 -- the first operand of a measure is a qubit and the second a bit that was not measured before
 abbrev pub measure_refusals : State → Token → List Operand → List Refusal
 measure_refusals s first [] = []
@@ -120,13 +127,6 @@ measure_refusals s first (q ∷ []) = operand_refusals s.qubits q
 measure_refusals s first (q ∷ c ∷ os) =
     operand_refusals s.qubits q ++ (operand_refusals s.bits c
     ++ where_ (is_among (measured s) (bit_named s.bits c)) (unsupported first.at what.Remeasure))
-  where
-    all_some : List ℕ → List (Option ℕ)
-    all_some [] = []
-    all_some (b ∷ bs) = Some b ∷ all_some bs
-
-    measured : State → List (Option ℕ)
-    measured s = all_some (measured_bits s.gates)
 
 abbrev pub barrier_refusals : State → List Operand → List Refusal
 barrier_refusals s [] = []

@@ -3,7 +3,6 @@
 
 pub mod fault;
 mod gate;
-mod gates;
 mod line;
 mod named;
 pub mod operand;
