@@ -1,6 +1,7 @@
 -- A whole item without a refusal gives a statement that the circuit so far accepts.
-use Rattle.std.proofs.Common.{◌≡◌, ℕ, zero, suc, ◌+◌, ◌-◌, ◌<◌, ◌≤◌, Bool, true, false, not, List, [], ◌∷◌, ◌++◌, length, take, drop, get_or, Contains, refl, sym, ◌∙◌, ap, arith}
-use Rattle.std.specs.Prelude.{Option, Some, None, IfSome, filter_map, option_map, option_and_then, slice_get, nat_lt, ◌==◌, ◌||◌, if◌then◌else◌}
+use Rattle.std.proofs.Common.{◌≡◌, ℕ, zero, suc, ◌+◌, ◌-◌, ◌<◌, ◌≤◌, Bool, true, false, not, refl, sym, ◌∙◌, ap, arith}
+use Rattle.std.proofs.Common.{List, [], ◌∷◌, ◌++◌, length, take, drop, get_or, Contains}
+use Rattle.std.specs.Prelude.{Option, Some, None, IfSome, filter_map, option_map, option_and_then, slice_get, nat_lt, ◌==◌, if◌then◌else◌}
 use Rattle.std.specs.List.{cons_option}
 use Rattle.std.proofs.lemmas.Bool.{true≢false, ltb-true, eqb-true, eq-eqb, not-false, or_left, or_right, or_parts}
 use Rattle.silq_io.specs.declared.fault.SyntaxCause.TheVariants as cause
@@ -19,9 +20,11 @@ use Rattle.qasm_read.specs.declared.operand.Index.TheVariants.{Bare, Open, At}
 use Rattle.qasm_read.specs.Registers.{Register, bit_in, bit_of, bits_of, width}
 use Rattle.qasm_read.specs.State.{State}
 use Rattle.qasm_read.specs.Read.{tokens_of}
-use Rattle.qasm_read.specs.Refusals.{bad, Operand, operands, bit_at, bit_named, operand_refusals, is_among, where_, qubit_refusals, gate_refusals, all_some, measured, measure_refusals, wide_refusals, condition_refusals, held_by, held_refusals, if_refusals, refusals_by, refusals_of}
+use Rattle.qasm_read.specs.Refusals.{bad, where_, Operand, operands, bit_at, bit_named, operand_refusals, is_among, qubit_refusals, gate_refusals}
+use Rattle.qasm_read.specs.Refusals.{all_some, measured, measure_refusals, wide_refusals, condition_refusals, held_by, held_refusals, if_refusals}
+use Rattle.qasm_read.specs.Refusals.{refusals_by, refusals_of}
 use Rattle.qasm_read.specs.Statements.{plain_of, plain_in, measure_from, measure_of, if_from, bits_named, value_of, if_of}
-use Rattle.qasm_read.specs.Added.{MayAdd}
+use Rattle.qasm_read.specs.Added.{MayAdd, gate_behind}
 use Rattle.qasm_read.proofs.Found.{bits_within}
 use Rattle.qasm_read.proofs.Allowed.{none_where, left_none, right_none}
 use Rattle.qasm_read.proofs.Items.{behind_first}
@@ -74,7 +77,8 @@ still_among : (seen : List (Option ℕ)) (q : ℕ) (x : Option ℕ) → is_among
 still_among seen q None s = s
 still_among seen q (Some p) s = or_right (p == q) (is_among seen (Some q)) s
 
-one_absent : (seen : List (Option ℕ)) (q : ℕ) (x : Option ℕ) (bs : List ℕ) → is_among seen (Some q) ≡ true → is_among seen x ≡ false → Absent q bs → Absent q (cons_option x bs)
+one_absent : (seen : List (Option ℕ)) (q : ℕ) (x : Option ℕ) (bs : List ℕ) → is_among seen (Some q) ≡ true → is_among seen x ≡ false → Absent q bs
+    → Absent q (cons_option x bs)
 one_absent seen q None bs s n h = h
 one_absent seen q (Some p) bs s n h = ((λ e. true≢false (sym s ∙ (ap (λ (y : ℕ). is_among seen (Some y)) (sym e) ∙ n))), h)
 
@@ -89,13 +93,15 @@ module _ (rs : List Register) (seen : List (Option ℕ)) (o : Operand) (os : Lis
   later = right_none (where_ (is_among seen (bit_named rs o)) _) _ behind_operand
 
 -- a qubit that was seen is none of those behind
-all_absent : (rs : List Register) (seen : List (Option ℕ)) (q : ℕ) (os : List Operand) → is_among seen (Some q) ≡ true → qubit_refusals rs seen os ≡ [] → Absent q (all_named rs os)
+all_absent : (rs : List Register) (seen : List (Option ℕ)) (q : ℕ) (os : List Operand) → is_among seen (Some q) ≡ true → qubit_refusals rs seen os ≡ []
+    → Absent q (all_named rs os)
 all_absent rs seen q [] s e = tt
 all_absent rs seen q (o ∷ os) s e =
     one_absent seen q (bit_named rs o) (all_named rs os) s (not_repeated rs seen o os e)
     (all_absent rs (bit_named rs o ∷ seen) q os (still_among seen q (bit_named rs o) s) (later rs seen o os e))
 
-one_differs : (seen : List (Option ℕ)) (x : Option ℕ) (bs : List ℕ) → ((q : ℕ) → is_among (x ∷ seen) (Some q) ≡ true → Absent q bs) → AllDiffer bs → AllDiffer (cons_option x bs)
+one_differs : (seen : List (Option ℕ)) (x : Option ℕ) (bs : List ℕ) → ((q : ℕ) → is_among (x ∷ seen) (Some q) ≡ true → Absent q bs)
+    → AllDiffer bs → AllDiffer (cons_option x bs)
 one_differs seen None bs a d = d
 one_differs seen (Some p) bs a d = (a p (or_left (p == p) (is_among seen (Some p)) (eq-eqb p p refl)), d)
 
@@ -152,7 +158,8 @@ plain_by s first ts k.Cz e = plain_accepted s _ (gate_placed s first ts k.Cz (le
 plain_by s first ts k.Ccx e = plain_accepted s _ (gate_placed s first ts k.Ccx (left_none (gate_refusals s first ts) _ e))
 plain_by s first ts _ e = tt
 
-pub accepts_plain : (s : State) (first : Token) (ts : List Token) → refusals_of s true (first ∷ ts) ≡ [] → MayAdd s (option_map as_gate (plain_in s (first ∷ ts)))
+pub accepts_plain : (s : State) (first : Token) (ts : List Token) → refusals_of s true (first ∷ ts) ≡ []
+    → MayAdd s (option_map as_gate (plain_in s (first ∷ ts)))
 accepts_plain s first ts e = plain_by s first ts first.kind e
 
 -- ---- measures
@@ -165,7 +172,8 @@ not_measured bs c e h = go bs e h.0 h.1 h.2
     go (b ∷ bs) e zero l h = true≢false (sym (eq-eqb b c h) ∙ (or_parts (b == c) (is_among (all_some bs) (Some c)) e).0)
     go (b ∷ bs) e (suc i) l h = go bs (or_parts (b == c) (is_among (all_some bs) (Some c)) e).1 i (omega (arith, l)) h
 
-measure_from-accepted : (s : State) (x y : Option ℕ) → IfSome x (λ q. q < width s.qubits) → IfSome y (λ c. c < width s.bits) → is_among (measured s) y ≡ false → MayAdd s (measure_from x y)
+measure_from-accepted : (s : State) (x y : Option ℕ) → IfSome x (λ q. q < width s.qubits) → IfSome y (λ c. c < width s.bits)
+    → is_among (measured s) y ≡ false → MayAdd s (measure_from x y)
 measure_from-accepted s None y a b e = tt
 measure_from-accepted s (Some q) None a b e = tt
 measure_from-accepted s (Some q) (Some c) a b e = record {
@@ -181,13 +189,16 @@ measure_accepted s first (q ∷ c ∷ []) e =
     (none_where (is_among (measured s) (bit_named s.bits c)) _ (right_none (operand_refusals s.bits c) _ (right_none (operand_refusals s.qubits q) _ e)))
 measure_accepted s first (q ∷ c ∷ o ∷ os) e = tt
 
-pub accepts_measure : (s : State) (first : Token) (ts : List Token) → first.kind ≡ k.Measure → refusals_of s true (first ∷ ts) ≡ [] → MayAdd s (measure_of s (operands ts))
+pub accepts_measure : (s : State) (first : Token) (ts : List Token) → first.kind ≡ k.Measure → refusals_of s true (first ∷ ts) ≡ []
+    → MayAdd s (measure_of s (operands ts))
 accepts_measure s first ts m e =
-    measure_accepted s first (operands ts) (left_none (measure_refusals s first (operands ts)) _ (ap (λ (kind : Kind). refusals_by s true first ts kind) (sym m) ∙ e))
+    let all : refusals_by s true first ts k.Measure ≡ [] = ap (λ (kind : Kind). refusals_by s true first ts kind) (sym m) ∙ e in
+    measure_accepted s first (operands ts) (left_none (measure_refusals s first (operands ts)) _ all)
 
 -- ---- statements under `if`
 
-wide_below : (n : ℕ) (first name : Token) (o : Option Bits) → IfSome o (λ b. b.first + b.size ≤ n) → wide_refusals first name o ≡ [] → IfSome o (λ b. b.first < n)
+wide_below : (n : ℕ) (first name : Token) (o : Option Bits) → IfSome o (λ b. b.first + b.size ≤ n) → wide_refusals first name o ≡ []
+    → IfSome o (λ b. b.first < n)
 wide_below n first name None h e = tt
 wide_below n first name (Some b) h e =
     let one : b.size ≡ 1 = eqb-true b.size 1 (not-false (b.size == 1) (none_where (not (b.size == 1)) _ e)) in omega (arith, h, one)
@@ -208,7 +219,8 @@ held_placed : (s : State) (first : Token) (ts : List Token) → held_refusals s 
 held_placed s first [] e = tt
 held_placed s first (t ∷ ts) e = held_by-placed s first t ts t.kind e
 
-if_from-accepted : (s : State) (b : Option Bits) (v : Option ℕ) (g : Option PlainGate) → IfSome b (λ b. b.first < width s.bits) → IfSome g (IsPlaced (width s.qubits)) → MayAdd s (if_from b v g)
+if_from-accepted : (s : State) (b : Option Bits) (v : Option ℕ) (g : Option PlainGate) → IfSome b (λ b. b.first < width s.bits)
+    → IfSome g (IsPlaced (width s.qubits)) → MayAdd s (if_from b v g)
 if_from-accepted s (Some b) (Some v) (Some g) l h = record {
   fits = record { qubits_in_range = h.below; qubits_differ = h.differ; bits_in_range = (l, tt) };
   measures_new = tt;
@@ -222,17 +234,19 @@ if_accepted s first ts e =
     (held_placed s first (drop 5 ts) (right_none (condition_refusals s first (slice_get ts 1)) _ e))
 
 pub accepts_if : (s : State) (first : Token) (ts : List Token) → first.kind ≡ k.If → refusals_of s true (first ∷ ts) ≡ [] → MayAdd s (if_of s ts)
-accepts_if s first ts m e = if_accepted s first ts (left_none (if_refusals s first ts) _ (ap (λ (kind : Kind). refusals_by s true first ts kind) (sym m) ∙ e))
+accepts_if s first ts m e =
+    let all : refusals_by s true first ts k.If ≡ [] = ap (λ (kind : Kind). refusals_by s true first ts kind) (sym m) ∙ e in
+    if_accepted s first ts (left_none (if_refusals s first ts) _ all)
 
 -- ---- the tokens of the program
 
 pub allowed_plain : (s : State) (ts : List ReadToken) (d : ReadToken) → 1 ≤ length ts → refusals_of s true (tokens_of ts) ≡ []
-    → MayAdd s (option_map as_gate (plain_of (get_or ts 0 d).kind (filter_map (λ o. bit_named s.qubits o) (operands (tokens_of (take (length ts - 1) (drop 1 ts)))))))
+    → MayAdd s (gate_behind s (get_or ts 0 d).kind (tokens_of (take (length ts - 1) (drop 1 ts))))
 allowed_plain s [] d l e = absurd (omega arith)
 allowed_plain s (t ∷ ts) d l e = rw (behind_first 1 (t ∷ ts)) (accepts_plain s (token_of t) (tokens_of ts) e)
 
-pub allowed_measure : (s : State) (ts : List ReadToken) (d : ReadToken) → 1 ≤ length ts → (get_or ts 0 d).kind ≡ k.Measure → refusals_of s true (tokens_of ts) ≡ []
-    → MayAdd s (measure_of s (operands (tokens_of (take (length ts - 1) (drop 1 ts)))))
+pub allowed_measure : (s : State) (ts : List ReadToken) (d : ReadToken) → 1 ≤ length ts → (get_or ts 0 d).kind ≡ k.Measure
+    → refusals_of s true (tokens_of ts) ≡ [] → MayAdd s (measure_of s (operands (tokens_of (take (length ts - 1) (drop 1 ts)))))
 allowed_measure s [] d l m e = absurd (omega arith)
 allowed_measure s (t ∷ ts) d l m e = rw (behind_first 1 (t ∷ ts)) (accepts_measure s (token_of t) (tokens_of ts) m e)
 

@@ -1,11 +1,10 @@
 //! What an item that is not refused does.
 
-ghost use Rattle.std.specs.Prelude.{◌≡◌, ◌^◌, ◌<◌, ◌++◌, [], true, All, IfOk, OnErr, OnOk, filter_map, option_map};
-ghost use Rattle.gate_core.specs.Local.{as_gate as spec_as_gate};
+ghost use Rattle.std.specs.Prelude.{◌≡◌, ◌^◌, ◌<◌, ◌++◌, [], true, All, IfOk, OnErr, OnOk, filter_map};
 ghost use Rattle.qasm_read.specs.Read.{IsSpelled, operands_of, tokens_of};
 ghost use Rattle.qasm_read.specs.Refusals as refusals;
 ghost use Rattle.qasm_read.specs.Refusals.{bit_named, refusals_of};
-ghost use Rattle.qasm_read.specs.Added.{MayAdd};
+ghost use Rattle.qasm_read.specs.Added.{MayAdd, gate_behind};
 ghost use Rattle.qasm_read.specs.Declarations.{MayDeclare};
 ghost use Rattle.qasm_read.specs.Statements as spec;
 ghost use Rattle.qasm_read.specs.Statements.{after, declared_by};
@@ -89,8 +88,8 @@ impl<'s> State<'s> {
     /// Adds the gate whose name has this kind, with the tokens behind the name.
     fn add_plain(&mut self, alloc: Global, kind: Kind, tokens: &[Token]) -> Result<(), AllocError>
         requires spelled { All IsSpelled tokens.now }
-        requires accepted { MayAdd self.old (option_map spec_as_gate (spec.plain_of kind (filter_map (λ o. bit_named self.old.qubits o) (refusals.operands (tokens_of tokens.now))))) }
-        ensures { OnOk result (self.new ≡ spec.with_gate self.old (option_map spec_as_gate (spec.plain_of kind (filter_map (λ o. bit_named self.old.qubits o) (refusals.operands (tokens_of tokens.now)))))) }
+        requires accepted { MayAdd self.old (gate_behind self.old kind (tokens_of tokens.now)) }
+        ensures { OnOk result (self.new ≡ spec.with_gate self.old (gate_behind self.old kind (tokens_of tokens.now))) }
     {
         let gate = self.plain_from(alloc, kind, tokens)?;
         self.add(gate.map(|gate| as_gate(gate)))
