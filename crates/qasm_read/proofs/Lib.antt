@@ -2,10 +2,10 @@ pub mod Order
 pub mod Found
 pub mod Operands
 pub mod Kept
+pub mod Accepted
 pub mod Bits
 pub mod Allowed
 pub mod Items
-pub mod Accepted
 pub mod Cuts
 pub mod Spaces
 pub mod Plain
