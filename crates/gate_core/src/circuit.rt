@@ -86,6 +86,16 @@ impl Circuit {
         self.measured.contains(&bit)
     }
 
+    /// The same statements on more qubits and classical bits, or as many.
+    pub fn widen(&mut self, qubits: u32, bits: u32)
+        requires qubits { self.old.qubits ≤ qubits }
+        requires bits { self.old.bits ≤ bits }
+        ensures { self.new ≡ record self.old { qubits = qubits; bits = bits } }
+    {
+        self.qubits = qubits;
+        self.bits = bits;
+    }
+
     /// Whether a statement may be added.
     pub fn accepts(&self, gate: Gate) -> bool
         ensures { IsTrue result ↔ Accepts self.now gate }
