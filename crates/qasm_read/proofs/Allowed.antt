@@ -13,15 +13,15 @@ use Rattle.qasm_read.specs.State.{State}
 use Rattle.qasm_read.specs.Refusals.{Operand, where_, size_refusals, declaration_refusals}
 use Rattle.qasm_read.specs.Declarations.{Fits, MayDeclare}
 
-none_where : (b : Bool) (r : Refusal) → where_ b r ≡ [] → b ≡ false
+pub none_where : (b : Bool) (r : Refusal) → where_ b r ≡ [] → b ≡ false
 none_where true r e = absurd (cc)
 none_where false r e = refl
 
-left_none : (xs ys : List Refusal) → xs ++ ys ≡ [] → xs ≡ []
+pub left_none : (xs ys : List Refusal) → xs ++ ys ≡ [] → xs ≡ []
 left_none [] ys e = refl
 left_none (x ∷ xs) ys e = absurd (cc)
 
-right_none : (xs ys : List Refusal) → xs ++ ys ≡ [] → ys ≡ []
+pub right_none : (xs ys : List Refusal) → xs ++ ys ≡ [] → ys ≡ []
 right_none [] ys e = e
 right_none (x ∷ xs) ys e = absurd (cc)
 

@@ -5,6 +5,7 @@ pub mod Twice
 pub mod Found
 pub mod Operands
 pub mod Kept
+pub mod Accepted
 pub mod Bits
 pub mod Allowed
 pub mod Items

@@ -7,6 +7,7 @@ pub mod Seen
 pub mod Earlier
 pub mod Statements
 pub mod Declarations
+pub mod Added
 pub mod Text
 pub mod Read
 pub mod Written

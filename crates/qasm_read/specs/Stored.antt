@@ -1,9 +1,8 @@
--- Registers, statements and named qubits as the program keeps them.
+-- Registers, the circuit and named qubits as the program keeps them.
 use Rattle.std.specs.Prelude.{◌≡◌, ◌↔◌, ℕ, ◌+◌, ◌<◌, ◌^◌, List, [], ◌∷◌, Contains, flat_map}
 use Rattle.std.specs.Str.{chars, IsUtf8}
 use denote.Bor.{Bor}
-use Rattle.gate_core.specs.declared.gate.Gate.{Gate}
-use Rattle.gate_core.specs.Circuit.{measured_bits}
+use Rattle.gate_core.specs.Circuit.{CircuitForm}
 use Rattle.qasm_read.specs.declared.registers.Bits.{Bits}
 use Rattle.qasm_read.specs.Registers.{Register, width}
 
@@ -24,9 +23,10 @@ pub record IsStored (entries : List (Bor (List ℕ) × Bits)) (total : ℕ) : Ty
   pub total_is : total ≡ width (registers_of entries)
   pub small : total < 2 ^ 32
 
--- the set has the bits that the statements measure
-pub record IsMeasured (gates : List Gate) (measured : List ℕ) : Type 0 where
-  pub index : (b : ℕ) → Contains measured b ↔ Contains (measured_bits gates) b
+-- the circuit has all the qubits and bits of the registers
+pub record HasAll (circuit : CircuitForm) (qubits bits : List Register) : Type 0 where
+  pub qubits_are : circuit.qubits ≡ width qubits
+  pub bits_are : circuit.bits ≡ width bits
 
 -- the set has the qubits of all the lists
 pub record IsNamed (lists : List (List ℕ)) (qubits : List ℕ) : Type 0 where

@@ -4,15 +4,13 @@ ghost use Rattle.std.specs.Prelude.{◌≡◌, map};
 ghost use Rattle.qasm_read.specs.State.{read_form};
 
 use crate::state::State;
-use gate_core::Gate;
+use gate_core::Circuit;
 use std::marker::Model;
 
 /// What a text spells: a circuit, and the qubits of each parameter and of each returned value.
 #[derive(Drop)]
 pub struct ReadCircuit {
-    qubits: u32,
-    bits: u32,
-    gates: Vec<Gate>,
+    circuit: Circuit,
     ins: Vec<Vec<u32>>,
     outs: Vec<Vec<u32>>,
 }
@@ -24,7 +22,7 @@ impl Model for ReadCircuit {
     ghost Value = { ReadForm };
 
     ghost view = { λ c. record {
-      circuit = record { qubits = c.qubits; bits = c.bits; gates = c.gates.items };
+      circuit = c.circuit;
       ins = map (λ l. l.items) c.ins.items;
       outs = map (λ l. l.items) c.outs.items;
     } };
@@ -35,21 +33,21 @@ impl ReadCircuit {
     pub fn qubits(&self) -> u32
         ensures { result ≡ self.now.circuit.qubits }
     {
-        self.qubits
+        self.circuit.qubits()
     }
 
     /// How many classical bits.
     pub fn bits(&self) -> u32
         ensures { result ≡ self.now.circuit.bits }
     {
-        self.bits
+        self.circuit.bits()
     }
 
-    /// The statements, in order.
-    pub fn gates(&self) -> &[Gate]
-        ensures { result.now ≡ self.now.circuit.gates }
+    /// The circuit.
+    pub fn circuit(&self) -> &Circuit
+        ensures { result.now ≡ self.now.circuit }
     {
-        &self.gates
+        &self.circuit
     }
 
     /// The qubits of each parameter.
@@ -69,13 +67,11 @@ impl ReadCircuit {
 
 impl<'s> State<'s> {
     /// What the items read so far spell, where they are all.
-    pub(crate) fn into_circuit(self) -> ReadCircuit
+    pub(crate) fn into_read(self) -> ReadCircuit
         ensures { result ≡ read_form self.entry }
     {
         ReadCircuit {
-            qubits: self.qubits.width(),
-            bits: self.bits.width(),
-            gates: self.gates.into_list(),
+            circuit: self.circuit,
             ins: self.ins.into_lists(),
             outs: self.outs.into_lists(),
         }

@@ -4,7 +4,6 @@
 pub mod circuit;
 pub mod fault;
 mod gate;
-mod gates;
 mod line;
 mod named;
 pub mod operand;

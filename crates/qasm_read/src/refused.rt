@@ -12,7 +12,6 @@ ghost use Rattle.qasm_read.specs.Refusals.{first_refusal, refusals_of};
 ghost use Rattle.qasm_read.specs.Seen.{Sees};
 
 use crate::gate::bit_named;
-use crate::gates::Gates;
 use crate::operand::{Index, Operand, operands};
 use crate::refusal::{Refusal, above, bad, earlier, unsupported, where_};
 use crate::registers::{Bits, Registers};
@@ -98,7 +97,7 @@ fn qubits_refusal(
 fn count_refusal(state: &State, whole: bool, first: &Token) -> Option<Refusal>
     ensures { result ≡ first_refusal (spec.count_refusals state.now whole (token_of first.now)) }
 {
-    let is_full = state.gates.len() >= 6_000_000;
+    let is_full = state.len() >= 6_000_000;
     where_(
         whole && is_full,
         above(first.at, LimitKind::Gates, 6_000_000),
@@ -123,11 +122,11 @@ fn gate_refusal(
 }
 
 /// Whether a bit was measured before.
-fn is_remeasured(gates: &Gates, bit: Option<u32>) -> bool
-    ensures { result ≡ spec.is_among (spec.all_some (measured_bits gates.now)) bit }
+fn is_remeasured(state: &State, bit: Option<u32>) -> bool
+    ensures { result ≡ spec.is_among (spec.all_some (measured_bits state.now.gates)) bit }
 {
     match bit {
-        Some(bit) => gates.is_measured(bit),
+        Some(bit) => state.is_measured(bit),
         None => false,
     }
 }
@@ -139,7 +138,7 @@ fn bit_refusal(state: &State, first: &Token, operand: &Operand) -> Option<Refusa
         ++ spec.where_ (spec.is_among (spec.measured state.now) (spec.bit_named state.now.bits (operand_of operand.now)))
         (spec.unsupported first.now.at what.Remeasure)) }
 {
-    let is_again = is_remeasured(&state.gates, bit_named(&state.bits, operand));
+    let is_again = is_remeasured(state, bit_named(&state.bits, operand));
     let again = where_(is_again, unsupported(first.at, What::Remeasure));
     earlier(operand_refusal(&state.bits, operand), again)
 }

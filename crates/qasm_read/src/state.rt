@@ -1,11 +1,12 @@
 //! What the items so far have given.
 
-ghost use Rattle.std.specs.Prelude.{◌≡◌};
+ghost use Rattle.std.specs.Prelude.{◌≡◌, ◌↔◌, length, IsTrue, Contains};
+ghost use Rattle.gate_core.specs.Circuit.{measured_bits};
 ghost use Rattle.qasm_read.specs.State.{at_start};
 
-use crate::gates::Gates;
 use crate::named::Named;
 use crate::registers::Registers;
+use gate_core::Circuit;
 use std::alloc::Global;
 use std::marker::Model;
 
@@ -17,13 +18,14 @@ pub(crate) struct State<'s> {
     pub(crate) included: bool,
     pub(crate) qubits: Registers<'s>,
     pub(crate) bits: Registers<'s>,
-    pub(crate) gates: Gates,
+    pub(crate) circuit: Circuit,
     pub(crate) ins: Named,
     pub(crate) outs: Named,
 }
 
 impl<'s> Model for State<'s> {
     ghost use Rattle.qasm_read.specs.State as spec;
+    ghost use Rattle.qasm_read.specs.Stored.{HasAll};
 
     ghost Value = { spec.State };
 
@@ -31,10 +33,12 @@ impl<'s> Model for State<'s> {
       included = s.included;
       qubits = s.qubits;
       bits = s.bits;
-      gates = s.gates;
+      gates = s.circuit.gates;
       ins = s.ins;
       outs = s.outs;
     } };
+
+    ghost invariant = { λ s. HasAll s.circuit s.qubits s.bits };
 }
 
 impl<'s> State<'s> {
@@ -46,9 +50,23 @@ impl<'s> State<'s> {
             included: false,
             qubits: Registers::new(alloc),
             bits: Registers::new(alloc),
-            gates: Gates::new(alloc),
+            circuit: Circuit::new(alloc, 0, 0),
             ins: Named::new(alloc),
             outs: Named::new(alloc),
         }
+    }
+
+    /// How many statements.
+    pub(crate) fn len(&self) -> usize
+        ensures { result ≡ length self.now.gates }
+    {
+        self.circuit.len()
+    }
+
+    /// Whether a statement measures into this bit.
+    pub(crate) fn is_measured(&self, bit: u32) -> bool
+        ensures { IsTrue result ↔ Contains (measured_bits self.now.gates) bit }
+    {
+        self.circuit.is_measured(bit)
     }
 }

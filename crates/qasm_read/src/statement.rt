@@ -1,10 +1,10 @@
 //! What an item that is not refused does.
 
-ghost use Rattle.std.specs.Prelude.{◌≡◌, ◌^◌, ◌<◌, ◌++◌, [], true, All, IfOk, OnOk, filter_map, option_map};
-ghost use Rattle.gate_core.specs.Local.{as_gate as spec_as_gate};
+ghost use Rattle.std.specs.Prelude.{◌≡◌, ◌^◌, ◌<◌, ◌++◌, [], true, All, IfOk, OnErr, OnOk, filter_map};
 ghost use Rattle.qasm_read.specs.Read.{IsSpelled, operands_of, tokens_of};
 ghost use Rattle.qasm_read.specs.Refusals as refusals;
 ghost use Rattle.qasm_read.specs.Refusals.{bit_named, refusals_of};
+ghost use Rattle.qasm_read.specs.Added.{MayAdd, gate_behind};
 ghost use Rattle.qasm_read.specs.Declarations.{MayDeclare};
 ghost use Rattle.qasm_read.specs.Statements as spec;
 ghost use Rattle.qasm_read.specs.Statements.{after, declared_by};
@@ -20,7 +20,8 @@ use std::alloc::{AllocError, Global};
 /// Adds the register that the first of these operands declares.
 fn declare<'s>(registers: &mut Registers<'s>, operands: &[Operand<'s>]) -> Result<(), AllocError>
     requires { MayDeclare registers.old (operands_of operands.now) }
-    ensures { OnOk result (registers.new ≡ registers.old ++ declared_by (operands_of operands.now)) }
+    ensures ok { OnOk result (registers.new ≡ registers.old ++ declared_by (operands_of operands.now)) }
+    ensures err { OnErr result (registers.new ≡ registers.old) }
 {
     let [operand, ..] = operands else {
         return Ok(());
@@ -75,18 +76,20 @@ impl<'s> State<'s> {
 
     /// Adds a statement, where there is one.
     fn add(&mut self, gate: Option<Gate>) -> Result<(), AllocError>
+        requires { MayAdd self.old gate }
         ensures { OnOk result (self.new ≡ spec.with_gate self.old gate) }
     {
         match gate {
-            Some(gate) => self.gates.push(gate),
+            Some(gate) => self.circuit.push(gate),
             None => Ok(()),
         }
     }
 
     /// Adds the gate whose name has this kind, with the tokens behind the name.
     fn add_plain(&mut self, alloc: Global, kind: Kind, tokens: &[Token]) -> Result<(), AllocError>
-        requires { All IsSpelled tokens.now }
-        ensures { OnOk result (self.new ≡ spec.with_gate self.old (option_map spec_as_gate (spec.plain_of kind (filter_map (λ o. bit_named self.old.qubits o) (refusals.operands (tokens_of tokens.now)))))) }
+        requires spelled { All IsSpelled tokens.now }
+        requires accepted { MayAdd self.old (gate_behind self.old kind (tokens_of tokens.now)) }
+        ensures { OnOk result (self.new ≡ spec.with_gate self.old (gate_behind self.old kind (tokens_of tokens.now))) }
     {
         let gate = self.plain_from(alloc, kind, tokens)?;
         self.add(gate.map(|gate| as_gate(gate)))
@@ -94,7 +97,8 @@ impl<'s> State<'s> {
 
     /// Adds the measurement that the tokens behind `measure` spell.
     fn add_measure(&mut self, alloc: Global, tokens: &[Token]) -> Result<(), AllocError>
-        requires { All IsSpelled tokens.now }
+        requires spelled { All IsSpelled tokens.now }
+        requires accepted { MayAdd self.old (spec.measure_of self.old (refusals.operands (tokens_of tokens.now))) }
         ensures { OnOk result (self.new ≡ spec.with_gate self.old (spec.measure_of self.old (refusals.operands (tokens_of tokens.now)))) }
     {
         let operands = operands(alloc, tokens)?;
@@ -104,7 +108,8 @@ impl<'s> State<'s> {
 
     /// Adds the statement that the tokens behind `if` spell.
     fn add_if(&mut self, alloc: Global, tokens: &[Token]) -> Result<(), AllocError>
-        requires { All IsSpelled tokens.now }
+        requires spelled { All IsSpelled tokens.now }
+        requires accepted { MayAdd self.old (spec.if_of self.old (tokens_of tokens.now)) }
         ensures { OnOk result (self.new ≡ spec.with_gate self.old (spec.if_of self.old (tokens_of tokens.now))) }
     {
         let gate = self.if_of(alloc, tokens)?;
@@ -118,7 +123,9 @@ impl<'s> State<'s> {
         ensures { OnOk result (self.new ≡ record self.old { qubits = self.old.qubits ++ declared_by (refusals.operands (tokens_of tokens.now)) }) }
     {
         let operands = operands(alloc, tokens)?;
-        declare(&mut self.qubits, &operands)
+        declare(&mut self.qubits, &operands)?;
+        self.circuit.widen(self.qubits.width(), self.bits.width());
+        Ok(())
     }
 
     /// Adds the register of classical bits that the tokens behind `creg` declare.
@@ -128,7 +135,9 @@ impl<'s> State<'s> {
         ensures { OnOk result (self.new ≡ record self.old { bits = self.old.bits ++ declared_by (refusals.operands (tokens_of tokens.now)) }) }
     {
         let operands = operands(alloc, tokens)?;
-        declare(&mut self.bits, &operands)
+        declare(&mut self.bits, &operands)?;
+        self.circuit.widen(self.qubits.width(), self.bits.width());
+        Ok(())
     }
 
     /// Does what a whole item without a refusal says. It fails only where memory runs out; the

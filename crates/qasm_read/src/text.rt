@@ -120,5 +120,5 @@ pub fn read(alloc: Global, text: &str) -> Result<ReadCircuit, QasmFault>
     let mut reader = ItemReader::new(alloc, text)?;
     let mut state = State::at_start(alloc);
     state.read_all(alloc, &mut reader)?;
-    Ok(state.into_circuit())
+    Ok(state.into_read())
 }
