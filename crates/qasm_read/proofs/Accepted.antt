@@ -45,7 +45,7 @@ bit_in_below b i w l = go (nat_lt i b.size) refl
     go true e = let k = ltb-true i b.size e in omega (arith, k, l)
     go false e = tt
 
-bit_of_below : (rs : List Register) (name : List ℕ) (i : ℕ) → IfSome (bit_of rs name i) (λ n. n < width rs)
+pub bit_of_below : (rs : List Register) (name : List ℕ) (i : ℕ) → IfSome (bit_of rs name i) (λ n. n < width rs)
 bit_of_below rs name i = go (bits_of rs name) (bits_below rs name)
   where
     go : (o : Option Bits) → IfSome o (λ b. b.first + b.size ≤ width rs) → IfSome (option_and_then (λ b. bit_in b i) o) (λ n. n < width rs)

@@ -19,3 +19,4 @@ pub mod News
 pub mod Headed
 pub mod Stepped
 pub mod Spelled
+pub mod Lists

@@ -1,10 +1,9 @@
 -- Qubits that no line has named before, one after another.
 use Rattle.std.proofs.Common.{◌≡◌, ◌↔◌, ◌⊎◌, inl, inr, ℕ, zero, suc, ◌+◌, ◌<◌, Bool, true, false, not, refl, sym, ◌∙◌, ap, subst, arith}
-use Rattle.std.proofs.Common.{List, [], ◌∷◌, ◌++◌, Contains, length, take, drop, get_or, map, add-one, drop-cons, append_assoc, append-nil}
+use Rattle.std.proofs.Common.{List, [], ◌∷◌, ◌++◌, Contains, length, take, drop, get_or, add-one, drop-cons, append_assoc, append-nil}
 use Rattle.std.specs.Prelude.{◌==◌, ◌&&◌, ◌||◌, flat_map, Result, Ok, Err, IfOk}
 use Rattle.std.specs.BTreeSet.{BTreeSet, contains, Updates}
 use Rattle.std.specs.Ordering.{nat_cmp}
-use Rattle.std.proofs.lemmas.List.{map-append}
 use Rattle.std.specs.List.{list_any}
 use Rattle.std.proofs.lemmas.Bool.Decides.{nat_tests}
 use Rattle.gate_core.specs.Circuit.{AddsAll}
@@ -170,10 +169,8 @@ IsNamed-push lists qubits old new k a = record {
 pub IsNamed-none : IsNamed [] []
 IsNamed-none = record { index = λ p. ((λ c. c), (λ c. c)) }
 
-pub named_pushed : {X : Type 0} (f : X → List ℕ) (xs ys : List X) (x : X) (old new : List ℕ) → ys ≡ xs ++ x ∷ []
-    → IsNamed (map f xs) old → AddsAll old new (f x) → IsNamed (map f ys) new
-named_pushed f xs ys x old new e k a =
-    subst (λ (lists : List (List ℕ)). IsNamed lists new) (sym (ap (map f) e ∙ map-append f xs (x ∷ []))) (IsNamed-push (map f xs) (f x) old new k a)
+pub named_pushed : (lists all : List (List ℕ)) (qubits old new : List ℕ) → all ≡ lists ++ qubits ∷ [] → IsNamed lists old → AddsAll old new qubits → IsNamed all new
+named_pushed lists all qubits old new e k a = subst (λ (lists : List (List ℕ)). IsNamed lists new) (sym e) (IsNamed-push lists qubits old new k a)
 
 absent : (s : BTreeSet ℕ) (q : ℕ) → contains nat_cmp s q ≡ false → ¬ Contains s.keys q
 absent s q n = λ c. let e : contains nat_cmp s q ≡ true = (contains_iff s q).1 c in absurd (cc)

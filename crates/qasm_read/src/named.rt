@@ -1,32 +1,33 @@
 //! The qubits that comment lines name.
 
-ghost use Rattle.std.specs.Prelude.{◌≡◌, [], ◌∷◌, ◌++◌, length, option_map, map, flat_map, IfOk, OnOk};
+ghost use Rattle.std.specs.Prelude.{◌≡◌, [], ◌∷◌, ◌++◌, length, option_map, flat_map, IfOk, OnOk};
 ghost use Rattle.gate_core.specs.Circuit.{AddsAll};
 ghost use Rattle.qasm_read.specs.Lines as spec;
 ghost use Rattle.qasm_read.specs.Lines.{add_list};
 ghost use Rattle.qasm_read.specs.News.{PutsNew, TellsNew};
 
+use gate_core::{QubitList, QubitLists};
 use std::alloc::{AllocError, Global};
 use std::collections::BTreeSet;
 use std::marker::Model;
 
-/// The qubits that the comment lines of one kind name, a list for each line, with the set of
-/// them all.
+/// The qubits that the comment lines of one kind name, a list for each line, with the set of them all.
 #[derive(Drop)]
 pub(crate) struct Named {
-    lists: Vec<Vec<u32>>,
+    alloc: Global,
+    lists: QubitLists,
     qubits: BTreeSet<u32>,
 }
 
 impl Model for Named {
-    ghost use Rattle.std.specs.Prelude.{ℕ, List, map};
+    ghost use Rattle.std.specs.Prelude.{ℕ, List};
     ghost use Rattle.qasm_read.specs.Stored.{IsNamed};
 
     ghost Value = { List (List ℕ) };
 
-    ghost view = { λ n. map (λ l. l.items) n.lists.items };
+    ghost view = { λ n. n.lists };
 
-    ghost invariant = { λ n. IsNamed (map (λ l. l.items) n.lists.items) n.qubits.keys };
+    ghost invariant = { λ n. IsNamed n.lists n.qubits.keys };
 }
 
 impl Named {
@@ -35,7 +36,8 @@ impl Named {
         ensures { result ≡ [] }
     {
         Named {
-            lists: Vec::new(alloc),
+            alloc,
+            lists: QubitLists::new(alloc),
             qubits: BTreeSet::new(alloc),
         }
     }
@@ -48,10 +50,10 @@ impl Named {
     }
 
     /// The lists, in order.
-    pub(crate) fn into_lists(self) -> Vec<Vec<u32>>
-        ensures { map (λ l. l.items) result.items ≡ self }
+    pub(crate) fn into_lists(self) -> QubitLists
+        ensures { result ≡ self }
     {
-        let Named { lists, qubits: _ } = self;
+        let Named { lists, .. } = self;
         lists
     }
 
@@ -77,25 +79,24 @@ impl Named {
         are_new(alloc, &self.qubits, qubits)
     }
 
-    /// Adds the list that a line gives, if any. It fails only where memory runs out; all lists are
-    /// gone then.
+    /// Adds the list that a line gives, if any. It fails only where memory runs out; all lists are gone then.
     pub(crate) fn add(&mut self, qubits: Option<Vec<u32>>) -> Result<(), AllocError>
         ensures { OnOk result (self.new ≡ add_list self.old (option_map (λ qs. qs.items) qubits)) }
     {
         match qubits {
-            Some(qubits) => self.push(qubits),
+            Some(qubits) => self.push(&qubits),
             None => Ok(()),
         }
     }
 
     /// Adds a list at the end. It fails only where memory runs out; all lists are gone then.
-    fn push(&mut self, qubits: Vec<u32>) -> Result<(), AllocError>
-        ensures { OnOk result (self.new ≡ self.old ++ qubits.items ∷ []) }
+    fn push(&mut self, qubits: &[u32]) -> Result<(), AllocError>
+        ensures { OnOk result (self.new ≡ self.old ++ qubits.now ∷ []) }
     {
-        match put_list(&mut self.lists, &mut self.qubits, qubits) {
+        match put_list(self.alloc, &mut self.lists, &mut self.qubits, qubits) {
             Ok(()) => Ok(()),
             Err(error) => {
-                self.lists.clear();
+                self.lists = QubitLists::new(self.alloc);
                 self.qubits.clear();
                 Err(error)
             }
@@ -103,8 +104,7 @@ impl Named {
     }
 }
 
-/// Puts a qubit of a line into the set of those that the line has so far. Whether it is new there
-/// and among those seen before.
+/// Puts a qubit of a line into the set of those that the line has so far. Whether it is new there and among those seen before.
 fn put_new(seen: &BTreeSet<u32>, line: &mut BTreeSet<u32>, qubit: u32) -> Result<bool, AllocError>
     ensures { IfOk result (λ new. PutsNew new seen.now.keys line.old.keys qubit line.new.keys) }
 {
@@ -137,16 +137,28 @@ fn put_all(set: &mut BTreeSet<u32>, qubits: &[u32]) -> Result<(), AllocError>
     Ok(())
 }
 
+/// A list of these qubits.
+fn list_of(alloc: Global, qubits: &[u32]) -> Result<QubitList, AllocError>
+    ensures { IfOk result (λ list. list ≡ qubits.now) }
+{
+    let mut list = QubitList::new(alloc);
+    for qubit in qubits {
+        list.push(*qubit)?;
+    }
+    Ok(list)
+}
+
 /// Adds a list at the end, and its qubits to the set.
 fn put_list(
-    lists: &mut Vec<Vec<u32>>,
+    alloc: Global,
+    lists: &mut QubitLists,
     set: &mut BTreeSet<u32>,
-    qubits: Vec<u32>,
+    qubits: &[u32],
 ) -> Result<(), AllocError>
-    ensures set { OnOk result (AddsAll set.old.keys set.new.keys qubits.items) }
-    ensures list { OnOk result (lists.new.items ≡ lists.old.items ++ qubits ∷ []) }
+    ensures set { OnOk result (AddsAll set.old.keys set.new.keys qubits.now) }
+    ensures list { OnOk result (lists.new ≡ lists.old ++ qubits.now ∷ []) }
 {
-    put_all(set, &qubits)?;
-    lists.push(qubits)?;
-    Ok(())
+    put_all(set, qubits)?;
+    let list = list_of(alloc, qubits)?;
+    lists.push(list)
 }

@@ -1,6 +1,8 @@
 //! A text, item by item.
 
 ghost use Rattle.std.specs.Prelude.{◌≡◌, ◌≢◌, All, Ok, Err, Some, None, OnOk, IfOk, IfErr};
+ghost use Rattle.gate_core.specs.Local.{AllBelow, AllDiffer};
+ghost use Rattle.gate_core.specs.Meaning.{joined};
 ghost use Rattle.qasm_tokens.specs.Taken.{is_at_semicolon, item_of};
 ghost use Rattle.qasm_read.specs.declared.fault.QasmFault.TheVariants.{Memory};
 ghost use Rattle.qasm_read.specs.Read.{IsSpelled, tokens_of};
@@ -106,8 +108,8 @@ impl<'s> State<'s> {
     }
 }
 
-/// Reads a text: the circuit that it spells, or its first refusal.
-pub fn read(alloc: Global, text: &str) -> Result<ReadCircuit, QasmFault>
+/// Reads a text within its limit of bytes, or refuses it.
+fn read_whole(alloc: Global, text: &str) -> Result<ReadCircuit, QasmFault>
     ensures circuit { IfOk result (λ c. reading text.now ≡ Ok c) }
     ensures refusal { IfErr result (λ f. f ≢ Memory → reading text.now ≡ Err f) }
 {
@@ -121,4 +123,15 @@ pub fn read(alloc: Global, text: &str) -> Result<ReadCircuit, QasmFault>
     let mut state = State::at_start(alloc);
     state.read_all(alloc, &mut reader)?;
     Ok(state.into_read())
+}
+
+/// Reads a text: the circuit that it spells, or its first refusal.
+pub fn read(alloc: Global, text: &str) -> Result<ReadCircuit, QasmFault>
+    ensures circuit { IfOk result (λ c. reading text.now ≡ Ok c) }
+    ensures ins { IfOk result (λ c. AllDiffer (joined c.ins) × AllBelow c.circuit.qubits (joined c.ins)) }
+    ensures outs { IfOk result (λ c. AllDiffer (joined c.outs) × AllBelow c.circuit.qubits (joined c.outs)) }
+    ensures refusal { IfErr result (λ f. f ≢ Memory → reading text.now ≡ Err f) }
+{
+    let circuit = read_whole(alloc, text)?;
+    Ok(circuit)
 }
