@@ -77,7 +77,7 @@ no_amplitude n v (t ∷ ts) h d =
       | inr e ↦ ap (λ b. cond b (plus t.1 (amplitude v ts)) (amplitude v ts)) e ∙ no_amplitude n v ts h.1 d
     ]
 
-rows_width : (n : ℕ) (ts rows : List (List Bool × Amp)) → HasWidth n ts → All (RowOf ts) rows → HasWidth n rows
+pub rows_width : (n : ℕ) (ts rows : List (List Bool × Amp)) → HasWidth n ts → All (RowOf ts) rows → HasWidth n rows
 rows_width n ts [] h a = tt
 rows_width n ts (r ∷ rs) h a =
     let row : RowOf ts r = All-head (RowOf ts) r rs a in (

@@ -18,6 +18,7 @@ mod start;
 pub use fault::RunFault;
 use gate_core::{Circuit, QubitLists};
 pub use ins::are_inputs;
+pub use start::joined_qubits;
 use std::alloc::Global;
 use sum_laws::Table;
 

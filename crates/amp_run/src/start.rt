@@ -8,7 +8,7 @@ use gate_core::QubitLists;
 use std::alloc::{AllocError, Global};
 use sum_laws::BitList;
 
-// The qubits of all lists in one.
+/// The qubits of all lists in one.
 pub fn joined_qubits(alloc: Global, lists: &QubitLists) -> Result<Vec<u32>, AllocError>
     ensures { IfOk result (λ qubits. qubits.items ≡ joined lists.now) }
 {
