@@ -1,17 +1,14 @@
 //! Putting the table of a text's circuit.
 
-ghost use Rattle.std.specs.Prelude.{◌≡◌, ◌≢◌, ◌≤◌, [], Err, IfErr, IsErrOf, Ok, OnOk, Some};
+ghost use Rattle.std.specs.Prelude.{◌≡◌, ◌≢◌, ◌≤◌, [], Err, IfErr, IsErrOf, OnOk};
 ghost use Rattle.silq_io.specs.Counts.{Rose};
 ghost use Rattle.silq_io.specs.Sinks.{Adds};
-ghost use Rattle.gate_core.specs.Meaning.{joined};
-ghost use Rattle.amp_run.specs.Refusal.{fault_of};
 ghost use Rattle.amp_run.specs.declared.fault.RunFault.{RunFault as RunFaults};
 ghost use Rattle.amp_run.specs.declared.fault.RunFault.TheVariants as runs;
-ghost use Rattle.qasm_read.specs.State.{ReadForm};
 ghost use Rattle.qasm_read.specs.Text.{reading};
 ghost use Rattle.qasm_read.specs.declared.fault.QasmFault.{QasmFault as QasmFaults};
 ghost use Rattle.qasm_read.specs.declared.fault.QasmFault.TheVariants as reads;
-ghost use Rattle.circuit_table.specs.Tables.{BreaksTable, PutsTable};
+ghost use Rattle.circuit_table.specs.Tables.{BreaksTable, HasFault, PutsTable};
 ghost use Rattle.circuit_table.specs.declared.fault.CircuitFault.TheVariants as faults;
 
 use crate::fault::CircuitFault;
@@ -31,7 +28,7 @@ pub fn put_table_of_circuit<S: Sink>(
 ) -> Result<(), CircuitFault>
     ensures done { OnOk result (PutsTable input.now outcome.now (S.put_so_far out.old) (S.put_so_far out.new) text.now) }
     ensures read { (f : QasmFaults) → IsErrOf result (faults.Read f) → f ≢ reads.Memory → reading text.now ≡ Err f }
-    ensures run { (f : RunFaults) → IsErrOf result (faults.Run f) → f ≢ runs.Memory → (c : ReadForm) × (reading text.now ≡ Ok c) × (fault_of c.circuit (joined c.ins) input.now outcome.now ≡ Some f) }
+    ensures run { (f : RunFaults) → IsErrOf result (faults.Run f) → f ≢ runs.Memory → HasFault input.now outcome.now text.now f }
     ensures broken { IsErrOf result faults.Failed → BreaksTable input.now outcome.now (S.put_so_far out.old) (S.put_so_far out.new) text.now }
     ensures failed { IsErrOf result faults.Failed → Rose (S.faults out.old) (S.faults out.new) }
     ensures refused { IfErr result (λ f. f ≢ faults.Failed → Adds (S.put_so_far out.old) (S.put_so_far out.new) []) }

@@ -6,11 +6,10 @@ ghost use Rattle.gate_core.specs.Meaning.{joined};
 ghost use Rattle.amp_run.specs.Refusal.{fault_of};
 ghost use Rattle.amp_run.specs.declared.fault.RunFault.{RunFault as RunFaults};
 ghost use Rattle.amp_run.specs.declared.fault.RunFault.TheVariants as runs;
-ghost use Rattle.qasm_read.specs.State.{ReadForm};
 ghost use Rattle.qasm_read.specs.Text.{reading};
 ghost use Rattle.qasm_read.specs.declared.fault.QasmFault.{QasmFault as QasmFaults};
 ghost use Rattle.qasm_read.specs.declared.fault.QasmFault.TheVariants as reads;
-ghost use Rattle.circuit_table.specs.Tables.{HasTable};
+ghost use Rattle.circuit_table.specs.Tables.{HasFault, HasTable};
 ghost use Rattle.circuit_table.specs.declared.fault.CircuitFault.TheVariants as faults;
 
 use crate::fault::CircuitFault;
@@ -37,7 +36,7 @@ fn shown_rows(
 ) -> Result<Shown, RunFault>
     requires ins { AllDiffer (joined circuit.now.ins) × AllBelow circuit.now.circuit.qubits (joined circuit.now.ins) }
     requires outs { AllDiffer (joined circuit.now.outs) × AllBelow circuit.now.circuit.qubits (joined circuit.now.outs) }
-    ensures table { IfOk result (λ shown. (text : List ℕ) → reading text ≡ Ok circuit.now → HasTable input.now outcome.now text shown.outs shown.rows) }
+    ensures table { IfOk result (λ t. (text : List ℕ) → reading text ≡ Ok circuit.now → HasTable input.now outcome.now text t.outs t.rows) }
     ensures wide { IfOk result (λ shown. All (λ row. shown.outs ≤ length row.0) shown.rows) }
     ensures refused { IfErr result (λ f. f ≢ runs.Memory → fault_of circuit.now.circuit (joined circuit.now.ins) input.now outcome.now ≡ Some f) }
 {
@@ -60,7 +59,7 @@ pub(crate) fn shown_table(
     ensures table { IfOk result (λ shown. HasTable input.now outcome.now text.now shown.outs shown.rows) }
     ensures wide { IfOk result (λ shown. All (λ row. shown.outs ≤ length row.0) shown.rows) }
     ensures read { (f : QasmFaults) → IsErrOf result (faults.Read f) → f ≢ reads.Memory → reading text.now ≡ Err f }
-    ensures run { (f : RunFaults) → IsErrOf result (faults.Run f) → f ≢ runs.Memory → (c : ReadForm) × (reading text.now ≡ Ok c) × (fault_of c.circuit (joined c.ins) input.now outcome.now ≡ Some f) }
+    ensures run { (f : RunFaults) → IsErrOf result (faults.Run f) → f ≢ runs.Memory → HasFault input.now outcome.now text.now f }
     ensures others { IfErr result (λ fault. fault ≢ faults.Failed) }
 {
     let circuit = match read(alloc, text) {

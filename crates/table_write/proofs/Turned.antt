@@ -1,5 +1,6 @@
 -- The order in which bits are shown, and rows whose bits stand in another order.
-use Rattle.std.proofs.Common.{◌≡◌, ℕ, zero, suc, ◌+◌, ◌^◌, ◌<◌, ◌==◌, Bool, true, false, not, cond, List, [], ◌∷◌, ◌++◌, map, take, length, get_or, slice_get, Some, All, if◌then◌else◌, refl, ap, sym, ◌∙◌, subst, append_assoc, add-one, arith}
+use Rattle.std.proofs.Common.{◌≡◌, ℕ, zero, suc, ◌+◌, ◌^◌, ◌<◌, ◌==◌, Bool, true, false, not, cond, List, [], ◌∷◌, ◌++◌, map, take, length, get_or, slice_get}
+use Rattle.std.proofs.Common.{Some, All, if◌then◌else◌, refl, ap, sym, ◌∙◌, subst, append_assoc, add-one, arith}
 use Rattle.std.specs.List.{AllZip, filter, list_any}
 use Rattle.std.proofs.Math.Pow.{pow_mono}
 use Rattle.std.proofs.lemmas.List.{map-append, take_more, get_or_default}
@@ -59,7 +60,8 @@ pick-append : (ps qs : List ℕ) (u : List Bool) → pick (ps ++ qs) u ≡ pick 
 pick-append [] qs u = refl
 pick-append (p ∷ ps) qs u = ap (λ w. get_or u p false ∷ w) (pick-append ps qs u)
 
-pick_more : (order : List ℕ) (u : List Bool) (i d : ℕ) → i < length order → pick (take (i + 1) order) u ≡ pick (take i order) u ++ get_or u (get_or order i d) false ∷ []
+pick_more : (order : List ℕ) (u : List Bool) (i d : ℕ) → i < length order
+    → pick (take (i + 1) order) u ≡ pick (take i order) u ++ get_or u (get_or order i d) false ∷ []
 pick_more order u i d l = ap (λ ps. pick ps u) (take_more order i d l) ∙ pick-append (take i order) (get_or order i d ∷ []) u
 
 -- a qubit more; e is what a read out of range would give
@@ -102,11 +104,14 @@ rows_fit n order [] b h = All-nil (λ row. All (λ q. q < length row.0) order)
 rows_fit n order (r ∷ rs) b h =
     All-cons (λ row. All (λ q. q < length row.0) order) r rs (subst (λ m. All (λ q. q < m) order) (sym h.0) b) (rows_fit n order rs b h.1)
 
-pub order_fits : (n : ℕ) (outs order : List ℕ) (rows : List (List Bool × Amp)) → order ≡ outs ++ rest_of n outs → AllBelow n outs → HasWidth n rows → FitRows order rows
+pub order_fits : (n : ℕ) (outs order : List ℕ) (rows : List (List Bool × Amp))
+    → order ≡ outs ++ rest_of n outs → AllBelow n outs → HasWidth n rows → FitRows order rows
 order_fits n outs order rows e b h = rows_fit n order rows (subst (All (λ q. q < n)) (sym e) (order_below n outs b)) h
 
-pub row_fits : (order : List ℕ) (rows : List (List Bool × Amp)) (i : ℕ) (row : List Bool × Amp) → i < length rows → slice_get rows i ≡ Some row → FitRows order rows → All (λ q. q < length row.0) order
-row_fits order rows i row l is h = subst (λ (r : List Bool × Amp). All (λ q. q < length r.0) order) (get_or_from_slice_get rows i row row is) (h i row l)
+pub row_fits : (order : List ℕ) (rows : List (List Bool × Amp)) (i : ℕ) (row : List Bool × Amp)
+    → i < length rows → slice_get rows i ≡ Some row → FitRows order rows → All (λ q. q < length row.0) order
+row_fits order rows i row l is h =
+    subst (λ (r : List Bool × Amp). All (λ q. q < length r.0) order) (get_or_from_slice_get rows i row row is) (h i row l)
 
 -- ---- what the turned rows stand for
 
@@ -120,7 +125,8 @@ turned_counts h f (n ∷ ns) (t ∷ ts) c = (c.0, turned_counts h f ns ts c.1)
 stands_turned : (n h : ℕ) (f : List Bool → List Bool) (ts : List (List Bool × Amp)) → StandsFor n h ts → StandsFor n h (turned f ts)
 stands_turned n h f ts s = record { counts = s.counts; counted = turned_counts h f s.counts ts s.counted; few = s.few }
 
-pub turned_small : (f : List Bool → List Bool) (ts us : List (List Bool × Amp)) → us ≡ turned f ts → StandsFor (2 ^ 50) 50 ts → (v : List Bool) → PartialSumsSmall v us
+pub turned_small : (f : List Bool → List Bool) (ts us : List (List Bool × Amp))
+    → us ≡ turned f ts → StandsFor (2 ^ 50) 50 ts → (v : List Bool) → PartialSumsSmall v us
 turned_small f ts us e s v =
     subst (PartialSumsSmall v) (sym e)
     (stands_small (2 ^ 50) 50 v (turned f ts) (pow_mono {i = 50} {j = 50} (omega arith)) (omega arith) (stands_turned (2 ^ 50) 50 f ts s))

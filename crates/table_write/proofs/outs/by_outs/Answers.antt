@@ -7,7 +7,8 @@ use Rattle.table_write.proofs.outs.by_outs.Goals as goal
 
 pub turned-requires : goal.turned-requires
 turned-requires c =
-    order_fits c.args.qubits c.args.outs.now c.deref.result.now c.args.table.now (c.deref.ensures.value ∙ c.in_ok-order.ensures) c.requires.in_range c.requires.wide
+    order_fits c.args.qubits c.args.outs.now c.deref.result.now c.args.table.now
+    (c.deref.ensures.value ∙ c.in_ok-order.ensures) c.requires.in_range c.requires.wide
 
 pub merged-requires : goal.merged-requires
 merged-requires c = turned_small (pick c.deref.result.now) c.args.table.now c.in_ok-turned.field-0 c.in_ok-turned.ensures c.requires.small
