@@ -14,8 +14,7 @@ ghost use Rattle.circuit_table.specs.declared.fault.CircuitFault.TheVariants as 
 
 use crate::fault::CircuitFault;
 use amp_run::{RunFault, joined_qubits, table};
-use qasm_read::ReadCircuit;
-use qasm_read::read::read;
+use qasm_read::{ReadCircuit, read};
 use std::alloc::Global;
 use sum_laws::Table;
 use table_write::by_outs;

@@ -6,7 +6,7 @@
 //!
 //! A refusal is its note: `4:9: syntax: repeated`, `3:1: unsupported: definition` or `limit: qubits 100001`.
 
-use gate_core::{Gate, OneKind, PlainGate};
+use gate_core::{Circuit, Gate, OneKind, PlainGate, QubitLists};
 use qasm_read::{QasmFault, ReadCircuit};
 use std::alloc::{AllocError, Global};
 
@@ -54,14 +54,16 @@ fn add_gate(out: &mut String, gate: Gate) -> Result<(), AllocError> {
 }
 
 // Adds the statements, or `-` for none.
-fn add_gates(out: &mut String, gates: &[Gate]) -> Result<(), AllocError> {
+fn add_gates(out: &mut String, circuit: &Circuit) -> Result<(), AllocError> {
     let mut joint = "";
-    for gate in gates {
-        out.push_str(joint)?;
-        add_gate(out, *gate)?;
-        joint = "; ";
+    for place in 0..circuit.len() {
+        if let Some(gate) = circuit.gate(place) {
+            out.push_str(joint)?;
+            add_gate(out, gate)?;
+            joint = "; ";
+        }
     }
-    out.push_str(if gates.is_empty() { "-" } else { "" })
+    out.push_str(if circuit.is_empty() { "-" } else { "" })
 }
 
 // Adds the qubits of one list.
@@ -75,11 +77,11 @@ fn add_list(out: &mut String, qubits: &[u32]) -> Result<(), AllocError> {
 }
 
 // Adds the lists, or `-` for none.
-fn add_lists(out: &mut String, lists: &[Vec<u32>]) -> Result<(), AllocError> {
+fn add_lists(out: &mut String, lists: &QubitLists) -> Result<(), AllocError> {
     let mut joint = "";
-    for list in lists {
+    for list in lists.as_slice() {
         out.push_str(joint)?;
-        add_list(out, list)?;
+        add_list(out, list.as_slice())?;
         joint = ", ";
     }
     out.push_str(if lists.is_empty() { "-" } else { "" })
@@ -88,13 +90,13 @@ fn add_lists(out: &mut String, lists: &[Vec<u32>]) -> Result<(), AllocError> {
 /// A circuit with the qubits that comment lines name.
 pub fn circuit_text(alloc: Global, read: &ReadCircuit) -> Result<String, AllocError> {
     let mut out = String::new(alloc);
-    let (qubits, bits) = (read.qubits(), read.bits());
+    let (qubits, bits) = (read.circuit.qubits(), read.circuit.bits());
     write!(out, "qubits {qubits} bits {bits}: ")?;
-    add_gates(&mut out, read.gates())?;
+    add_gates(&mut out, &read.circuit)?;
     out.push_str(" | in ")?;
-    add_lists(&mut out, read.ins())?;
+    add_lists(&mut out, &read.ins)?;
     out.push_str(" | out ")?;
-    add_lists(&mut out, read.outs())?;
+    add_lists(&mut out, &read.outs)?;
     Ok(out)
 }
 
