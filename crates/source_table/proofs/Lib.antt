@@ -1,0 +1,5 @@
+mod Bounded
+mod Ended
+mod Entered
+mod Given
+pub mod Stopped
