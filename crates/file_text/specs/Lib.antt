@@ -1,0 +1,2 @@
+pub mod NoText
+pub mod Reading
