@@ -1,5 +1,5 @@
 -- The line of a cycle.
-use Rattle.std.proofs.Common.{◌≡◌, ℕ, ◌+◌, ◌<◌, List, [], ◌∷◌, ◌++◌, drop, length, get_or, ap, ◌∙◌, sym, add-one, drop-cons}
+use Rattle.std.proofs.Common.{◌≡◌, ℕ, ◌+◌, ◌<◌, List, ◌++◌, drop, length, get_or, ap, ◌∙◌, sym, add-one, drop-cons}
 use Rattle.flat_compile.specs.declared.cycle.CyclePlace.{CyclePlace}
 use Rattle.silqc.specs.Note.{place_text, places_text}
 

@@ -1,8 +1,8 @@
 -- A file has one fault or one answer, by which each command ends.
-use Rattle.std.proofs.Common.{◌≡◌, ℕ, suc, ◌<◌, ◌≤◌, nat_lt, if◌then◌else◌, Bool, true, false, ◌⊎◌, inl, inr, List, Option, Some, None, Result, Ok, Err, IfSome, refl, ap, subst, sym, ◌∙◌, arith}
+use Rattle.std.proofs.Common.{◌≡◌, ℕ, suc, ◌<◌, ◌≤◌, nat_lt, if◌then◌else◌, Bool, true, false, inl, inr, List, Option, Some, None, Result, Ok, Err, IfSome, refl, ap, sym, ◌∙◌, arith}
 use Rattle.std.proofs.lemmas.Bool.Decides.{nat_tests}
-use Rattle.std.specs.Str.{chars}
 use Rattle.silq_io.specs.declared.limit.LimitKind.{LimitKind}
+use Rattle.flat_compile.specs.declared.output.Output.{Output}
 use Rattle.silq_grammar.specs.Grammar.{Program}
 use Rattle.silq_grammar.proofs.Accepted.{one_tree}
 use Rattle.silq_types.specs.Rules.{Fault, rule, unsupported, over}
@@ -10,9 +10,9 @@ use Rattle.check_fun.specs.Entry.{check_named, number_of_name}
 use Rattle.check_fun.specs.Program.{Accepted}
 use Rattle.silq_mean.specs.Table.{Job}
 use Rattle.silq_compile.specs.Sources.{Source, Answers, OfAccepted, names_in, tree_of}
-use Rattle.silqc.specs.declared.asked.Asked.{Asked}
+use Rattle.silqc.specs.Asked.{Asked, check, compile, mean}
 use Rattle.silqc.specs.declared.status.Status.{Status}
-use Rattle.silqc.specs.declared.status.Status.TheVariants.{Done, Words, ReadFault, Syntax, Names, Typing, Unsupported, Limit, Cycle, OverBudget, WriteFault, Memory, Unbuilt}
+use Rattle.silqc.specs.declared.status.Status.TheVariants.{Done, Words, ReadFault, Syntax, Names, Typing, Unsupported, Limit, Cycle, OverBudget, WriteFault, Memory, Bits, FalseForget}
 use Rattle.silqc.specs.Answer.{OfProgram, PassesLimit, most}
 use Rattle.silqc.specs.Command.{Command, ForSource, IsCommand, bytes_at, source_of}
 use Rattle.silqc.specs.Ending.{CanEnd, Tells}
@@ -36,7 +36,7 @@ module _ (s : Source) where
   no_fault : {A : Type 0} (fault : FileFault) → first_file_fault s.text ≡ Some fault → first_file_fault s.text ≡ None → A
   no_fault fault e none = absurd (let no : Some fault ≡ None = sym e ∙ none in cc)
 
-  module _ (old new : Option (List ℕ)) (asked : Option Asked) where
+  module _ (old new : Option (List ℕ)) (asked : Asked) where
     -- ---- at a fault
 
     same_fault : (fault other : FileFault) → first_file_fault s.text ≡ Some fault → first_file_fault s.text ≡ Some other → other ≡ fault
@@ -55,7 +55,8 @@ module _ (s : Source) where
     ends_at_fault (OverBudget least most) told = λ fault e. no_fault fault e told.0
     ends_at_fault WriteFault told = λ fault e. no_fault fault e told.0
     ends_at_fault Memory told = λ fault e. inr (inr refl)
-    ends_at_fault Unbuilt told = absurd told
+    ends_at_fault (Bits given wanted) told = λ fault e. no_fault fault e told.0
+    ends_at_fault (FalseForget line) told = λ fault e. no_fault fault e told.0
 
   -- ---- at an answer
 
@@ -82,7 +83,7 @@ module _ (s : Source) where
     by_limit : (which : LimitKind) (count : ℕ) → Answers s (Err (over which)) → count ≡ suc (most which) → EndsBy (status_of answer) (Limit which count)
     by_limit which count h e = by_answer (Err (over which)) (Limit which count) h (ap {B = Status} (Limit which) e)
 
-    pub check_ends_by : (fine : first_file_fault s.text ≡ None) (old new : Option (List ℕ)) (status : Status) → CanEnd None status → Tells old new status None s → EndsBy (status_of answer) status
+    pub check_ends_by : (fine : first_file_fault s.text ≡ None) (old new : Option (List ℕ)) (status : Status) → CanEnd check status → Tells old new status check s → EndsBy (status_of answer) status
     check_ends_by fine old new Done ends told = by_answer (Ok told.1.0) Done told.1.1 refl
     check_ends_by fine old new Words ends told = absurd told
     check_ends_by fine old new ReadFault ends told = inr (inl refl)
@@ -95,38 +96,65 @@ module _ (s : Source) where
     check_ends_by fine old new (OverBudget least most) ends told = absurd told.1
     check_ends_by fine old new WriteFault ends told = absurd told.1
     check_ends_by fine old new Memory ends told = inr (inr refl)
-    check_ends_by fine old new Unbuilt ends told = absurd told
+    check_ends_by fine old new (Bits given wanted) ends told = absurd told.1
+    check_ends_by fine old new (FalseForget line) ends told = absurd told.1
 
-  module _ (first : Fault) (a : Answers s (Err first)) (fine : first_file_fault s.text ≡ None) (asked : Asked) where
+  module _ (first : Fault) (a : Answers s (Err first)) (fine : first_file_fault s.text ≡ None) where
     of_accepted : {A : Type 0} {P : Job → Type 0} → OfAccepted P s → A
     of_accepted h = not_both first a h.accepted h.checked
 
-    pub refused_ends_by : (old new : Option (List ℕ)) (status : Status) → CanEnd (Some asked) status → Tells old new status (Some asked) s → EndsBy (status_of (Err first)) status
-    refused_ends_by old new Done ends told = of_accepted told.1.1
-    refused_ends_by old new Words ends told = absurd told
-    refused_ends_by old new ReadFault ends told = inr (inl refl)
-    refused_ends_by old new (Syntax cause line col) ends told = no_fault (record { cause = cause; line = line; col = col }) told fine
-    refused_ends_by old new (Names n line col) ends told = by_names (Err first) a n line col ends told.1
-    refused_ends_by old new (Typing n line col) ends told = by_types (Err first) a n line col ends told.1
-    refused_ends_by old new (Unsupported what line col) ends told = by_answer (Err first) a (Err (unsupported what (record { line = line; col = col }))) (Unsupported what line col) told.1 refl
-    refused_ends_by old new (Limit which count) ends told = by_which told.1
+    pub compilation_ends_by : (output : Output) (budget : ℕ) (old new : Option (List ℕ)) (status : Status) → CanEnd (compile output budget) status → Tells old new status (compile output budget) s → EndsBy (status_of (Err first)) status
+    compilation_ends_by output budget old new Done ends told = of_accepted told.1.1
+    compilation_ends_by output budget old new Words ends told = absurd told
+    compilation_ends_by output budget old new ReadFault ends told = inr (inl refl)
+    compilation_ends_by output budget old new (Syntax cause line col) ends told = no_fault (record { cause = cause; line = line; col = col }) told fine
+    compilation_ends_by output budget old new (Names n line col) ends told = by_names (Err first) a n line col ends told.1
+    compilation_ends_by output budget old new (Typing n line col) ends told = by_types (Err first) a n line col ends told.1
+    compilation_ends_by output budget old new (Unsupported what line col) ends told = by_answer (Err first) a (Err (unsupported what (record { line = line; col = col }))) (Unsupported what line col) told.1 refl
+    compilation_ends_by output budget old new (Limit which count) ends told = by told.1
       where
-        by_which : PassesLimit which count (Some asked) s → EndsBy (status_of (Err first)) (Limit which count)
-        by_which (inl h) = by_limit (Err first) a which count h.0 h.1
-        by_which (inr h) = of_accepted h
-    refused_ends_by old new (Cycle places) ends told = of_accepted told.1
-    refused_ends_by old new (OverBudget least most) ends told = of_accepted told.1.1
-    refused_ends_by old new WriteFault ends told = of_accepted told.1.1
-    refused_ends_by old new Memory ends told = inr (inr refl)
-    refused_ends_by old new Unbuilt ends told = absurd told
+        by : PassesLimit which count (compile output budget) s → EndsBy (status_of (Err first)) (Limit which count)
+        by (inl h) = by_limit (Err first) a which count h.0 h.1
+        by (inr h) = of_accepted h
+    compilation_ends_by output budget old new (Cycle places) ends told = of_accepted told.1
+    compilation_ends_by output budget old new (OverBudget least most) ends told = of_accepted told.1.1
+    compilation_ends_by output budget old new WriteFault ends told = of_accepted told.1.1
+    compilation_ends_by output budget old new Memory ends told = inr (inr refl)
+    compilation_ends_by output budget old new (Bits given wanted) ends told = absurd told.1
+    compilation_ends_by output budget old new (FalseForget line) ends told = absurd told.1
 
-pub ends_by_answer : (s : Source) (old new : Option (List ℕ)) (asked : Option Asked) (status : Status) → CanEnd asked status → Tells old new status asked s → EndsByAnswer status asked s
-ends_by_answer s old new None status ends told = λ answer h. check_ends_by s answer h.1 h.0 old new status ends told
-ends_by_answer s old new (Some asked) status ends told = λ answer h. by answer h
+    pub run_ends_by : (input outcome : List Bool) (old new : Option (List ℕ)) (status : Status) → CanEnd (mean input outcome) status → Tells old new status (mean input outcome) s → EndsBy (status_of (Err first)) status
+    run_ends_by input outcome old new Done ends told = of_accepted told.1.1
+    run_ends_by input outcome old new Words ends told = absurd told
+    run_ends_by input outcome old new ReadFault ends told = inr (inl refl)
+    run_ends_by input outcome old new (Syntax cause line col) ends told = no_fault (record { cause = cause; line = line; col = col }) told fine
+    run_ends_by input outcome old new (Names n line col) ends told = by_names (Err first) a n line col ends told.1
+    run_ends_by input outcome old new (Typing n line col) ends told = by_types (Err first) a n line col ends told.1
+    run_ends_by input outcome old new (Unsupported what line col) ends told = by_answer (Err first) a (Err (unsupported what (record { line = line; col = col }))) (Unsupported what line col) told.1 refl
+    run_ends_by input outcome old new (Limit which count) ends told = by told.1
+      where
+        by : PassesLimit which count (mean input outcome) s → EndsBy (status_of (Err first)) (Limit which count)
+        by (inl h) = by_limit (Err first) a which count h.0 h.1
+        by (inr h) = of_accepted h
+    run_ends_by input outcome old new (Cycle places) ends told = absurd told.1
+    run_ends_by input outcome old new (OverBudget least most) ends told = absurd told.1
+    run_ends_by input outcome old new WriteFault ends told = of_accepted told.1.1
+    run_ends_by input outcome old new Memory ends told = inr (inr refl)
+    run_ends_by input outcome old new (Bits given wanted) ends told = of_accepted told.1
+    run_ends_by input outcome old new (FalseForget line) ends told = of_accepted told.1
+
+pub ends_by_answer : (s : Source) (old new : Option (List ℕ)) (asked : Asked) (status : Status) → CanEnd asked status → Tells old new status asked s → EndsByAnswer status asked s
+ends_by_answer s old new check status ends told = λ answer h. check_ends_by s answer h.1 h.0 old new status ends told
+ends_by_answer s old new (compile output budget) status ends told = λ answer h. by answer h
   where
-    by : (answer : Result Accepted Fault) → OfProgram (λ t. Answers t answer) s → EndsByTyping status (Some asked) answer
+    by : (answer : Result Accepted Fault) → OfProgram (λ t. Answers t answer) s → EndsByTyping status (compile output budget) answer
     by (Ok a) h = tt
-    by (Err first) h = refused_ends_by s first h.1 h.0 asked old new status ends told
+    by (Err first) h = compilation_ends_by s first h.1 h.0 output budget old new status ends told
+ends_by_answer s old new (mean input outcome) status ends told = λ answer h. by answer h
+  where
+    by : (answer : Result Accepted Fault) → OfProgram (λ t. Answers t answer) s → EndsByTyping status (mean input outcome) answer
+    by (Ok a) h = tt
+    by (Err first) h = run_ends_by s first h.1 h.0 input outcome old new status ends told
 
 -- ---- for the command that the words are
 

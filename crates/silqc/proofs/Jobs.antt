@@ -1,11 +1,11 @@
 -- The words are one job, and a job is one command at most.
-use Rattle.std.proofs.Common.{◌≡◌, ◌≢◌, ℕ, List, Option, Some, None, refl, ap, subst, sym, ◌∙◌}
+use Rattle.std.proofs.Common.{◌≡◌, ◌≢◌, ℕ, List, Some, None, subst, sym, ◌∙◌}
 use Rattle.std.specs.Prelude.{option_and_then}
-use Rattle.cli_words.specs.Job.{Job, gen, job_of}
-use Rattle.silqc.specs.declared.asked.Asked.{Asked}
+use Rattle.cli_words.specs.Job.{Job, job_of}
+use Rattle.silqc.specs.Asked.{Asked}
 use Rattle.silqc.specs.declared.status.Status.{Status}
 use Rattle.silqc.specs.declared.status.Status.TheVariants as ends
-use Rattle.silqc.specs.Command.{Command, IsCommand, IsOtherJob, command_of}
+use Rattle.silqc.specs.Command.{Command, ForJob, IsCommand, command_of}
 use Rattle.silqc.specs.Ending.{CanEnd, TellsItsRules}
 
 -- what holds of a command holds of each that is the same
@@ -20,22 +20,16 @@ no_command c e = absurd (cc)
 pub one_job : (words : List (List ℕ)) (j k : Job) → job_of words ≡ Some j → job_of words ≡ Some k → j ≡ k
 one_job words j k a b = let both : Some j ≡ Some k = sym a ∙ b in cc
 
-pub a_job : (words : List (List ℕ)) (j : Job) → job_of words ≡ Some j → job_of words ≢ None
-a_job words j a b = absurd (let both : Some j ≡ None = sym a ∙ b in cc)
-
 pub of_words : (words : List (List ℕ)) (j : Job) → job_of words ≡ Some j → (c : Command) → IsCommand words c → command_of j ≡ Some c
 of_words words j is c h = subst (λ o. option_and_then command_of o ≡ Some c) is h
 
 pub no_job : (words : List (List ℕ)) → job_of words ≡ None → (c : Command) → ¬ IsCommand words c
 no_job words e c h = no_command c (subst (λ o. option_and_then command_of o ≡ Some c) e h)
 
-pub other_job : (words : List (List ℕ)) (j : Job) → job_of words ≡ Some j → command_of j ≡ None → IsOtherJob words
-other_job words j is h = (a_job words j is, subst (λ o. option_and_then command_of o ≡ None) (sym is) h)
+pub for_job : (words : List (List ℕ)) (j : Job) (P : Job → Type 0) → job_of words ≡ Some j → P j → ForJob words P
+for_job words j P is h = λ k e. subst P (one_job words j k is e) h
 
-pub of_other : (words : List (List ℕ)) (j : Job) → job_of words ≡ Some j → IsOtherJob words → command_of j ≡ None
-of_other words j is h = subst (λ o. option_and_then command_of o ≡ None) is h.1
-
-pub rules_told : (asked : Option Asked) (status : Status) → CanEnd asked status → TellsItsRules status
+pub rules_told : (asked : Asked) (status : Status) → CanEnd asked status → TellsItsRules status
 rules_told asked ends.Done h = tt
 rules_told asked ends.Words h = tt
 rules_told asked ends.ReadFault h = tt
@@ -48,4 +42,5 @@ rules_told asked (ends.Cycle cycle) h = tt
 rules_told asked (ends.OverBudget least most) h = tt
 rules_told asked ends.WriteFault h = tt
 rules_told asked ends.Memory h = tt
-rules_told asked ends.Unbuilt h = tt
+rules_told asked (ends.Bits given wanted) h = tt
+rules_told asked (ends.FalseForget line) h = tt

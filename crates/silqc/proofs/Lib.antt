@@ -1,8 +1,9 @@
-pub mod Places
-pub mod Faults
-pub mod Told
-pub mod Read
-pub mod Jobs
-pub mod Exactly
-pub mod Planned
+pub mod Circuits
 pub mod Cycles
+pub mod Exactly
+pub mod Faults
+pub mod Jobs
+pub mod Planned
+pub mod Ran
+pub mod Read
+pub mod Told

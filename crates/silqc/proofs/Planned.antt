@@ -1,25 +1,22 @@
 -- What an accepted program means has one flat form, by which its compilation ends.
 use Rattle.std.proofs.Common.{◌≡◌, ℕ, ◌⊎◌, inl, inr, List, Option, Some, None, Result, Ok, Err, IfSome, refl, ap, subst, sym, ◌∙◌}
 use Rattle.silq_io.specs.declared.limit.OverLimit.{OverLimit}
-use Rattle.silq_io.specs.declared.limit.LimitKind.{LimitKind}
 use Rattle.silq_grammar.proofs.Accepted.{one_tree}
 use Rattle.silq_types.specs.Rules.{Fault}
 use Rattle.check_fun.specs.Program.{Accepted}
 use Rattle.silq_mean.specs.Table.{Job}
 use Rattle.flat_form.specs.Flat.{flattened}
-use Rattle.graph_core.specs.Circuit.{circuit_graph}
-use Rattle.graph_core.specs.Digraph.{IsAcyclic, IsCycle}
 use Rattle.flat_compile.specs.declared.cycle.CyclePlace.{CyclePlace}
 use Rattle.flat_compile.specs.Ends as plans
 use Rattle.silq_compile.specs.Headline.{IsRight}
 use Rattle.silq_compile.specs.Sources.{Source, Answers, OfAccepted, job_in}
 use Rattle.flat_compile.specs.declared.output.Output.{Output}
 use Rattle.flat_compile.specs.declared.output.Output.TheVariants.{Text, Report}
-use Rattle.silqc.specs.declared.asked.Asked.{Asked}
+use Rattle.silqc.specs.Asked.{Asked, check, compile, mean}
 use Rattle.silqc.specs.declared.status.Status.{Status}
-use Rattle.silqc.specs.declared.status.Status.TheVariants.{Done, Words, ReadFault, Syntax, Names, Typing, Unsupported, Limit, Cycle, OverBudget, WriteFault, Memory, Unbuilt}
+use Rattle.silqc.specs.declared.status.Status.TheVariants.{Done, Words, ReadFault, Syntax, Names, Typing, Unsupported, Limit, Cycle, OverBudget, WriteFault, Memory, Bits, FalseForget}
 use Rattle.silqc.specs.Answer.{PassesLimit}
-use Rattle.silqc.specs.Command.{Command, ForSource, IsCommand, bytes_at, source_of}
+use Rattle.silqc.specs.Command.{Command, ForSource, bytes_at, source_of}
 use Rattle.silqc.specs.Ending.{Tells}
 use Rattle.silqc.specs.Exact.{EndsByJob, EndsByPlan}
 use Rattle.silqc.specs.Program.{FileFault, first_file_fault}
@@ -76,44 +73,46 @@ planned : (output : Output) (budget : ℕ) (text : List ℕ) (j : Job) → IsRig
 planned Text budget text j h = h.planned
 planned Report budget text j h = h
 
-module _ (s : Source) (old new : Option (List ℕ)) (asked : Asked) (fine : first_file_fault s.text ≡ None) (a : Accepted) (answers : Answers s (Ok a)) where
-  abbrev the_job : Job
+module _ (s : Source) (fine : first_file_fault s.text ≡ None) (a : Accepted) (answers : Answers s (Ok a)) where
+  abbrev pub the_job : Job
   the_job = job_in s answers.derivation
 
   -- what holds of an accepted reading of the text holds of this one
-  of_job : (P : Job → Type 0) → OfAccepted P s → P the_job
+  pub of_job : (P : Job → Type 0) → OfAccepted P s → P the_job
   of_job P h =
       let same : h.checked.derivation ≡ answers.derivation = one_tree h.checked.derivation answers.derivation (sym h.checked.spelled ∙ answers.spelled) in
       subst (λ d. P (job_in s d)) same h.holds
 
-  refused : {A : Type 0} (first : Fault) → Answers s (Err first) → A
+  pub refused : {A : Type 0} (first : Fault) → Answers s (Err first) → A
   refused first r = absurd (let no : ◌≡◌ {A = Result Accepted Fault} (Err first) (Ok a) = one_answer s (Err first) (Ok a) r answers in cc)
 
-  faulty : {A : Type 0} (fault : FileFault) → first_file_fault s.text ≡ Some fault → A
+  pub faulty : {A : Type 0} (fault : FileFault) → first_file_fault s.text ≡ Some fault → A
   faulty fault e = absurd (let no : Some fault ≡ None = sym e ∙ fine in cc)
 
-  pub ends_by_job : (status : Status) → Tells old new status (Some asked) s → EndsByJob status asked.budget the_job
-  ends_by_job Done told = written Done asked.budget the_job asked.output told.1.0 (inl refl) (planned asked.output asked.budget told.1.0 the_job (of_job (IsRight asked.output asked.budget told.1.0) told.1.1))
-  ends_by_job Words told = absurd told
-  ends_by_job ReadFault told = by_fault ReadFault asked.budget the_job (inl refl)
-  ends_by_job (Syntax cause line col) told = faulty (record { cause = cause; line = line; col = col }) told
-  ends_by_job (Names n line col) told = refused _ told.1
-  ends_by_job (Typing n line col) told = refused _ told.1
-  ends_by_job (Unsupported what line col) told = refused _ told.1
-  ends_by_job (Limit which count) told = by told.1
+  pub ends_by_job : (old new : Option (List ℕ)) (output : Output) (budget : ℕ) (status : Status) → Tells old new status (compile output budget) s → EndsByJob status budget the_job
+  ends_by_job old new output budget Done told = written Done budget the_job output told.1.0 (inl refl) (planned output budget told.1.0 the_job (of_job (IsRight output budget told.1.0) told.1.1))
+  ends_by_job old new output budget Words told = absurd told
+  ends_by_job old new output budget ReadFault told = by_fault ReadFault budget the_job (inl refl)
+  ends_by_job old new output budget (Syntax cause line col) told = faulty (record { cause = cause; line = line; col = col }) told
+  ends_by_job old new output budget (Names n line col) told = refused _ told.1
+  ends_by_job old new output budget (Typing n line col) told = refused _ told.1
+  ends_by_job old new output budget (Unsupported what line col) told = refused _ told.1
+  ends_by_job old new output budget (Limit which count) told = by told.1
     where
-      by : PassesLimit which count (Some asked) s → EndsByJob (Limit which count) asked.budget the_job
+      by : PassesLimit which count (compile output budget) s → EndsByJob (Limit which count) budget the_job
       by (inl h) = refused _ h.0
-      by (inr h) = at_limit (Limit which count) asked.budget the_job (record { which = which; count = count }) refl (of_job (plans.PassesFirst (record { which = which; count = count })) h)
-  ends_by_job (Cycle places) told = at_cycle (Cycle places) asked.budget the_job places refl (of_job (plans.OfFlat (plans.HasGivenCycle places)) told.1)
-  ends_by_job (OverBudget least most) told = over (OverBudget least most) asked.budget the_job least (ap {B = Status} (OverBudget least) told.1.0) (of_job (plans.OfFlat (plans.NeedsMore asked.budget least)) told.1.1)
-  ends_by_job WriteFault told = written WriteFault asked.budget the_job asked.output told.1.0 (inr refl) (planned asked.output asked.budget told.1.0 the_job (of_job (IsRight asked.output asked.budget told.1.0) told.1.1))
-  ends_by_job Memory told = by_fault Memory asked.budget the_job (inr refl)
-  ends_by_job Unbuilt told = absurd told
+      by (inr h) = at_limit (Limit which count) budget the_job (record { which = which; count = count }) refl (of_job (plans.PassesFirst (record { which = which; count = count })) h)
+  ends_by_job old new output budget (Cycle places) told = at_cycle (Cycle places) budget the_job places refl (of_job (plans.OfFlat (plans.HasGivenCycle places)) told.1)
+  ends_by_job old new output budget (OverBudget least most) told = over (OverBudget least most) budget the_job least (ap {B = Status} (OverBudget least) told.1.0) (of_job (plans.OfFlat (plans.NeedsMore budget least)) told.1.1)
+  ends_by_job old new output budget WriteFault told = written WriteFault budget the_job output told.1.0 (inr refl) (planned output budget told.1.0 the_job (of_job (IsRight output budget told.1.0) told.1.1))
+  ends_by_job old new output budget Memory told = by_fault Memory budget the_job (inr refl)
+  ends_by_job old new output budget (Bits given wanted) told = absurd told.1
+  ends_by_job old new output budget (FalseForget line) told = absurd told.1
 
-ends_by_plan : (s : Source) (old new : Option (List ℕ)) (asked : Option Asked) (status : Status) → Tells old new status asked s → EndsByPlan status asked s
-ends_by_plan s old new None status told = tt
-ends_by_plan s old new (Some asked) status told = λ fine a answers. ends_by_job s old new asked fine a answers status told
+ends_by_plan : (s : Source) (old new : Option (List ℕ)) (asked : Asked) (status : Status) → Tells old new status asked s → EndsByPlan status asked s
+ends_by_plan s old new check status told = tt
+ends_by_plan s old new (compile output budget) status told = λ fine a answers. ends_by_job s fine a answers old new output budget status told
+ends_by_plan s old new (mean input outcome) status told = tt
 
 pub for_plan : (words : List (List ℕ)) (held : List ℕ → Option (List ℕ)) (old new : Option (List ℕ)) (status : Status)
     → ForSource words held (Tells old new status) → ForSource words held (EndsByPlan status)

@@ -1,8 +1,9 @@
 pub mod Program
-pub mod Reading
+pub mod Asked
 pub mod Command
 pub mod Answer
 pub mod Note
 pub mod Status
 pub mod Ending
 pub mod Exact
+pub mod Circuits

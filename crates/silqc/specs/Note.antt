@@ -4,7 +4,7 @@ use Rattle.silq_io.specs.Counts.{Rose}
 use Rattle.silq_io.specs.Sinks.{Adds, Breaks}
 use Rattle.silq_io.specs.Names.{cause_name, what_name, limit_name}
 use Rattle.silqc.specs.declared.status.Status.{Status}
-use Rattle.silqc.specs.declared.status.Status.TheVariants.{Done, Words, ReadFault, Syntax, Names, Typing, Unsupported, Limit, Cycle, OverBudget, WriteFault, Memory, Unbuilt}
+use Rattle.silqc.specs.declared.status.Status.TheVariants.{Done, Words, ReadFault, Syntax, Names, Typing, Unsupported, Limit, Cycle, OverBudget, WriteFault, Memory, Bits, FalseForget}
 use Rattle.flat_compile.specs.declared.cycle.CyclePlace.{CyclePlace}
 use Rattle.flat_compile.specs.declared.cycle.CyclePlace.TheVariants as places
 
@@ -37,6 +37,14 @@ abbrev pub budget_note : ℕ → ℕ → List ℕ
 budget_note least budget =
     codes "silqc: over budget: least " ++ (decimal least ++ (codes ", budget " ++ (decimal budget ++ codes "\n")))
 
+-- `silqc: bits: given 1, wanted 2`
+abbrev pub bits_note : ℕ → ℕ → List ℕ
+bits_note given wanted = codes "silqc: bits: given " ++ (decimal given ++ (codes ", wanted " ++ (decimal wanted ++ codes "\n")))
+
+-- `silqc: forget is false on line 1`
+abbrev pub forget_note : ℕ → List ℕ
+forget_note line = codes "silqc: forget is false on line " ++ (decimal line ++ codes "\n")
+
 -- ` F1@1`, ` R0@1` or ` Z3`: a step, done or undone, by its number and its source line, or a wire that is freed
 abbrev pub place_text : CyclePlace → List ℕ
 place_text (places.Forward step line) = codes " F" ++ (decimal step ++ (codes "@" ++ decimal line))
@@ -65,7 +73,8 @@ note_of (Cycle cycle) = cycle_note cycle
 note_of (OverBudget least budget) = budget_note least budget
 note_of WriteFault = codes "silqc: writing failed\n"
 note_of Memory = codes "silqc: no memory\n"
-note_of Unbuilt = codes "silqc: not built yet\n"
+note_of (Bits given wanted) = bits_note given wanted
+note_of (FalseForget line) = forget_note line
 
 -- the exit status
 abbrev pub code_of : Status → ℕ
@@ -81,7 +90,8 @@ code_of (Cycle cycle) = 9
 code_of (OverBudget least budget) = 10
 code_of WriteFault = 11
 code_of Memory = 12
-code_of Unbuilt = 15
+code_of (Bits given wanted) = 13
+code_of (FalseForget line) = 14
 
 -- The whole line was put, or the sink had a fault and a front of it was put.
 abbrev pub Noted : Option (List ℕ) → Option (List ℕ) → ℕ → ℕ → List ℕ → Type 0

@@ -1,7 +1,8 @@
 -- The first fault of a file.
-use Rattle.std.specs.Prelude.{ℕ, ◌+◌, nat_lt, nat_eq, Bool, List, [], ◌∷◌, Option, Some, None, is_none, if◌then◌else◌, option_map, length, take, drop}
-use Rattle.std.specs.Str.{chars, is_utf8}
-use Rattle.std.specs.Str.Lossy.{utf8_valid_len, utf8_error_len}
+use Rattle.std.specs.Prelude.{ℕ, List, Option, Some, None, option_map}
+use Rattle.file_text.specs.NoText.{no_text}
+use Rattle.file_text.specs.declared.text.NoText.{NoText}
+use Rattle.file_text.specs.declared.text.NoText.TheVariants as texts
 use Rattle.silq_io.specs.declared.fault.SyntaxCause.{SyntaxCause}
 use Rattle.silq_io.specs.declared.fault.SyntaxCause.TheVariants as causes
 use Rattle.silq_lex.specs.declared.token.LexCause.{LexCause}
@@ -28,34 +29,15 @@ file_fault (Lex f) = record { cause = lex_cause f.cause; line = f.line; col = f.
 file_fault (Syntax line col) = record { cause = causes.Form; line = line; col = col }
 file_fault (Deep line col) = record { cause = causes.Deep; line = line; col = col }
 
--- the line and the column behind characters
-abbrev pub line_behind : ℕ → List ℕ → ℕ
-line_behind line [] = line
-line_behind line (c ∷ cs) = line_behind (if nat_eq c 10 then line + 1 else line) cs
+-- a text that is too long is told at its first character
+abbrev pub unread : NoText → FileFault
+unread texts.Long = record { cause = causes.Long; line = 1; col = 1 }
+unread (texts.Utf8 line col) = record { cause = causes.Utf8; line = line; col = col }
 
-abbrev pub col_behind : ℕ → List ℕ → ℕ
-col_behind col [] = col
-col_behind col (c ∷ cs) = col_behind (if nat_eq c 10 then 1 else col + 1) cs
-
--- bytes that are not UTF-8: the place behind the longest front that is
-abbrev pub utf8_fault : List ℕ → FileFault
-utf8_fault bytes = record {
-  cause = causes.Utf8;
-  line = line_behind 1 (chars (take (utf8_valid_len bytes) bytes));
-  col = col_behind 1 (chars (take (utf8_valid_len bytes) bytes));
-}
-
--- whether bytes begin a UTF-8 text: they are one, or they end within a character
-abbrev pub begins_text : List ℕ → Bool
-begins_text bytes = is_none (utf8_error_len (drop (utf8_valid_len bytes) bytes))
-
--- of a file that is too long, by its first bytes, one more than the limit: that they begin no text, else its length
-abbrev pub long_fault : List ℕ → FileFault
-long_fault front = if begins_text front then record { cause = causes.Long; line = 1; col = 1 } else utf8_fault front
+abbrev pub fault_behind : Option NoText → Option ParseFault → Option FileFault
+fault_behind (Some why) fault = Some (unread why)
+fault_behind None fault = option_map file_fault fault
 
 -- the first fault of a file: its UTF-8 as far as it is read, then its length, then that of its text; None where it is a program within the limits
 abbrev pub first_file_fault : List ℕ → Option FileFault
-first_file_fault bytes =
-    if nat_lt 1048576 (length bytes) then Some (long_fault (take 1048577 bytes))
-    else if is_utf8 bytes then option_map file_fault (first_fault bytes)
-    else Some (utf8_fault bytes)
+first_file_fault bytes = fault_behind (no_text 1048576 bytes) (first_fault bytes)

@@ -9,11 +9,17 @@ use Rattle.silq_compile.specs.declared.fault.TextFault.{TextFault}
 use Rattle.silq_compile.specs.declared.fault.TextFault.TheVariants as texts
 use Rattle.flat_compile.specs.declared.fault.CompileFault.{CompileFault}
 use Rattle.flat_compile.specs.declared.fault.CompileFault.TheVariants as compiles
+use Rattle.silq_mean.specs.Table.{MeanFault}
+use Rattle.source_table.specs.declared.fault.RunFault.{RunFault}
+use Rattle.source_table.specs.declared.fault.RunFault.TheVariants as runs
+use Rattle.source_table.specs.Faults.{fault_of}
+use Rattle.source_table.specs.declared.fault.SourceFault.{SourceFault}
+use Rattle.source_table.specs.declared.fault.SourceFault.TheVariants as sources
 use Rattle.silq_tree.specs.declared.node.Spot.{Spot}
-use Rattle.silqc.specs.declared.input.ReadError.{ReadError}
-use Rattle.silqc.specs.declared.input.ReadError.TheVariants as errors
+use Rattle.file_text.specs.declared.file.ReadError.{ReadError}
+use Rattle.file_text.specs.declared.file.ReadError.TheVariants as errors
 use Rattle.silqc.specs.declared.status.Status.{Status}
-use Rattle.silqc.specs.declared.status.Status.TheVariants.{Done, ReadFault, Syntax, Names, Typing, Unsupported, Limit, Cycle, OverBudget, WriteFault, Memory}
+use Rattle.silqc.specs.declared.status.Status.TheVariants.{Done, ReadFault, Syntax, Names, Typing, Unsupported, Limit, Cycle, OverBudget, WriteFault, Memory, Bits, FalseForget}
 use Rattle.silqc.specs.Answer.{most}
 use Rattle.silqc.specs.Program.{FileFault, file_fault}
 
@@ -57,3 +63,18 @@ abbrev pub text_status : ℕ → TextFault → Status
 text_status budget (texts.Parse fault) = parse_status fault
 text_status budget (texts.Check fault) = check_status (fault_as fault)
 text_status budget (texts.Compile fault) = compile_status budget fault
+
+abbrev pub run_status : RunFault → Status
+run_status runs.Memory = Memory
+run_status (runs.Limit passed) = Limit passed.which passed.count
+run_status (runs.Bits given wanted) = Bits given wanted
+run_status (runs.FalseForget line) = FalseForget line
+
+abbrev pub mean_status : MeanFault → Status
+mean_status fault = run_status (fault_of fault)
+
+abbrev pub source_status : SourceFault → Status
+source_status (sources.Parse fault) = parse_status fault
+source_status (sources.Check fault) = check_status (fault_as fault)
+source_status (sources.Run fault) = run_status fault
+source_status sources.Failed = WriteFault

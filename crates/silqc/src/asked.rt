@@ -1,10 +1,20 @@
-//! What is asked of a compilation.
+//! What is asked of a source.
 
 use flat_compile::Output;
 
-/// What is put for a program, and with how many qubits it must do: 1 to 100,000.
+/// What is asked of a source.
 #[derive(Clone, Copy)]
-pub struct Asked {
-    pub output: Output,
-    pub budget: u32,
+pub enum Asked<'a> {
+    /// Whether all rules hold.
+    Check,
+    /// The text or the report of its circuit, with at most so many qubits: 1 to 100,000.
+    Compile {
+        output: Output,
+        budget: u32,
+    },
+    /// The exact table of what it means on these input bits and for these outcomes.
+    Mean {
+        input: &'a [bool],
+        outcome: &'a [bool],
+    },
 }

@@ -1,44 +1,47 @@
-//! The check or the compilation of a file, or of a generated program.
+//! The check, the compilation or the table of a program's file, or of a generated program.
 
-ghost use Rattle.std.specs.Prelude.{◌≡◌, ◌≢◌, ℕ, ◌≤◌, List, Option, Some, None, IfSome, [], length};
+ghost use Rattle.std.specs.Prelude.{◌≡◌, ◌≢◌, ℕ, ◌≤◌, Bool, List, Option, Some, None, IfSome, [], length};
 ghost use Rattle.silq_io.specs.Counts.{Rose};
 ghost use Rattle.silq_io.specs.Sinks.{Adds};
 ghost use Rattle.silq_gen.specs.Generated.{generated};
+ghost use Rattle.silqc.specs.Asked.{IsWithin, asked_of, check, compile, mean};
 ghost use Rattle.silqc.specs.Command.{on_generated, source_of};
 ghost use Rattle.silqc.specs.Ending.{CanEnd, Tells};
-ghost use Rattle.silqc.specs.Status.{text_status};
 
 use crate::asked::Asked;
-use crate::input::read_file;
-use crate::refusal::{check_status, compile_status, parse_status, read_status};
-use crate::source::{self, SOURCE_LIMIT};
+use crate::refusal::{no_program_status, read_status, source_status, text_status};
 use crate::status::Status;
 use cli_words::Source;
+use file_text::{read_file, text_of};
 use flat_compile::Output;
-use silq_compile::{TextFault, check_text, compile_text};
+use silq_compile::{check_text, compile_text};
 use silq_gen::generated;
 use silq_io::{Files, Sink};
+use source_table::put_table_of_source;
 use std::alloc::Global;
+
+// How many bytes the text of a program may have.
+const SOURCE_LIMIT: usize = 1_048_576;
 
 // How many qubits a generated program may have, as many as the default of `--budget`.
 const DEFAULT_BUDGET: u32 = 4096;
 
-/// Reads a file and compiles its function as asked, or checks it, where nothing is asked.
+/// Reads a file, and does with its function what is asked.
 pub fn run_file<F: Files, S: Sink>(
     alloc: Global,
     source: &Source,
-    asked: Option<Asked>,
+    asked: Asked,
     files: &mut F,
     out: &mut S,
 ) -> Status
-    requires few { IfSome asked (λ a. a.budget ≤ 100000) }
-    ensures ends { CanEnd asked result }
-    ensures tells { IfSome (F.held files.old source.now.file.now) (λ bytes. Tells (S.put_so_far out.old) (S.put_so_far out.new) result asked (record { text = bytes; entry = source.now.entry.now; statics = source.now.statics.items })) }
+    requires few { IsWithin (asked_of asked) }
+    ensures ends { CanEnd (asked_of asked.entry) result }
+    ensures tells { IfSome (F.held files.old source.now.file.now) (λ bytes. Tells (S.put_so_far out.old) (S.put_so_far out.new) result (asked_of asked.entry) (record { text = bytes; entry = source.now.entry.now; statics = source.now.statics.items })) }
     ensures read_whole { result ≡ Status.Done → IfSome (F.held files.old source.now.file.now) (λ _. F.left files.new source.now.file.now ≡ Some []) }
     ensures read_fault { result ≡ Status.ReadFault → Rose (F.faults files.old source.now.file.now) (F.faults files.new source.now.file.now) }
     ensures write_fault { result ≡ Status.WriteFault → Rose (S.faults out.old) (S.faults out.new) }
     ensures refused { result ≢ Status.Done → result ≢ Status.WriteFault → Adds (S.put_so_far out.old) (S.put_so_far out.new) [] }
-    ensures quiet { asked ≡ None → Adds (S.put_so_far out.old) (S.put_so_far out.new) [] }
+    ensures quiet { asked_of asked.entry ≡ check → Adds (S.put_so_far out.old) (S.put_so_far out.new) [] }
     ensures held { (name : List ℕ) → F.held files.new name ≡ F.held files.old name }
     ensures file_counts { (name : List ℕ) → F.faults files.old name ≤ F.faults files.new name }
     ensures out_count { S.faults out.old ≤ S.faults out.new }
@@ -47,7 +50,7 @@ pub fn run_file<F: Files, S: Sink>(
         Ok(bytes) => bytes,
         Err(fault) => return read_status(fault),
     };
-    match source::text(&bytes) {
+    match text_of(&bytes, SOURCE_LIMIT) {
         Ok(text) => run_text(
             alloc,
             text,
@@ -56,7 +59,7 @@ pub fn run_file<F: Files, S: Sink>(
             asked,
             out,
         ),
-        Err(fault) => fault.status(),
+        Err(why) => no_program_status(why),
     }
 }
 
@@ -73,35 +76,44 @@ pub fn run_generated<S: Sink>(alloc: Global, number: u64, size: u32, out: &mut S
     let Ok(text) = generated(alloc, number, size) else {
         return Status::Memory;
     };
-    let asked = Asked {
-        output: Output::Report,
-        budget: DEFAULT_BUDGET,
-    };
-    compiled(alloc, &text, "main", &[], asked, out)
+    compiled(
+        alloc,
+        &text,
+        "main",
+        &[],
+        Output::Report,
+        DEFAULT_BUDGET,
+        out,
+    )
 }
 
-// Compiles or checks the function of a text.
+// Does with the function of a text what is asked.
 fn run_text<S: Sink>(
     alloc: Global,
     text: &str,
     entry: &str,
     statics: &[i64],
-    asked: Option<Asked>,
+    asked: Asked,
     out: &mut S,
 ) -> Status
     requires short { length text.now ≤ 1048576 }
-    requires few { IfSome asked (λ a. a.budget ≤ 100000) }
-    ensures ends { CanEnd asked result }
+    requires few { IsWithin (asked_of asked) }
+    ensures ends { CanEnd (asked_of asked.entry) result }
     ensures read { result ≢ Status.ReadFault }
-    ensures tells { Tells (S.put_so_far out.old) (S.put_so_far out.new) result asked (record { text = text.now; entry = entry.now; statics = statics.now }) }
+    ensures tells { Tells (S.put_so_far out.old) (S.put_so_far out.new) result (asked_of asked.entry) (record { text = text.now; entry = entry.now; statics = statics.now }) }
     ensures write_fault { result ≡ Status.WriteFault → Rose (S.faults out.old) (S.faults out.new) }
     ensures refused { result ≢ Status.Done → result ≢ Status.WriteFault → Adds (S.put_so_far out.old) (S.put_so_far out.new) [] }
-    ensures quiet { asked ≡ None → Adds (S.put_so_far out.old) (S.put_so_far out.new) [] }
+    ensures quiet { asked_of asked.entry ≡ check → Adds (S.put_so_far out.old) (S.put_so_far out.new) [] }
     ensures out_count { S.faults out.old ≤ S.faults out.new }
 {
     match asked {
-        Some(asked) => compiled(alloc, text, entry, statics, asked, out),
-        None => checked(alloc, text, entry, statics),
+        Asked::Check => checked(alloc, text, entry, statics),
+        Asked::Compile { output, budget } => {
+            compiled(alloc, text, entry, statics, output, budget, out)
+        }
+        Asked::Mean { input, outcome } => {
+            tabled(alloc, text, entry, statics, input, outcome, out)
+        }
     }
 }
 
@@ -111,19 +123,19 @@ fn compiled<S: Sink>(
     text: &str,
     entry: &str,
     statics: &[i64],
-    asked: Asked,
+    output: Output,
+    budget: u32,
     out: &mut S,
 ) -> Status
     requires short { length text.now ≤ 1048576 }
-    requires few { asked.budget ≤ 100000 }
-    ensures ends { CanEnd (Some asked) result }
+    requires few { budget ≤ 100000 }
+    ensures ends { CanEnd (compile output budget) result }
     ensures read { result ≢ Status.ReadFault }
-    ensures tells { Tells (S.put_so_far out.old) (S.put_so_far out.new) result (Some asked) (record { text = text.now; entry = entry.now; statics = statics.now }) }
+    ensures tells { Tells (S.put_so_far out.old) (S.put_so_far out.new) result (compile output budget) (record { text = text.now; entry = entry.now; statics = statics.now }) }
     ensures write_fault { result ≡ Status.WriteFault → Rose (S.faults out.old) (S.faults out.new) }
     ensures refused { result ≢ Status.Done → result ≢ Status.WriteFault → Adds (S.put_so_far out.old) (S.put_so_far out.new) [] }
     ensures out_count { S.faults out.old ≤ S.faults out.new }
 {
-    let Asked { output, budget } = asked;
     match compile_text(alloc, text, entry, statics, budget, output, out) {
         Ok(()) => Status::Done,
         Err(fault) => text_status(fault, budget),
@@ -133,9 +145,9 @@ fn compiled<S: Sink>(
 // Checks the function of a text.
 fn checked(alloc: Global, text: &str, entry: &str, statics: &[i64]) -> Status
     requires short { length text.now ≤ 1048576 }
-    ensures ends { CanEnd None result }
+    ensures ends { CanEnd check result }
     ensures read { result ≢ Status.ReadFault }
-    ensures tells { (old new : Option (List ℕ)) → Tells old new result None (record { text = text.now; entry = entry.now; statics = statics.now }) }
+    ensures tells { (old new : Option (List ℕ)) → Tells old new result check (record { text = text.now; entry = entry.now; statics = statics.now }) }
 {
     match check_text(alloc, text, entry, statics) {
         Ok(()) => Status::Done,
@@ -143,13 +155,26 @@ fn checked(alloc: Global, text: &str, entry: &str, statics: &[i64]) -> Status
     }
 }
 
-// How a command with this budget ends where a text is refused.
-fn text_status(fault: TextFault, budget: u32) -> Status
-    ensures { result ≡ text_status budget fault }
+// Puts the table of what the function of a text means.
+fn tabled<S: Sink>(
+    alloc: Global,
+    text: &str,
+    entry: &str,
+    statics: &[i64],
+    input: &[bool],
+    outcome: &[bool],
+    out: &mut S,
+) -> Status
+    requires short { length text.now ≤ 1048576 }
+    ensures ends { CanEnd (mean input.now outcome.now) result }
+    ensures read { result ≢ Status.ReadFault }
+    ensures tells { Tells (S.put_so_far out.old) (S.put_so_far out.new) result (mean input.now outcome.now) (record { text = text.now; entry = entry.now; statics = statics.now }) }
+    ensures write_fault { result ≡ Status.WriteFault → Rose (S.faults out.old) (S.faults out.new) }
+    ensures refused { result ≢ Status.Done → result ≢ Status.WriteFault → Adds (S.put_so_far out.old) (S.put_so_far out.new) [] }
+    ensures out_count { S.faults out.old ≤ S.faults out.new }
 {
-    match fault {
-        TextFault::Parse(fault) => parse_status(fault),
-        TextFault::Check(fault) => check_status(fault),
-        TextFault::Compile(fault) => compile_status(fault, budget),
+    match put_table_of_source(alloc, text, entry, statics, input, outcome, out) {
+        Ok(()) => Status::Done,
+        Err(fault) => source_status(fault),
     }
 }

@@ -3,17 +3,23 @@
 ghost use Rattle.std.specs.Prelude.{◌≡◌};
 ghost use Rattle.check_scope.specs.Faults.{fault_as};
 ghost use Rattle.silqc.specs.Answer.{most};
-ghost use Rattle.silqc.specs.Program.{lex_cause};
+ghost use Rattle.silqc.specs.Circuits as circuits;
+ghost use Rattle.silqc.specs.Program.{lex_cause, unread};
 ghost use Rattle.silqc.specs.Status as told;
 
-use crate::input::ReadError;
 use crate::status::Status;
+use amp_run::RunFault as TableFault;
 use check_scope::CheckFault;
+use circuit_table::CircuitFault;
+use file_text::{NoText, ReadError};
 use flat_compile::CompileFault;
+use qasm_read::QasmFault;
+use silq_compile::TextFault;
 use silq_io::{LimitKind, SyntaxCause};
 use silq_lex::LexCause;
 use silq_parse::ParseFault;
 use silq_tree::Spot;
+use source_table::{RunFault, SourceFault};
 
 /// How a command ends whose file is not read.
 pub fn read_status(fault: ReadError) -> Status
@@ -115,5 +121,107 @@ pub fn compile_status(fault: CompileFault, budget: u32) -> Status
             budget: budget as usize,
         },
         CompileFault::Failed => Status::WriteFault,
+    }
+}
+
+/// How a command ends whose file is no text of a program.
+pub fn no_program_status(why: NoText) -> Status
+    ensures { result ≡ told.syntax_status (unread why) }
+{
+    match why {
+        NoText::Long => syntax(SyntaxCause::Long, 1, 1),
+        NoText::Utf8 { line, col } => syntax(SyntaxCause::Utf8, line, col),
+    }
+}
+
+/// How a check, or a compilation with this budget, ends where a text is refused.
+pub fn text_status(fault: TextFault, budget: u32) -> Status
+    ensures { result ≡ told.text_status budget fault }
+{
+    match fault {
+        TextFault::Parse(fault) => parse_status(fault),
+        TextFault::Check(fault) => check_status(fault),
+        TextFault::Compile(fault) => compile_status(fault, budget),
+    }
+}
+
+/// How the command ends whose text has no table.
+pub fn source_status(fault: SourceFault) -> Status
+    ensures { result ≡ told.source_status fault }
+{
+    match fault {
+        SourceFault::Parse(fault) => parse_status(fault),
+        SourceFault::Check(fault) => check_status(fault),
+        SourceFault::Run(fault) => run_status(fault),
+        SourceFault::Failed => Status::WriteFault,
+    }
+}
+
+// How a run ends that gives no table.
+fn run_status(fault: RunFault) -> Status
+    ensures { result ≡ told.run_status fault }
+{
+    match fault {
+        RunFault::Memory => Status::Memory,
+        RunFault::Limit(over) => Status::Limit {
+            which: over.which,
+            count: over.count,
+        },
+        RunFault::Bits { given, wanted } => Status::Bits { given, wanted },
+        RunFault::FalseForget { line } => Status::FalseForget { line },
+    }
+}
+
+/// How a command ends whose file is no text of a circuit.
+pub fn no_circuit_status(why: NoText) -> Status
+    ensures { result ≡ circuits.no_text_status why }
+{
+    match why {
+        NoText::Long => Status::Limit {
+            which: LimitKind::Text,
+            count: 268_435_457,
+        },
+        NoText::Utf8 { line, col } => syntax(SyntaxCause::Utf8, line, col),
+    }
+}
+
+/// How the command ends whose circuit has no table.
+pub fn circuit_status(fault: CircuitFault) -> Status
+    ensures { result ≡ circuits.circuit_status fault }
+{
+    match fault {
+        CircuitFault::Read(fault) => qasm_status(fault),
+        CircuitFault::Run(fault) => table_status(fault),
+        CircuitFault::Failed => Status::WriteFault,
+    }
+}
+
+// How the reading of a circuit ends at its first refusal.
+fn qasm_status(fault: QasmFault) -> Status
+    ensures { result ≡ circuits.qasm_status fault }
+{
+    match fault {
+        QasmFault::Memory => Status::Memory,
+        QasmFault::Syntax { line, col } => syntax(SyntaxCause::Form, line, col),
+        QasmFault::Unsupported { line, col, what } => Status::Unsupported { what, line, col },
+        QasmFault::Bad { line, col, cause } => syntax(cause, line, col),
+        QasmFault::Limit(over) => Status::Limit {
+            which: over.which,
+            count: over.count,
+        },
+    }
+}
+
+// How the run of a circuit ends that gives no table.
+fn table_status(fault: TableFault) -> Status
+    ensures { result ≡ circuits.amp_status fault }
+{
+    match fault {
+        TableFault::Memory => Status::Memory,
+        TableFault::Bits { given, wanted } => Status::Bits { given, wanted },
+        TableFault::Limit(over) => Status::Limit {
+            which: over.which,
+            count: over.count,
+        },
     }
 }

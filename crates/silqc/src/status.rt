@@ -3,7 +3,7 @@
 ghost use Rattle.std.specs.Prelude.{◌≡◌, ℕ, ◌≤◌, ◌++◌, codes, decimal, OnOk, OnErr};
 ghost use Rattle.silq_io.specs.Counts.{Rose};
 ghost use Rattle.silq_io.specs.Sinks.{Adds, Breaks};
-ghost use Rattle.silqc.specs.Note.{note_of, syntax_note, unsupported_note, limit_note, budget_note, code_of, cycle_note, place_text, places_text, Noted};
+ghost use Rattle.silqc.specs.Note.{note_of, syntax_note, unsupported_note, limit_note, bits_note, budget_note, code_of, cycle_note, forget_note, place_text, places_text, Noted};
 
 use flat_compile::{CyclePlace, CyclePlaces};
 use qasm_write::{Piece, put_pieces};
@@ -12,13 +12,13 @@ use silq_io::{Failed, LimitKind, Sink, SyntaxCause, What, put_all};
 /// How a command ends.
 #[derive(Drop)]
 pub enum Status {
-    /// The input was read to its end; a check accepts it, a compilation has put the whole text.
+    /// The input was read to its end; a check accepts it, another job has put its whole text.
     Done,
     /// The words are no job.
     Words,
     /// The file was not read.
     ReadFault,
-    /// The file is no program.
+    /// The file is no program, or no circuit.
     Syntax {
         cause: SyntaxCause,
         /// The line of the first fault, from 1.
@@ -61,8 +61,15 @@ pub enum Status {
     WriteFault,
     /// There was no memory.
     Memory,
-    /// The words are a job that is not built yet.
-    Unbuilt,
+    /// So many input bits were given in place of so many, or else so many outcomes.
+    Bits {
+        given: u64,
+        wanted: u64,
+    },
+    /// On this line a forget is false on a term.
+    FalseForget {
+        line: u32,
+    },
 }
 
 impl Status {
@@ -83,7 +90,8 @@ impl Status {
             Status::OverBudget { .. } => 10,
             Status::WriteFault => 11,
             Status::Memory => 12,
-            Status::Unbuilt => 15,
+            Status::Bits { .. } => 13,
+            Status::FalseForget { .. } => 14,
         }
     }
 
@@ -112,7 +120,8 @@ impl Status {
             Status::OverBudget { least, budget } => put_over_budget(notes, *least, *budget),
             Status::WriteFault => put_all(notes, b"silqc: writing failed\n"),
             Status::Memory => put_all(notes, b"silqc: no memory\n"),
-            Status::Unbuilt => put_all(notes, b"silqc: not built yet\n"),
+            Status::Bits { given, wanted } => put_bits(notes, *given, *wanted),
+            Status::FalseForget { line } => put_false_forget(notes, *line),
         }
     }
 
@@ -282,6 +291,42 @@ fn put_step<N: Sink>(notes: &mut N, kind: &str, step: u32, line: u32) -> Result<
             Piece::Number(u64::from(step)),
             Piece::Text("@"),
             Piece::Number(u64::from(line)),
+        ],
+    )
+}
+
+// Puts the line of bits that are too few or too many.
+fn put_bits<N: Sink>(notes: &mut N, given: u64, wanted: u64) -> Result<(), Failed>
+    ensures ok { OnOk result (Adds (N.put_so_far notes.old) (N.put_so_far notes.new) (bits_note given wanted)) }
+    ensures count { N.faults notes.old ≤ N.faults notes.new }
+    ensures failed { OnErr result (Rose (N.faults notes.old) (N.faults notes.new)) }
+    ensures broken { OnErr result (Breaks (N.put_so_far notes.old) (N.put_so_far notes.new) (bits_note given wanted)) }
+{
+    put_pieces(
+        notes,
+        &[
+            Piece::Text("silqc: bits: given "),
+            Piece::Number(given),
+            Piece::Text(", wanted "),
+            Piece::Number(wanted),
+            Piece::Text("\n"),
+        ],
+    )
+}
+
+// Puts the line of a forget that is false.
+fn put_false_forget<N: Sink>(notes: &mut N, line: u32) -> Result<(), Failed>
+    ensures ok { OnOk result (Adds (N.put_so_far notes.old) (N.put_so_far notes.new) (forget_note line)) }
+    ensures count { N.faults notes.old ≤ N.faults notes.new }
+    ensures failed { OnErr result (Rose (N.faults notes.old) (N.faults notes.new)) }
+    ensures broken { OnErr result (Breaks (N.put_so_far notes.old) (N.put_so_far notes.new) (forget_note line)) }
+{
+    put_pieces(
+        notes,
+        &[
+            Piece::Text("silqc: forget is false on line "),
+            Piece::Number(u64::from(line)),
+            Piece::Text("\n"),
         ],
     )
 }

@@ -6,9 +6,9 @@ use silqc::silqc;
 use silqc::status::Status;
 use std::alloc::{AllocError, Global};
 
-const ONE: &[u8] = b"def main(x:B):B { x := H(x); return x; }";
+pub(crate) const ONE: &[u8] = b"def main(x:B):B { x := H(x); return x; }";
 
-const ONE_TEXT: &[u8] =
+pub(crate) const ONE_TEXT: &[u8] =
     b"OPENQASM 2.0;\ninclude \"qelib1.inc\";\nqreg q[1];\n// silqc in 0 q[0]\nh q[0];\n// silqc out 0 q[0]\n";
 
 const TWO: &[u8] = b"def main(a:B, b:B):B\xc3\x97B { a := H(a); b := X(b); return (a, b); }";
@@ -91,23 +91,23 @@ fn file_of(alloc: Global, bytes: &[u8], fails: &[u64]) -> Result<MemFiles, Alloc
 
 // A command over `one.slq`, and how it has to end.
 #[derive(Clone, Copy)]
-struct Case<'a> {
-    words: &'a [&'a str],
-    bytes: &'a [u8],
-    file_fails: &'a [u64],
-    room: usize,
-    code: u8,
-    out: &'a [u8],
-    note: &'a [u8],
+pub(crate) struct Case<'a> {
+    pub(crate) words: &'a [&'a str],
+    pub(crate) bytes: &'a [u8],
+    pub(crate) file_fails: &'a [u64],
+    pub(crate) room: usize,
+    pub(crate) code: u8,
+    pub(crate) out: &'a [u8],
+    pub(crate) note: &'a [u8],
 }
 
 // The most bytes of a text.
-const ROOM: usize = 1000;
+pub(crate) const ROOM: usize = 1000;
 
 const COMPILE: &[&str] = &["compile", "one.slq", "main", "--budget", "1"];
 
 // A command of these words that is refused with a note.
-fn no_job<'a>(words: &'a [&'a str]) -> Case<'a> {
+pub(crate) fn no_job<'a>(words: &'a [&'a str]) -> Case<'a> {
     Case {
         words,
         bytes: ONE,
@@ -120,7 +120,7 @@ fn no_job<'a>(words: &'a [&'a str]) -> Case<'a> {
 }
 
 // These bytes compiled to a text.
-fn compiled<'a>(bytes: &'a [u8], out: &'a [u8]) -> Case<'a> {
+pub(crate) fn compiled<'a>(bytes: &'a [u8], out: &'a [u8]) -> Case<'a> {
     Case {
         words: COMPILE,
         bytes,
@@ -141,7 +141,7 @@ fn asked<'a>(words: &'a [&'a str]) -> Case<'a> {
 }
 
 // These bytes refused with a note.
-fn refused<'a>(bytes: &'a [u8], code: u8, note: &'a [u8]) -> Case<'a> {
+pub(crate) fn refused<'a>(bytes: &'a [u8], code: u8, note: &'a [u8]) -> Case<'a> {
     Case {
         words: COMPILE,
         bytes,
@@ -150,14 +150,6 @@ fn refused<'a>(bytes: &'a [u8], code: u8, note: &'a [u8]) -> Case<'a> {
         code,
         out: b"",
         note,
-    }
-}
-
-// A job of these words that is not built.
-fn unbuilt<'a>(words: &'a [&'a str]) -> Case<'a> {
-    Case {
-        words,
-        ..refused(ONE, 15, b"silqc: not built yet\n")
     }
 }
 
@@ -180,7 +172,7 @@ fn is_met(alloc: Global, case: &Case) -> Result<bool, AllocError> {
 }
 
 // The number of the first case that ends otherwise, from 0.
-fn first_missed(alloc: Global, cases: &[Case]) -> Option<usize> {
+pub(crate) fn first_missed(alloc: Global, cases: &[Case]) -> Option<usize> {
     for (number, case) in cases.iter().enumerate() {
         if !is_met(alloc, case).unwrap_or(false) {
             return Some(number);
@@ -206,15 +198,19 @@ fn words(rt: HostRuntime) {
         asked(&["compile", "one.slq", "main"]),
         asked(&["compile", "one.slq", "main", "--budget=7"]),
         asked(&["--budget", "1", "compile", "--", "one.slq", "main"]),
-        unbuilt(&["mean", "one.slq", "main", "0", "none"]),
-        unbuilt(&["amps", "one.slq", "0", "none"]),
+        no_job(&["mean", "one.slq", "main", "0"]),
+        no_job(&["mean", "one.slq", "main", "2", "none"]),
+        no_job(&["mean", "one.slq", "main", "0", "none", "--budget", "1"]),
+        no_job(&["amps", "one.slq", "0"]),
+        no_job(&["amps", "one.slq", "0", "none", "1"]),
         no_job(&["gen", "7", "10001"]),
         no_job(&["gen", "7", "4", "--budget", "1"]),
     ];
     assert!(rt; first_missed(rt.alloc(), &cases).is_none());
 }
 
-const GROVER: &[u8] = b"def good[n:!N](const x:uint[n]) lifted : B { return x + 3 == 12; }
+pub(crate) const GROVER: &[u8] =
+    b"def good[n:!N](const x:uint[n]) lifted : B { return x + 3 == 12; }
 def spread[n:!N](x:uint[n]) mfree : uint[n] {
   for i in [0..n) { x[i] := H(x[i]); }
   return x;

@@ -5,3 +5,5 @@
 mod commands;
 #[cfg(test)]
 mod slow;
+#[cfg(test)]
+mod tables;

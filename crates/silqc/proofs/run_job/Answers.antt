@@ -1,6 +1,6 @@
-use Rattle.std.proofs.Common.{◌≡◌, IfSome, ap, sym, ◌∙◌}
+use Rattle.std.proofs.Common.{IfSome, ap, sym, ◌∙◌}
 use Rattle.cli_words.specs.Told.{told}
-use Rattle.silqc.specs.Command.{Command, bytes_at, command_of, on_generated, source_of}
+use Rattle.silqc.specs.Command.{bytes_at, command_of, on_generated, source_of}
 use Rattle.silqc.specs.Ending.{Tells}
 use Rattle.silqc.proofs.Jobs.{only}
 use Rattle.silqc.proofs.run_job.Goals as goal

@@ -1,7 +1,8 @@
-use Rattle.std.proofs.Common.{◌≡◌, ◌≤◌, ℕ, List, [], Some, codes, length, subst, sym, ◌∙◌, arith}
+use Rattle.std.proofs.Common.{◌≡◌, ◌≤◌, ℕ, List, [], codes, length, subst, sym, ◌∙◌, arith}
 use Rattle.flat_compile.specs.declared.output.Output.TheVariants.{Report}
 use Rattle.silq_gen.specs.Generated.{generated}
 use Rattle.silq_gen.proofs.Told.{short}
+use Rattle.silqc.specs.Asked.{compile}
 use Rattle.silqc.specs.Ending.{Tells}
 use Rattle.silqc.proofs.file.run_generated.Goals as goal
 
@@ -14,5 +15,5 @@ compiled-requires-clause-short g c =
 pub returns-clause-tells : goal.returns-clause-tells
 returns-clause-tells g c =
     let is : c.deref.result.now ≡ generated c.args.number c.args.size = c.deref.ensures ∙ c.in-Ok.ensures in
-    subst (λ (text : List ℕ). Tells (g.S.Sink.put_so_far c.args.out.now) (g.S.Sink.put_so_far c.compiled.new.out) c.compiled.result (Some (record { output = Report; budget = 4096 })) (record { text = text; entry = codes "main"; statics = [] }))
+    subst (λ (text : List ℕ). Tells (g.S.Sink.put_so_far c.args.out.now) (g.S.Sink.put_so_far c.compiled.new.out) c.compiled.result (compile Report 4096) (record { text = text; entry = codes "main"; statics = [] }))
     is c.compiled.ensures.tells

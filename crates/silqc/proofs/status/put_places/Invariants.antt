@@ -1,4 +1,4 @@
-use Rattle.std.proofs.Common.{◌≡◌, ◌≤◌, drop}
+use Rattle.std.proofs.Common.{◌≤◌, drop}
 use Rattle.qasm_write.proofs.Parts.{IsPartPut}
 use Rattle.silqc.specs.Note.{places_text}
 use Rattle.silqc.proofs.status.put_places.Given as goal

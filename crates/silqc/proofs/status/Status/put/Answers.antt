@@ -17,3 +17,9 @@ returns-in-Memory-clause-broken g c = rw c.in-Memory.is c.put_all-in-Memory.ensu
 
 pub returns-in-Unsupported-clause-broken : goal.returns-in-Unsupported-clause-broken
 returns-in-Unsupported-clause-broken g c = rw (c.in-Unsupported.is, ← c.name-in-Unsupported.ensures) c.put_unsupported.ensures.broken
+
+pub returns-in-Bits-clause-ok : goal.returns-in-Bits-clause-ok
+returns-in-Bits-clause-ok g c = rw c.in-Bits.is c.put_bits.ensures.ok
+
+pub returns-in-FalseForget-clause-ok : goal.returns-in-FalseForget-clause-ok
+returns-in-FalseForget-clause-ok g c = rw c.in-FalseForget.is c.put_false_forget.ensures.ok
