@@ -6,18 +6,28 @@
 //! in a shell. The text is that of the file, and the answer is all that the command writes, the note last; both are spelled as
 //! `test_lines` says. Where the text is empty there is no such file, and in it the character U+FFFD stands for the byte 255.
 //!
+//! Where a command `mean` writes a table, the table that `amps` writes of the program's circuit has to be the same, with a 0 for each
+//! other qubit.
+//!
 //! `docs/check.sh --write` makes the rows from the pages, where they are told by hand.
 
 mod command;
+mod table;
 
 use command::answer;
 use std::alloc::Global;
 use std::io::{self, BufRead, BufReader};
+use table::is_of_circuit;
 use test_lines::text_of;
 
 // Prints an answer that is not the wanted one.
 fn print_missed(rt: &impl Print, number: u64, words: &str, got: &str) -> io::Result<()> {
     println!(rt; "line {number}: {words}: got\n{got}")
+}
+
+// Whether the answer is the table of a program.
+fn is_table(words: &str, answer: &str) -> bool {
+    words.starts_with("mean ") && !answer.starts_with("silqc: ")
 }
 
 // Whether the answer of a row is the wanted one. Another one is printed.
@@ -30,6 +40,10 @@ fn is_met(rt: &impl Print, alloc: Global, number: u64, row: &str) -> io::Result<
     let met = got.as_str() == wanted.as_str();
     if !met {
         print_missed(rt, number, words, &got)?;
+    }
+    if met && is_table(words, &wanted) && !is_of_circuit(alloc, words, &text, &wanted)? {
+        println!(rt; "line {number}: {words}: the circuit has another table")?;
+        return Ok(false);
     }
     Ok(met)
 }
