@@ -11,7 +11,7 @@
 # are those of the tables of rules in LANGUAGE.md and of examples/CIRCUITS.md.
 top=$(cd "$(dirname "$0")/.." && pwd) || exit 1
 cd "$top" || exit 1
-pages='docs/NOTES.md docs/TUTORIAL.md docs/LANGUAGE.md docs/CIRCUITS.md examples/CIRCUITS.md'
+pages='docs/NOTES.md docs/TUTORIAL.md docs/LANGUAGE.md docs/COMMANDS.md docs/CIRCUITS.md examples/CIRCUITS.md examples/TABLES.md'
 table=crates/test_pages
 
 rows() {
@@ -112,8 +112,7 @@ compare_rows() {
     [ "$(said $table/stdin)" = "$(cat $table/stdout)" ] || differ "$table/stdout has another count than its rows"
 }
 
-# Every note has an entry in NOTES.md, and no other entry is there. The names of causes, of limits and of what is not supported that no
-# program gets stand in its last section.
+# Every note has an entry in NOTES.md, and no other entry is there. The names that only a table's command gives stand in its last section.
 compare_notes() {
     {
         seq -f 'K%.0f' 24
@@ -121,9 +120,9 @@ compare_notes() {
         sed -n 's/.*"silqc: \([a-z ]*[a-z]\).*/\1/p' crates/silqc/src/status.rt | grep -v '^limit$'
     } | sort -u >"$room"
     sed -n 's/^### \([^:]*\).*/\1/p' docs/NOTES.md | sort >"$room.has"
-    last=$(sed -n '/^## Other kinds/,$p' docs/NOTES.md)
+    last=$(sed -n '/^## Notes of `mean` and `amps`/,$p' docs/NOTES.md)
     while read -r name; do
-        grep -qxF "$name" "$room.has" || echo "$last" | grep -qF "\`$name\`" || differ "docs/NOTES.md has nothing on '$name'"
+        grep -qxF "$name" "$room.has" || echo "$last" | grep -qE "\`([a-z]+: )?$name\`" || differ "docs/NOTES.md has nothing on '$name'"
     done <"$room"
     while read -r name; do
         grep -qxF "$name" "$room" || differ "docs/NOTES.md has an entry '$name', which no note is of"

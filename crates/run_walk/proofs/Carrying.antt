@@ -1,7 +1,7 @@
 -- What is carried out by the parts of an effect, in turn.
-use Rattle.std.proofs.Common.{◌≡◌, Result, Ok, Err, IfErr, OnOk, refl, sym, ap, ◌∙◌, subst}
+use Rattle.std.proofs.Common.{◌≡◌, Result, Ok, IfErr, OnOk, refl, sym, ap, ◌∙◌, subst}
 use Rattle.silq_types.specs.Rules.{and_then}
-use Rattle.silq_mean.specs.Effect.{Effect, nothing, ◌>>◌, statement}
+use Rattle.silq_mean.specs.Effect.{Effect, nothing, ◌>>◌}
 use Rattle.silq_mean.specs.Table.{MeanFault}
 use Rattle.run_stage.specs.declared.stage.Stage.{Stage}
 use Rattle.run_stage.specs.declared.stop.WalkStop.{WalkStop}

@@ -43,10 +43,11 @@ module _ (l : Shelf) (b : Body) (e : ExprId) (takers : List Receiver) (s : Stage
   pub single_is : (t : Stage) → carried (expr_in l b e Consumed) s ≡ Ok t → carried (items_in l b e takers) s ≡ carried (taken_by takers) t
   single_is t k = single ∙ carried_after (expr_in l b e Consumed) (taken_by takers) s t k
 
-  pub single_refused : (r : Result (Unit {0}) WalkStop) (f : WalkStop) → IsErrAnd r (λ g. g ≡ f) → (t : Stage) → IsStop f (carried (expr_in l b e Consumed) s)
+  pub single_refused : (r : Result (Unit {0}) WalkStop) (f : WalkStop) → IsErrAnd r (λ g. g ≡ f) → (t : Stage)
+      → IsStop f (carried (expr_in l b e Consumed) s)
       → record {
         ok : OnOk r (carried (items_in l b e takers) s ≡ Ok t);
-        refused : IfErr r (λ g. IsStop g (carried (items_in l b e takers) s))
+        refused : IfErr r (λ g. IsStop g (carried (items_in l b e takers) s));
       }
   single_refused (Ok u) f is t k = absurd (is)
   single_refused (Err g) f is t k = record {

@@ -135,7 +135,8 @@ fn both(
     requires other { AreStmtsBelow (length library.now.nodes.stmts) (else_stmts other.now) }
     requires this { body.now.this < length library.now.funs }
     ensures ok { OnOk result (carried (choice (block_in library.now body.now then.now) (else_in library.now body.now other.now)) stage.old ≡ Ok stage.new) }
-    ensures refused { IfErr result (λ f. IsStop f (carried (choice (block_in library.now body.now then.now) (else_in library.now body.now other.now)) stage.old)) }
+    ensures refused { IfErr result (λ f. IsStop f
+        (carried (choice (block_in library.now body.now then.now) (else_in library.now body.now other.now)) stage.old)) }
 {
     match stage.begin_choice()? {
         Choice::One(first) => taken(library, body, stage, first, then, other),

@@ -1,9 +1,7 @@
-use Rattle.std.proofs.Common.{rules, ◌≡◌, ◌<◌, length, IfErr, OnOk, Ok, ℕ, ◌+◌, ◌-◌, ◌*◌, ◌≤◌, ◌/◌, ◌%◌, Bool, true, false, nat_eq, nat_lt, List, [], ◌∷◌, ◌++◌, slice_index_or, slice_set, bit_and, bit_or, Fits, w8, w32, w64, Bor, MutBor, ℤ, pos, ◌+ℤ◌, ◌-ℤ◌, ◌*ℤ◌, ◌≤ℤ◌, ◌<ℤ◌, FitsSigned, to_z, of_z}
+use Rattle.std.proofs.Common.{rules, ◌<◌, length, ◌+◌, ◌*◌, w64, to_z, of_z}
 use Rattle.silq_tree.specs.Children.{AreStmtsBelow, else_stmts}
-use Rattle.silq_mean.specs.Effect.{choice}
 use Rattle.run_stage.specs.Stages.{carried}
-use Rattle.run_stage.specs.Stops.{IsStop}
-use Rattle.tree_walk.specs.Seen.{stmts_in, block_in, else_in, taken_in, choose_in, loop_in, with_value}
+use Rattle.tree_walk.specs.Seen.{block_in}
 use Rattle.std.proofs.Common.{SFits, sym, subst, ap, ◌∙◌, max, get_or, arith}
 use Rattle.std.proofs.lemmas.Int.{to_z-of_z}
 use Rattle.silq_tree.proofs.Lists.{exprs_top, expr_below_top, expr_below, stmts_top, stmts_top_le}
@@ -369,75 +367,104 @@ call::own_call-returns-clause-ok t c =
 pub block::block-statements-requires : goal.block::block-statements-requires
 block::block-statements-requires t c =
     let l = c.args.library.now in
-    let b = c.args.body.now in
-    ((let below = level_less b.this (length l.nodes.exprs) (length l.nodes.stmts) (8 * length l.nodes.exprs + 8 * stmts_top c.args.ids.now) (8 * length
-    l.nodes.exprs + (8 * stmts_top c.args.ids.now + 1)) (omega arith) in omega (arith, c.decreases, below)), (c.requires.ids, c.requires.this))
+    let b = c.args.body.now in (
+      (let below = level_less b.this (length l.nodes.exprs) (length l.nodes.stmts) (8 * length l.nodes.exprs + 8 * stmts_top c.args.ids.now) (8 * length
+          l.nodes.exprs + (8 * stmts_top c.args.ids.now + 1)) (omega arith) in omega (arith, c.decreases, below)),
+      (c.requires.ids, c.requires.this),
+    )
 
 pub block::both-taken-requires : goal.block::both-taken-requires
 block::both-taken-requires t c =
     let l = c.args.library.now in
-    let b = c.args.body.now in
-    ((let below = level_less b.this (length l.nodes.exprs) (length l.nodes.stmts) (8 * length l.nodes.exprs + (8 * max (stmts_top c.args.then.now)
-    (stmts_top (else_stmts c.args.other.now)) + 3)) (8 * length l.nodes.exprs + (8 * max (stmts_top c.args.then.now) (stmts_top (else_stmts
-    c.args.other.now)) + 4)) (omega arith) in omega (arith, c.decreases, below)), (c.requires.then, (c.requires.other, c.requires.this)))
+    let b = c.args.body.now in (
+      (let below = level_less b.this (length l.nodes.exprs) (length l.nodes.stmts) (8 * length l.nodes.exprs + (8 * max (stmts_top c.args.then.now)
+          (stmts_top (else_stmts c.args.other.now)) + 3)) (8 * length l.nodes.exprs + (8 * max (stmts_top c.args.then.now) (stmts_top (else_stmts
+          c.args.other.now)) + 4)) (omega arith) in omega (arith, c.decreases, below)),
+      (c.requires.then, (c.requires.other, c.requires.this)),
+    )
 
 pub block::both-block-requires : goal.block::both-block-requires
 block::both-block-requires t c =
     let l = c.args.library.now in
-    let b = c.args.body.now in
-    ((let below = level_less b.this (length l.nodes.exprs) (length l.nodes.stmts) (8 * length l.nodes.exprs + (8 * stmts_top c.args.then.now + 1)) (8 *
-    length l.nodes.exprs + (8 * max (stmts_top c.args.then.now) (stmts_top (else_stmts c.args.other.now)) + 4)) (omega arith) in omega (arith,
-    c.decreases, below)), (c.requires.then, c.requires.this))
+    let b = c.args.body.now in (
+      (let below = level_less b.this (length l.nodes.exprs) (length l.nodes.stmts) (8 * length l.nodes.exprs + (8 * stmts_top c.args.then.now + 1)) (8 *
+          length l.nodes.exprs + (8 * max (stmts_top c.args.then.now) (stmts_top (else_stmts c.args.other.now)) + 4)) (omega arith) in omega (
+            arith,
+            c.decreases,
+            below,
+          )),
+      (c.requires.then, c.requires.this),
+    )
 
 pub block::both-otherwise-requires : goal.block::both-otherwise-requires
 block::both-otherwise-requires t c =
     let l = c.args.library.now in
-    let b = c.args.body.now in
-    ((let below = level_less b.this (length l.nodes.exprs) (length l.nodes.stmts) (8 * length l.nodes.exprs + (8 * stmts_top (else_stmts c.args.other.now)
-    + 2)) (8 * length l.nodes.exprs + (8 * max (stmts_top c.args.then.now) (stmts_top (else_stmts c.args.other.now)) + 4)) (omega arith) in omega (arith,
-    c.decreases, below)), (c.requires.other, c.requires.this))
+    let b = c.args.body.now in (
+      (let below = level_less b.this (length l.nodes.exprs) (length l.nodes.stmts) (8 * length l.nodes.exprs + (8 * stmts_top (else_stmts c.args.other.now)
+          + 2)) (8 * length l.nodes.exprs + (8 * max (stmts_top c.args.then.now) (stmts_top (else_stmts c.args.other.now)) + 4)) (omega arith) in omega (
+            arith,
+            c.decreases,
+            below,
+          )),
+      (c.requires.other, c.requires.this),
+    )
 
 pub block::choose-taken-requires : goal.block::choose-taken-requires
 block::choose-taken-requires t c =
     let l = c.args.library.now in
-    let b = c.args.body.now in
-    ((let below = level_less b.this (length l.nodes.exprs) (length l.nodes.stmts) (8 * length l.nodes.exprs + (8 * max (stmts_top c.args.then.now)
-    (stmts_top (else_stmts c.args.other.now)) + 3)) (8 * length l.nodes.exprs + (8 * max (stmts_top c.args.then.now) (stmts_top (else_stmts
-    c.args.other.now)) + 5)) (omega arith) in omega (arith, c.decreases, below)), (c.requires.then, (c.requires.other, c.requires.this)))
+    let b = c.args.body.now in (
+      (let below = level_less b.this (length l.nodes.exprs) (length l.nodes.stmts) (8 * length l.nodes.exprs + (8 * max (stmts_top c.args.then.now)
+          (stmts_top (else_stmts c.args.other.now)) + 3)) (8 * length l.nodes.exprs + (8 * max (stmts_top c.args.then.now) (stmts_top (else_stmts
+          c.args.other.now)) + 5)) (omega arith) in omega (arith, c.decreases, below)),
+      (c.requires.then, (c.requires.other, c.requires.this)),
+    )
 
 pub block::choose-expr-requires : goal.block::choose-expr-requires
 block::choose-expr-requires t c =
     let l = c.args.library.now in
-    let b = c.args.body.now in
-    ((let below = level_less b.this (length l.nodes.exprs) (length l.nodes.stmts) (8 * c.args.cond.number + 7) (8 * length l.nodes.exprs + (8 * max
-    (stmts_top c.args.then.now) (stmts_top (else_stmts c.args.other.now)) + 5)) (omega (arith, c.requires.cond)) in omega (arith, c.decreases, below)),
-    (c.requires.cond, c.requires.this))
+    let b = c.args.body.now in (
+      (let below = level_less b.this (length l.nodes.exprs) (length l.nodes.stmts) (8 * c.args.cond.number + 7) (8 * length l.nodes.exprs + (8 * max
+          (stmts_top c.args.then.now) (stmts_top (else_stmts c.args.other.now)) + 5)) (omega (arith, c.requires.cond)) in omega (arith, c.decreases, below)),
+      (c.requires.cond, c.requires.this),
+    )
 
 pub block::choose-both-requires : goal.block::choose-both-requires
 block::choose-both-requires t c =
     let l = c.args.library.now in
-    let b = c.args.body.now in
-    ((let below = level_less b.this (length l.nodes.exprs) (length l.nodes.stmts) (8 * length l.nodes.exprs + (8 * max (stmts_top c.args.then.now)
-    (stmts_top (else_stmts c.args.other.now)) + 4)) (8 * length l.nodes.exprs + (8 * max (stmts_top c.args.then.now) (stmts_top (else_stmts
-    c.args.other.now)) + 5)) (omega arith) in omega (arith, c.decreases, below)), (c.requires.then, (c.requires.other, c.requires.this)))
+    let b = c.args.body.now in (
+      (let below = level_less b.this (length l.nodes.exprs) (length l.nodes.stmts) (8 * length l.nodes.exprs + (8 * max (stmts_top c.args.then.now)
+          (stmts_top (else_stmts c.args.other.now)) + 4)) (8 * length l.nodes.exprs + (8 * max (stmts_top c.args.then.now) (stmts_top (else_stmts
+          c.args.other.now)) + 5)) (omega arith) in omega (arith, c.decreases, below)),
+      (c.requires.then, (c.requires.other, c.requires.this)),
+    )
 
 pub block::otherwise-block-requires : goal.block::otherwise-block-requires
 block::otherwise-block-requires t c =
     let l = c.args.library.now in
-    let b = c.args.body.now in
-    (let top = ap stmts_top (else_same c.args.other.now c.in-Block.inner c.as_slice.result.now c.in-Block.is c.as_slice.ensures) in (let below =
-    level_less b.this (length l.nodes.exprs) (length l.nodes.stmts) (8 * length l.nodes.exprs + (8 * stmts_top c.as_slice.result.now + 1)) (8 * length
-    l.nodes.exprs + (8 * stmts_top (else_stmts c.args.other.now) + 2)) (omega (arith, top)) in omega (arith, c.decreases, below)), (else_ids _
-    c.args.other.now c.in-Block.inner c.as_slice.result.now c.in-Block.is c.as_slice.ensures c.requires.ids, c.requires.this))
+    let b = c.args.body.now in (
+      let top = ap stmts_top (else_same c.args.other.now c.in-Block.inner c.as_slice.result.now c.in-Block.is c.as_slice.ensures) in (let below =
+          level_less b.this (length l.nodes.exprs) (length l.nodes.stmts) (8 * length l.nodes.exprs + (8 * stmts_top c.as_slice.result.now + 1)) (8 * length
+          l.nodes.exprs + (8 * stmts_top (else_stmts c.args.other.now) + 2)) (omega (arith, top)) in omega (arith, c.decreases, below)),
+      (
+        else_ids _
+            c.args.other.now c.in-Block.inner c.as_slice.result.now c.in-Block.is c.as_slice.ensures c.requires.ids,
+        c.requires.this,
+      ),
+    )
 
 pub block::otherwise-statement-requires : goal.block::otherwise-statement-requires
 block::otherwise-statement-requires t c =
     let l = c.args.library.now in
-    let b = c.args.body.now in
-    (let top = ap stmts_top (else_one c.args.other.now c.in-Choice.id c.in-Choice.is) in (let below = level_less b.this (length l.nodes.exprs) (length
-    l.nodes.stmts) (8 * length l.nodes.exprs + (8 * c.in-Choice.id.number + 7)) (8 * length l.nodes.exprs + (8 * stmts_top (else_stmts c.args.other.now) +
-    2)) (omega (arith, top)) in omega (arith, c.decreases, below)), ((subst (λ o. AreStmtsBelow (length l.nodes.stmts) (else_stmts o)) c.in-Choice.is
-    c.requires.ids).0, c.requires.this))
+    let b = c.args.body.now in (
+      let top = ap stmts_top (else_one c.args.other.now c.in-Choice.id c.in-Choice.is) in (let below = level_less b.this (length l.nodes.exprs) (length
+          l.nodes.stmts) (8 * length l.nodes.exprs + (8 * c.in-Choice.id.number + 7)) (8 * length l.nodes.exprs + (8 * stmts_top (else_stmts c.args.other.now) +
+          2)) (omega (arith, top)) in omega (arith, c.decreases, below)),
+      (
+        (subst (λ o. AreStmtsBelow (length l.nodes.stmts) (else_stmts o)) c.in-Choice.is
+            c.requires.ids).0,
+        c.requires.this,
+      ),
+    )
 
 pub block::otherwise-returns-in-Block-clause-refused : goal.block::otherwise-returns-in-Block-clause-refused
 block::otherwise-returns-in-Block-clause-refused t c =
@@ -449,13 +476,21 @@ block::otherwise-returns-in-Block-clause-refused t c =
 pub block::round-block-requires : goal.block::round-block-requires
 block::round-block-requires t c =
     let l = c.args.library.now in
-    let b = c.args.body.now in
-    (let below = subst (λ (i : Body). level i.this (length l.nodes.exprs) (length l.nodes.stmts) (8 * length l.nodes.exprs + (8 * stmts_top c.args.ids.now
-    + 1)) < level b.this (length l.nodes.exprs) (length l.nodes.stmts) (8 * length l.nodes.exprs + (8 * stmts_top c.args.ids.now + 2))) (sym (rw
-    (to_z-of_z w64 c.args.value c.ranges.value) at c.in_ok-inner.ensures)) (level_less b.this (length l.nodes.exprs) (length l.nodes.stmts) (8 * length
-    l.nodes.exprs + (8 * stmts_top c.args.ids.now + 1)) (8 * length l.nodes.exprs + (8 * stmts_top c.args.ids.now + 2)) (omega arith)) in omega (arith,
-    c.decreases, below), (c.requires.ids, subst (λ (i : Body). i.this < length l.funs) (sym (rw (to_z-of_z w64 c.args.value c.ranges.value) at
-    c.in_ok-inner.ensures)) c.requires.this))
+    let b = c.args.body.now in (
+      let below = subst (λ (i : Body). level i.this (length l.nodes.exprs) (length l.nodes.stmts) (8 * length l.nodes.exprs + (8 * stmts_top c.args.ids.now
+          + 1)) < level b.this (length l.nodes.exprs) (length l.nodes.stmts) (8 * length l.nodes.exprs + (8 * stmts_top c.args.ids.now + 2))) (sym (rw
+          (to_z-of_z w64 c.args.value c.ranges.value) at c.in_ok-inner.ensures)) (level_less b.this (length l.nodes.exprs) (length l.nodes.stmts) (8 * length
+          l.nodes.exprs + (8 * stmts_top c.args.ids.now + 1)) (8 * length l.nodes.exprs + (8 * stmts_top c.args.ids.now + 2)) (omega arith)) in omega (
+            arith,
+            c.decreases,
+            below,
+          ),
+      (
+        c.requires.ids,
+        subst (λ (i : Body). i.this < length l.funs) (sym (rw (to_z-of_z w64 c.args.value c.ranges.value) at
+            c.in_ok-inner.ensures)) c.requires.this,
+      ),
+    )
 
 pub block::round-returns-clause-refused : goal.block::round-returns-clause-refused
 block::round-returns-clause-refused t c =
@@ -466,11 +501,16 @@ block::round-returns-clause-refused t c =
 pub block::statements-statement-requires : goal.block::statements-statement-requires
 block::statements-statement-requires t c =
     let l = c.args.library.now in
-    let b = c.args.body.now in
-    (let top = stmt_below_top c.args.ids.now c.loop-id.id-index (record { number = 0 }) c.loop-id-test.true in (let below = level_less b.this (length
-    l.nodes.exprs) (length l.nodes.stmts) (8 * length l.nodes.exprs + (8 * (get_or c.args.ids.now c.loop-id.id-index (record { number = 0 })).number + 7))
-    (8 * length l.nodes.exprs + 8 * stmts_top c.args.ids.now) (omega (arith, top)) in omega (arith, c.decreases, below)), (stmt_below _ c.args.ids.now
-    c.loop-id.id-index _ c.requires.ids c.loop-id-test.true, c.requires.this))
+    let b = c.args.body.now in (
+      let top = stmt_below_top c.args.ids.now c.loop-id.id-index (record { number = 0 }) c.loop-id-test.true in (let below = level_less b.this (length
+          l.nodes.exprs) (length l.nodes.stmts) (8 * length l.nodes.exprs + (8 * (get_or c.args.ids.now c.loop-id.id-index (record { number = 0 })).number + 7))
+          (8 * length l.nodes.exprs + 8 * stmts_top c.args.ids.now) (omega (arith, top)) in omega (arith, c.decreases, below)),
+      (
+        stmt_below _ c.args.ids.now
+            c.loop-id.id-index _ c.requires.ids c.loop-id-test.true,
+        c.requires.this,
+      ),
+    )
 
 pub block::statements-returns-in_err-statement-clause-refused : goal.block::statements-returns-in_err-statement-clause-refused
 block::statements-returns-in_err-statement-clause-refused t c =
@@ -489,18 +529,28 @@ block::statements-loop-id-preserved t c =
 pub block::taken-block-requires : goal.block::taken-block-requires
 block::taken-block-requires t c =
     let l = c.args.library.now in
-    let b = c.args.body.now in
-    ((let below = level_less b.this (length l.nodes.exprs) (length l.nodes.stmts) (8 * length l.nodes.exprs + (8 * stmts_top c.args.then.now + 1)) (8 *
-    length l.nodes.exprs + (8 * max (stmts_top c.args.then.now) (stmts_top (else_stmts c.args.other.now)) + 3)) (omega arith) in omega (arith,
-    c.decreases, below)), (c.requires.then, c.requires.this))
+    let b = c.args.body.now in (
+      (let below = level_less b.this (length l.nodes.exprs) (length l.nodes.stmts) (8 * length l.nodes.exprs + (8 * stmts_top c.args.then.now + 1)) (8 *
+          length l.nodes.exprs + (8 * max (stmts_top c.args.then.now) (stmts_top (else_stmts c.args.other.now)) + 3)) (omega arith) in omega (
+            arith,
+            c.decreases,
+            below,
+          )),
+      (c.requires.then, c.requires.this),
+    )
 
 pub block::taken-otherwise-requires : goal.block::taken-otherwise-requires
 block::taken-otherwise-requires t c =
     let l = c.args.library.now in
-    let b = c.args.body.now in
-    ((let below = level_less b.this (length l.nodes.exprs) (length l.nodes.stmts) (8 * length l.nodes.exprs + (8 * stmts_top (else_stmts c.args.other.now)
-    + 2)) (8 * length l.nodes.exprs + (8 * max (stmts_top c.args.then.now) (stmts_top (else_stmts c.args.other.now)) + 3)) (omega arith) in omega (arith,
-    c.decreases, below)), (c.requires.other, c.requires.this))
+    let b = c.args.body.now in (
+      (let below = level_less b.this (length l.nodes.exprs) (length l.nodes.stmts) (8 * length l.nodes.exprs + (8 * stmts_top (else_stmts c.args.other.now)
+          + 2)) (8 * length l.nodes.exprs + (8 * max (stmts_top c.args.then.now) (stmts_top (else_stmts c.args.other.now)) + 3)) (omega arith) in omega (
+            arith,
+            c.decreases,
+            below,
+          )),
+      (c.requires.other, c.requires.this),
+    )
 
 pub block::unroll-returns-then-is_empty-clause-ok : goal.block::unroll-returns-then-is_empty-clause-ok
 block::unroll-returns-then-is_empty-clause-ok t c =
@@ -511,9 +561,11 @@ block::unroll-returns-then-is_empty-clause-ok t c =
 pub block::unroll-round-requires : goal.block::unroll-round-requires
 block::unroll-round-requires t c =
     let l = c.args.library.now in
-    let b = c.args.body.now in
-    ((let below = level_less b.this (length l.nodes.exprs) (length l.nodes.stmts) (8 * length l.nodes.exprs + (8 * stmts_top c.args.ids.now + 2)) (8 *
-    length l.nodes.exprs + (8 * stmts_top c.args.ids.now + 4)) (omega arith) in omega (arith, c.decreases, below)), (c.requires.ids, c.requires.this))
+    let b = c.args.body.now in (
+      (let below = level_less b.this (length l.nodes.exprs) (length l.nodes.stmts) (8 * length l.nodes.exprs + (8 * stmts_top c.args.ids.now + 2)) (8 *
+          length l.nodes.exprs + (8 * stmts_top c.args.ids.now + 4)) (omega arith) in omega (arith, c.decreases, below)),
+      (c.requires.ids, c.requires.this),
+    )
 
 pub block::unroll-returns-in_err-round-clause-refused : goal.block::unroll-returns-in_err-round-clause-refused
 block::unroll-returns-in_err-round-clause-refused t c =
@@ -533,84 +585,149 @@ block::unroll-loop-value-preserved t c =
 pub statement::act-assign-requires : goal.statement::act-assign-requires
 statement::act-assign-requires t c =
     let l = c.args.library.now in
-    let b = c.args.body.now in
-    ((let below = level_less b.this (length l.nodes.exprs) (length l.nodes.stmts) (8 * length l.nodes.exprs + 3) (8 * length l.nodes.exprs + (8 *
-    c.args.id.number + 6)) (omega arith) in omega (arith, c.decreases, below)), (assign_parts l c.tree.result.now c.stmt.result.now c.tree.ensures
-    c.stmt.ensures.parts c.in-Assign.target c.in-Assign.value c.in-Assign.at c.in-Assign.is, (assign_first c.stmt.result.now c.in-Assign.target
-    c.in-Assign.value c.in-Assign.at c.in-Assign.is c.stmt.ensures.first, (assign_value l c.tree.result.now c.stmt.result.now c.tree.ensures
-    c.stmt.ensures.parts c.in-Assign.target c.in-Assign.value c.in-Assign.at c.in-Assign.is, c.requires.this))))
+    let b = c.args.body.now in (
+      (let below = level_less b.this (length l.nodes.exprs) (length l.nodes.stmts) (8 * length l.nodes.exprs + 3) (8 * length l.nodes.exprs + (8 *
+          c.args.id.number + 6)) (omega arith) in omega (arith, c.decreases, below)),
+      (
+        assign_parts l c.tree.result.now c.stmt.result.now c.tree.ensures
+            c.stmt.ensures.parts c.in-Assign.target c.in-Assign.value c.in-Assign.at c.in-Assign.is,
+        (
+          assign_first c.stmt.result.now c.in-Assign.target
+              c.in-Assign.value c.in-Assign.at c.in-Assign.is c.stmt.ensures.first,
+          (
+            assign_value l c.tree.result.now c.stmt.result.now c.tree.ensures
+                c.stmt.ensures.parts c.in-Assign.target c.in-Assign.value c.in-Assign.at c.in-Assign.is,
+            c.requires.this,
+          ),
+        ),
+      ),
+    )
 
 pub statement::act-spread-requires : goal.statement::act-spread-requires
 statement::act-spread-requires t c =
     let l = c.args.library.now in
-    let b = c.args.body.now in
-    ((let below = level_less b.this (length l.nodes.exprs) (length l.nodes.stmts) (8 * length l.nodes.exprs + 3) (8 * length l.nodes.exprs + (8 *
-    c.args.id.number + 6)) (omega arith) in omega (arith, c.decreases, below)), (spread_value l c.tree.result.now c.stmt.result.now c.tree.ensures
-    c.stmt.ensures.parts c.in-Spread.names c.in-Spread.value c.in-Spread.at c.in-Spread.is, c.requires.this))
+    let b = c.args.body.now in (
+      (let below = level_less b.this (length l.nodes.exprs) (length l.nodes.stmts) (8 * length l.nodes.exprs + 3) (8 * length l.nodes.exprs + (8 *
+          c.args.id.number + 6)) (omega arith) in omega (arith, c.decreases, below)),
+      (
+        spread_value l c.tree.result.now c.stmt.result.now c.tree.ensures
+            c.stmt.ensures.parts c.in-Spread.names c.in-Spread.value c.in-Spread.at c.in-Spread.is,
+        c.requires.this,
+      ),
+    )
 
 pub statement::act-update-requires : goal.statement::act-update-requires
 statement::act-update-requires t c =
     let l = c.args.library.now in
-    let b = c.args.body.now in
-    ((let below = level_less b.this (length l.nodes.exprs) (length l.nodes.stmts) (8 * length l.nodes.exprs + 3) (8 * length l.nodes.exprs + (8 *
-    c.args.id.number + 6)) (omega arith) in omega (arith, c.decreases, below)), (update_parts l c.tree.result.now c.stmt.result.now c.tree.ensures
-    c.stmt.ensures.parts c.in-Update.target c.in-Update.op c.in-Update.value c.in-Update.at c.in-Update.is, (update_first c.stmt.result.now
-    c.in-Update.target c.in-Update.op c.in-Update.value c.in-Update.at c.in-Update.is c.stmt.ensures.first, (update_value l c.tree.result.now
-    c.stmt.result.now c.tree.ensures c.stmt.ensures.parts c.in-Update.target c.in-Update.op c.in-Update.value c.in-Update.at c.in-Update.is,
-    c.requires.this))))
+    let b = c.args.body.now in (
+      (let below = level_less b.this (length l.nodes.exprs) (length l.nodes.stmts) (8 * length l.nodes.exprs + 3) (8 * length l.nodes.exprs + (8 *
+          c.args.id.number + 6)) (omega arith) in omega (arith, c.decreases, below)),
+      (
+        update_parts l c.tree.result.now c.stmt.result.now c.tree.ensures
+            c.stmt.ensures.parts c.in-Update.target c.in-Update.op c.in-Update.value c.in-Update.at c.in-Update.is,
+        (
+          update_first c.stmt.result.now
+              c.in-Update.target c.in-Update.op c.in-Update.value c.in-Update.at c.in-Update.is c.stmt.ensures.first,
+          (
+            update_value l c.tree.result.now
+                c.stmt.result.now c.tree.ensures c.stmt.ensures.parts c.in-Update.target c.in-Update.op c.in-Update.value c.in-Update.at c.in-Update.is,
+            c.requires.this,
+          ),
+        ),
+      ),
+    )
 
 pub statement::act-forget-requires : goal.statement::act-forget-requires
 statement::act-forget-requires t c =
     let l = c.args.library.now in
-    let b = c.args.body.now in
-    ((let below = level_less b.this (length l.nodes.exprs) (length l.nodes.stmts) (8 * length l.nodes.exprs + 3) (8 * length l.nodes.exprs + (8 *
-    c.args.id.number + 6)) (omega arith) in omega (arith, c.decreases, below)), (forget_value l c.tree.result.now c.stmt.result.now c.tree.ensures
-    c.stmt.ensures.parts c.in-Forget.name c.in-Forget.value c.in-Forget.at c.in-Forget.is, c.requires.this))
+    let b = c.args.body.now in (
+      (let below = level_less b.this (length l.nodes.exprs) (length l.nodes.stmts) (8 * length l.nodes.exprs + 3) (8 * length l.nodes.exprs + (8 *
+          c.args.id.number + 6)) (omega arith) in omega (arith, c.decreases, below)),
+      (
+        forget_value l c.tree.result.now c.stmt.result.now c.tree.ensures
+            c.stmt.ensures.parts c.in-Forget.name c.in-Forget.value c.in-Forget.at c.in-Forget.is,
+        c.requires.this,
+      ),
+    )
 
 pub statement::act-choose-requires : goal.statement::act-choose-requires
 statement::act-choose-requires t c =
     let l = c.args.library.now in
-    let b = c.args.body.now in
-    (let one = (then_below c.args.id.number (length l.nodes.stmts) c.stmt.result.now c.requires.id c.stmt.ensures.smaller c.in-If.cond c.in-If.then
-    c.in-If.other c.in-If.at c.as_slice-in-If.result.now c.in-If.is c.as_slice-in-If.ensures).1 in let two = (else_below c.args.id.number (length
-    l.nodes.stmts) c.stmt.result.now c.requires.id c.stmt.ensures.smaller c.in-If.cond c.in-If.then c.in-If.other c.in-If.at c.in-If.is).1 in (let below =
-    level_less b.this (length l.nodes.exprs) (length l.nodes.stmts) (8 * length l.nodes.exprs + (8 * max (stmts_top c.as_slice-in-If.result.now)
-    (stmts_top (else_stmts c.in-If.other)) + 5)) (8 * length l.nodes.exprs + (8 * c.args.id.number + 6)) (omega (arith, one, two)) in omega (arith,
-    c.decreases, below)), (if_condition l c.tree.result.now c.stmt.result.now c.tree.ensures c.stmt.ensures.parts c.in-If.cond c.in-If.then c.in-If.other
-    c.in-If.at c.in-If.is, ((then_below c.args.id.number (length l.nodes.stmts) c.stmt.result.now c.requires.id c.stmt.ensures.smaller c.in-If.cond
-    c.in-If.then c.in-If.other c.in-If.at c.as_slice-in-If.result.now c.in-If.is c.as_slice-in-If.ensures).0, ((else_below c.args.id.number (length
-    l.nodes.stmts) c.stmt.result.now c.requires.id c.stmt.ensures.smaller c.in-If.cond c.in-If.then c.in-If.other c.in-If.at c.in-If.is).0,
-    c.requires.this))))
+    let b = c.args.body.now in (
+      let one = (then_below c.args.id.number (length l.nodes.stmts) c.stmt.result.now c.requires.id c.stmt.ensures.smaller c.in-If.cond c.in-If.then
+          c.in-If.other c.in-If.at c.as_slice-in-If.result.now c.in-If.is c.as_slice-in-If.ensures).1 in let two = (else_below c.args.id.number (length
+          l.nodes.stmts) c.stmt.result.now c.requires.id c.stmt.ensures.smaller c.in-If.cond c.in-If.then c.in-If.other c.in-If.at c.in-If.is).1 in (let below =
+          level_less b.this (length l.nodes.exprs) (length l.nodes.stmts) (8 * length l.nodes.exprs + (8 * max (stmts_top c.as_slice-in-If.result.now)
+          (stmts_top (else_stmts c.in-If.other)) + 5)) (8 * length l.nodes.exprs + (8 * c.args.id.number + 6)) (omega (arith, one, two)) in omega (
+            arith,
+            c.decreases,
+            below,
+          )),
+      (
+        if_condition l c.tree.result.now c.stmt.result.now c.tree.ensures c.stmt.ensures.parts c.in-If.cond c.in-If.then c.in-If.other
+            c.in-If.at c.in-If.is,
+        (
+          (then_below c.args.id.number (length l.nodes.stmts) c.stmt.result.now c.requires.id c.stmt.ensures.smaller c.in-If.cond
+              c.in-If.then c.in-If.other c.in-If.at c.as_slice-in-If.result.now c.in-If.is c.as_slice-in-If.ensures).0,
+          (
+            (else_below c.args.id.number (length
+                l.nodes.stmts) c.stmt.result.now c.requires.id c.stmt.ensures.smaller c.in-If.cond c.in-If.then c.in-If.other c.in-If.at c.in-If.is).0,
+            c.requires.this,
+          ),
+        ),
+      ),
+    )
 
 pub statement::act-unroll-requires : goal.statement::act-unroll-requires
 statement::act-unroll-requires t c =
     let l = c.args.library.now in
-    let b = c.args.body.now in
-    (let one = (loop_below c.args.id.number (length l.nodes.stmts) c.stmt.result.now c.requires.id c.stmt.ensures.smaller c.in-For.name c.in-For.low
-    c.in-For.high c.in-For.inner c.in-For.at c.as_slice-in-For.result.now c.in-For.is c.as_slice-in-For.ensures).1 in (let below = level_less b.this
-    (length l.nodes.exprs) (length l.nodes.stmts) (8 * length l.nodes.exprs + (8 * stmts_top c.as_slice-in-For.result.now + 4)) (8 * length l.nodes.exprs
-    + (8 * c.args.id.number + 6)) (omega (arith, one)) in omega (arith, c.decreases, below)), (for_low l c.tree.result.now c.stmt.result.now
-    c.tree.ensures c.stmt.ensures.parts c.in-For.name c.in-For.low c.in-For.high c.in-For.inner c.in-For.at c.in-For.is, (for_high l c.tree.result.now
-    c.stmt.result.now c.tree.ensures c.stmt.ensures.parts c.in-For.name c.in-For.low c.in-For.high c.in-For.inner c.in-For.at c.in-For.is, ((loop_below
-    c.args.id.number (length l.nodes.stmts) c.stmt.result.now c.requires.id c.stmt.ensures.smaller c.in-For.name c.in-For.low c.in-For.high c.in-For.inner
-    c.in-For.at c.as_slice-in-For.result.now c.in-For.is c.as_slice-in-For.ensures).0, c.requires.this))))
+    let b = c.args.body.now in (
+      let one = (loop_below c.args.id.number (length l.nodes.stmts) c.stmt.result.now c.requires.id c.stmt.ensures.smaller c.in-For.name c.in-For.low
+          c.in-For.high c.in-For.inner c.in-For.at c.as_slice-in-For.result.now c.in-For.is c.as_slice-in-For.ensures).1 in (let below = level_less b.this
+          (length l.nodes.exprs) (length l.nodes.stmts) (8 * length l.nodes.exprs + (8 * stmts_top c.as_slice-in-For.result.now + 4)) (8 * length l.nodes.exprs
+          + (8 * c.args.id.number + 6)) (omega (arith, one)) in omega (arith, c.decreases, below)),
+      (
+        for_low l c.tree.result.now c.stmt.result.now
+            c.tree.ensures c.stmt.ensures.parts c.in-For.name c.in-For.low c.in-For.high c.in-For.inner c.in-For.at c.in-For.is,
+        (
+          for_high l c.tree.result.now
+              c.stmt.result.now c.tree.ensures c.stmt.ensures.parts c.in-For.name c.in-For.low c.in-For.high c.in-For.inner c.in-For.at c.in-For.is,
+          (
+            (loop_below
+                c.args.id.number (length l.nodes.stmts) c.stmt.result.now c.requires.id c.stmt.ensures.smaller c.in-For.name c.in-For.low c.in-For.high c.in-For.inner
+                c.in-For.at c.as_slice-in-For.result.now c.in-For.is c.as_slice-in-For.ensures).0,
+            c.requires.this,
+          ),
+        ),
+      ),
+    )
 
 pub statement::act-returned-requires : goal.statement::act-returned-requires
 statement::act-returned-requires t c =
     let l = c.args.library.now in
-    let b = c.args.body.now in
-    ((let below = level_less b.this (length l.nodes.exprs) (length l.nodes.stmts) (8 * length l.nodes.exprs + 3) (8 * length l.nodes.exprs + (8 *
-    c.args.id.number + 6)) (omega arith) in omega (arith, c.decreases, below)), (return_value l c.tree.result.now c.stmt.result.now c.tree.ensures
-    c.stmt.ensures.parts c.in-Return.value c.in-Return.at c.in-Return.is, c.requires.this))
+    let b = c.args.body.now in (
+      (let below = level_less b.this (length l.nodes.exprs) (length l.nodes.stmts) (8 * length l.nodes.exprs + 3) (8 * length l.nodes.exprs + (8 *
+          c.args.id.number + 6)) (omega arith) in omega (arith, c.decreases, below)),
+      (
+        return_value l c.tree.result.now c.stmt.result.now c.tree.ensures
+            c.stmt.ensures.parts c.in-Return.value c.in-Return.at c.in-Return.is,
+        c.requires.this,
+      ),
+    )
 
 pub statement::act-expr-requires : goal.statement::act-expr-requires
 statement::act-expr-requires t c =
     let l = c.args.library.now in
-    let b = c.args.body.now in
-    (let id = do_value l c.tree.result.now c.stmt.result.now c.tree.ensures c.stmt.ensures.parts c.in-Call.call c.in-Call.at c.in-Call.is in (let below =
-    level_less b.this (length l.nodes.exprs) (length l.nodes.stmts) (8 * c.in-Call.call.number + 7) (8 * length l.nodes.exprs + (8 * c.args.id.number +
-    6)) (omega (arith, id)) in omega (arith, c.decreases, below)), (do_value l c.tree.result.now c.stmt.result.now c.tree.ensures c.stmt.ensures.parts
-    c.in-Call.call c.in-Call.at c.in-Call.is, c.requires.this))
+    let b = c.args.body.now in (
+      let id = do_value l c.tree.result.now c.stmt.result.now c.tree.ensures c.stmt.ensures.parts c.in-Call.call c.in-Call.at c.in-Call.is in (let below =
+          level_less b.this (length l.nodes.exprs) (length l.nodes.stmts) (8 * c.in-Call.call.number + 7) (8 * length l.nodes.exprs + (8 * c.args.id.number +
+          6)) (omega (arith, id)) in omega (arith, c.decreases, below)),
+      (
+        do_value l c.tree.result.now c.stmt.result.now c.tree.ensures c.stmt.ensures.parts
+            c.in-Call.call c.in-Call.at c.in-Call.is,
+        c.requires.this,
+      ),
+    )
 
 pub statement::act-returns-in-Assign-clause-refused : goal.statement::act-returns-in-Assign-clause-refused
 statement::act-returns-in-Assign-clause-refused t c =
@@ -689,27 +806,42 @@ statement::act-returns-in-Call-clause-refused t c =
 pub statement::assign-expr-requires : goal.statement::assign-expr-requires
 statement::assign-expr-requires t c =
     let l = c.args.library.now in
-    let b = c.args.body.now in
-    ((let below = level_less b.this (length l.nodes.exprs) (length l.nodes.stmts) (8 * c.args.value.number + 7) (8 * length l.nodes.exprs + 3) (omega
-    (arith, c.requires.id)) in omega (arith, c.decreases, below)), (c.requires.id, c.requires.this))
+    let b = c.args.body.now in (
+      (let below = level_less b.this (length l.nodes.exprs) (length l.nodes.stmts) (8 * c.args.value.number + 7) (8 * length l.nodes.exprs + 3) (omega
+          (arith, c.requires.id)) in omega (arith, c.decreases, below)),
+      (c.requires.id, c.requires.this),
+    )
 
 pub statement::forget-expr-requires : goal.statement::forget-expr-requires
 statement::forget-expr-requires t c =
     let l = c.args.library.now in
-    let b = c.args.body.now in
-    (let id = (subst (λ v. IfSome v (λ e. e.number < length l.nodes.exprs)) c.in-Some.is c.requires.id) in (let below = level_less b.this (length
-    l.nodes.exprs) (length l.nodes.stmts) (8 * c.in-Some.e.number + 7) (8 * length l.nodes.exprs + 3) (omega (arith, id)) in omega (arith, c.decreases,
-    below)), ((subst (λ v. IfSome v (λ e. e.number < length l.nodes.exprs)) c.in-Some.is c.requires.id), c.requires.this))
+    let b = c.args.body.now in (
+      let id = (subst (λ v. IfSome v (λ e. e.number < length l.nodes.exprs)) c.in-Some.is c.requires.id) in (let below = level_less b.this (length
+          l.nodes.exprs) (length l.nodes.stmts) (8 * c.in-Some.e.number + 7) (8 * length l.nodes.exprs + 3) (omega (arith, id)) in omega (
+            arith,
+            c.decreases,
+            below,
+          )),
+      ((subst (λ v. IfSome v (λ e. e.number < length l.nodes.exprs)) c.in-Some.is c.requires.id), c.requires.this),
+    )
 
 pub statement::items-values-requires : goal.statement::items-values-requires
 statement::items-values-requires t c =
     let l = c.args.library.now in
-    let b = c.args.body.now in
-    (let top = (tuple_below c.args.e.number (length l.nodes.exprs) c.expr.result.now c.requires.id c.expr.ensures.smaller c.in-Tuple.items
-    c.as_slice.result.now c.in-Tuple.at c.in-Tuple.is c.as_slice.ensures).1 in let id = c.requires.id in (let below = level_less b.this (length
-    l.nodes.exprs) (length l.nodes.stmts) (8 * exprs_top c.as_slice.result.now) (8 * length l.nodes.exprs + 2) (omega (arith, top, id)) in omega (arith,
-    c.decreases, below)), ((tuple_below c.args.e.number (length l.nodes.exprs) c.expr.result.now c.requires.id c.expr.ensures.smaller c.in-Tuple.items
-    c.as_slice.result.now c.in-Tuple.at c.in-Tuple.is c.as_slice.ensures).0, c.requires.this))
+    let b = c.args.body.now in (
+      let top = (tuple_below c.args.e.number (length l.nodes.exprs) c.expr.result.now c.requires.id c.expr.ensures.smaller c.in-Tuple.items
+          c.as_slice.result.now c.in-Tuple.at c.in-Tuple.is c.as_slice.ensures).1 in let id = c.requires.id in (let below = level_less b.this (length
+          l.nodes.exprs) (length l.nodes.stmts) (8 * exprs_top c.as_slice.result.now) (8 * length l.nodes.exprs + 2) (omega (arith, top, id)) in omega (
+            arith,
+            c.decreases,
+            below,
+          )),
+      (
+        (tuple_below c.args.e.number (length l.nodes.exprs) c.expr.result.now c.requires.id c.expr.ensures.smaller c.in-Tuple.items
+            c.as_slice.result.now c.in-Tuple.at c.in-Tuple.is c.as_slice.ensures).0,
+        c.requires.this,
+      ),
+    )
 
 pub statement::items-returns-in-Tuple-clause-refused : goal.statement::items-returns-in-Tuple-clause-refused
 statement::items-returns-in-Tuple-clause-refused t c =
@@ -722,9 +854,13 @@ statement::items-returns-in-Tuple-clause-refused t c =
 pub statement::items-expr-requires-2 : goal.statement::items-expr-requires-2
 statement::items-expr-requires-2 t c =
     let l = c.args.library.now in
-    let b = c.args.body.now in
-    ((let below = level_less b.this (length l.nodes.exprs) (length l.nodes.stmts) (8 * c.args.e.number + 7) (8 * length l.nodes.exprs + 2) (omega (arith,
-    c.requires.id)) in omega (arith, c.decreases, below)), (c.requires.id, c.requires.this))
+    let b = c.args.body.now in (
+      (let below = level_less b.this (length l.nodes.exprs) (length l.nodes.stmts) (8 * c.args.e.number + 7) (8 * length l.nodes.exprs + 2) (omega (
+        arith,
+        c.requires.id,
+      )) in omega (arith, c.decreases, below)),
+      (c.requires.id, c.requires.this),
+    )
 
 pub statement::items-returns-in_err-expr : goal.statement::items-returns-in_err-expr
 statement::items-returns-in_err-expr t c =
@@ -738,19 +874,26 @@ pub statement::items-returns : goal.statement::items-returns
 statement::items-returns t c =
     let l = c.args.library.now in
     let b = c.args.body.now in
-    record { ok = ok_as _ _ (single_is l b c.args.e c.args.takers.now c.args.stage.now (told_single l b c.args.e Consumed c.tree.result.now
-    c.expr.result.now c.tree.ensures c.expr.ensures.tree c.args.takers.now c.in_default.not-Tuple) _ c.in_ok-expr.ensures.ok) c.receive.result _
-    c.receive.ensures.ok; refused = refused_as _ _ (single_is l b c.args.e c.args.takers.now c.args.stage.now (told_single l b c.args.e Consumed
-    c.tree.result.now c.expr.result.now c.tree.ensures c.expr.ensures.tree c.args.takers.now c.in_default.not-Tuple) _ c.in_ok-expr.ensures.ok)
-    c.receive.result c.receive.ensures.refused }
+    record {
+      ok = ok_as _ _ (single_is l b c.args.e c.args.takers.now c.args.stage.now (told_single l b c.args.e Consumed c.tree.result.now
+          c.expr.result.now c.tree.ensures c.expr.ensures.tree c.args.takers.now c.in_default.not-Tuple) _ c.in_ok-expr.ensures.ok) c.receive.result _
+          c.receive.ensures.ok;
+      refused = refused_as _ _ (single_is l b c.args.e c.args.takers.now c.args.stage.now (told_single l b c.args.e Consumed
+          c.tree.result.now c.expr.result.now c.tree.ensures c.expr.ensures.tree c.args.takers.now c.in_default.not-Tuple) _ c.in_ok-expr.ensures.ok)
+          c.receive.result c.receive.ensures.refused;
+    }
 
 pub statement::returned-items-requires : goal.statement::returned-items-requires
 statement::returned-items-requires t c =
     let l = c.args.library.now in
-    let b = c.args.body.now in
-    ((let below = level_less b.this (length l.nodes.exprs) (length l.nodes.stmts) (8 * length l.nodes.exprs + 2) (8 * length l.nodes.exprs + 3) (omega
-    arith) in omega (arith, c.decreases, below)), ((subst (λ v. IfSome v (λ e. e.number < length l.nodes.exprs)) c.in-Some.is c.requires.id),
-    c.requires.this))
+    let b = c.args.body.now in (
+      (let below = level_less b.this (length l.nodes.exprs) (length l.nodes.stmts) (8 * length l.nodes.exprs + 2) (8 * length l.nodes.exprs + 3) (omega
+          arith) in omega (arith, c.decreases, below)),
+      (
+        (subst (λ v. IfSome v (λ e. e.number < length l.nodes.exprs)) c.in-Some.is c.requires.id),
+        c.requires.this,
+      ),
+    )
 
 pub statement::returned-returns-in-Some-clause-refused : goal.statement::returned-returns-in-Some-clause-refused
 statement::returned-returns-in-Some-clause-refused t c =
@@ -762,9 +905,11 @@ statement::returned-returns-in-Some-clause-refused t c =
 pub statement::spread-items-requires : goal.statement::spread-items-requires
 statement::spread-items-requires t c =
     let l = c.args.library.now in
-    let b = c.args.body.now in
-    ((let below = level_less b.this (length l.nodes.exprs) (length l.nodes.stmts) (8 * length l.nodes.exprs + 2) (8 * length l.nodes.exprs + 3) (omega
-    arith) in omega (arith, c.decreases, below)), (c.requires.id, c.requires.this))
+    let b = c.args.body.now in (
+      (let below = level_less b.this (length l.nodes.exprs) (length l.nodes.stmts) (8 * length l.nodes.exprs + 2) (8 * length l.nodes.exprs + 3) (omega
+          arith) in omega (arith, c.decreases, below)),
+      (c.requires.id, c.requires.this),
+    )
 
 pub statement::spread-returns-in_err-items-clause-refused : goal.statement::spread-returns-in_err-items-clause-refused
 statement::spread-returns-in_err-items-clause-refused t c =
@@ -784,9 +929,11 @@ statement::statement-returns-in_err-begin_statement-clause-refused t c =
 pub statement::statement-act-requires : goal.statement::statement-act-requires
 statement::statement-act-requires t c =
     let l = c.args.library.now in
-    let b = c.args.body.now in
-    ((let below = level_less b.this (length l.nodes.exprs) (length l.nodes.stmts) (8 * length l.nodes.exprs + (8 * c.args.id.number + 6)) (8 * length
-    l.nodes.exprs + (8 * c.args.id.number + 7)) (omega arith) in omega (arith, c.decreases, below)), (c.requires.id, c.requires.this))
+    let b = c.args.body.now in (
+      (let below = level_less b.this (length l.nodes.exprs) (length l.nodes.stmts) (8 * length l.nodes.exprs + (8 * c.args.id.number + 6)) (8 * length
+          l.nodes.exprs + (8 * c.args.id.number + 7)) (omega arith) in omega (arith, c.decreases, below)),
+      (c.requires.id, c.requires.this),
+    )
 
 pub statement::statement-returns-clause-ok : goal.statement::statement-returns-clause-ok
 statement::statement-returns-clause-ok t c =
@@ -803,6 +950,8 @@ statement::statement-returns-clause-refused t c =
 pub statement::update-expr-requires : goal.statement::update-expr-requires
 statement::update-expr-requires t c =
     let l = c.args.library.now in
-    let b = c.args.body.now in
-    ((let below = level_less b.this (length l.nodes.exprs) (length l.nodes.stmts) (8 * c.args.value.number + 7) (8 * length l.nodes.exprs + 3) (omega
-    (arith, c.requires.id)) in omega (arith, c.decreases, below)), (c.requires.id, c.requires.this))
+    let b = c.args.body.now in (
+      (let below = level_less b.this (length l.nodes.exprs) (length l.nodes.stmts) (8 * c.args.value.number + 7) (8 * length l.nodes.exprs + 3) (omega
+          (arith, c.requires.id)) in omega (arith, c.decreases, below)),
+      (c.requires.id, c.requires.this),
+    )

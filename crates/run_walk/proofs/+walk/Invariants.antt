@@ -40,52 +40,84 @@ decreases-call::run_body l =
     (8 * length l.library.now.nodes.exprs + (8 * length l.library.now.nodes.stmts + 8))
 
 abbrev pub decreases-statement::statement : goal.decreases-statement::statement
-decreases-statement::statement l = level l.body.now.this (length l.library.now.nodes.exprs) (length l.library.now.nodes.stmts) (8 * length l.library.now.nodes.exprs + (8 * l.id.number + 7))
+decreases-statement::statement l =
+    level l.body.now.this (length l.library.now.nodes.exprs) (length l.library.now.nodes.stmts)
+    (8 * length l.library.now.nodes.exprs + (8 * l.id.number + 7))
 
 abbrev pub decreases-statement::act : goal.decreases-statement::act
-decreases-statement::act l = level l.body.now.this (length l.library.now.nodes.exprs) (length l.library.now.nodes.stmts) (8 * length l.library.now.nodes.exprs + (8 * l.id.number + 6))
+decreases-statement::act l =
+    level l.body.now.this (length l.library.now.nodes.exprs) (length l.library.now.nodes.stmts)
+    (8 * length l.library.now.nodes.exprs + (8 * l.id.number + 6))
 
 abbrev pub decreases-statement::assign : goal.decreases-statement::assign
-decreases-statement::assign l = level l.body.now.this (length l.library.now.nodes.exprs) (length l.library.now.nodes.stmts) (8 * length l.library.now.nodes.exprs + 3)
+decreases-statement::assign l =
+    level l.body.now.this (length l.library.now.nodes.exprs) (length l.library.now.nodes.stmts)
+    (8 * length l.library.now.nodes.exprs + 3)
 
 abbrev pub decreases-statement::spread : goal.decreases-statement::spread
-decreases-statement::spread l = level l.body.now.this (length l.library.now.nodes.exprs) (length l.library.now.nodes.stmts) (8 * length l.library.now.nodes.exprs + 3)
+decreases-statement::spread l =
+    level l.body.now.this (length l.library.now.nodes.exprs) (length l.library.now.nodes.stmts)
+    (8 * length l.library.now.nodes.exprs + 3)
 
 abbrev pub decreases-statement::update : goal.decreases-statement::update
-decreases-statement::update l = level l.body.now.this (length l.library.now.nodes.exprs) (length l.library.now.nodes.stmts) (8 * length l.library.now.nodes.exprs + 3)
+decreases-statement::update l =
+    level l.body.now.this (length l.library.now.nodes.exprs) (length l.library.now.nodes.stmts)
+    (8 * length l.library.now.nodes.exprs + 3)
 
 abbrev pub decreases-statement::forget : goal.decreases-statement::forget
-decreases-statement::forget l = level l.body.now.this (length l.library.now.nodes.exprs) (length l.library.now.nodes.stmts) (8 * length l.library.now.nodes.exprs + 3)
+decreases-statement::forget l =
+    level l.body.now.this (length l.library.now.nodes.exprs) (length l.library.now.nodes.stmts)
+    (8 * length l.library.now.nodes.exprs + 3)
 
 abbrev pub decreases-statement::returned : goal.decreases-statement::returned
-decreases-statement::returned l = level l.body.now.this (length l.library.now.nodes.exprs) (length l.library.now.nodes.stmts) (8 * length l.library.now.nodes.exprs + 3)
+decreases-statement::returned l =
+    level l.body.now.this (length l.library.now.nodes.exprs) (length l.library.now.nodes.stmts)
+    (8 * length l.library.now.nodes.exprs + 3)
 
 abbrev pub decreases-statement::items : goal.decreases-statement::items
-decreases-statement::items l = level l.body.now.this (length l.library.now.nodes.exprs) (length l.library.now.nodes.stmts) (8 * length l.library.now.nodes.exprs + 2)
+decreases-statement::items l =
+    level l.body.now.this (length l.library.now.nodes.exprs) (length l.library.now.nodes.stmts)
+    (8 * length l.library.now.nodes.exprs + 2)
 
 abbrev pub decreases-block::statements : goal.decreases-block::statements
-decreases-block::statements l = level l.body.now.this (length l.library.now.nodes.exprs) (length l.library.now.nodes.stmts) (8 * length l.library.now.nodes.exprs + 8 * stmts_top l.ids.now)
+decreases-block::statements l =
+    level l.body.now.this (length l.library.now.nodes.exprs) (length l.library.now.nodes.stmts)
+    (8 * length l.library.now.nodes.exprs + 8 * stmts_top l.ids.now)
 
 abbrev pub decreases-block::block : goal.decreases-block::block
-decreases-block::block l = level l.body.now.this (length l.library.now.nodes.exprs) (length l.library.now.nodes.stmts) (8 * length l.library.now.nodes.exprs + (8 * stmts_top l.ids.now + 1))
+decreases-block::block l =
+    level l.body.now.this (length l.library.now.nodes.exprs) (length l.library.now.nodes.stmts)
+    (8 * length l.library.now.nodes.exprs + (8 * stmts_top l.ids.now + 1))
 
 abbrev pub decreases-block::otherwise : goal.decreases-block::otherwise
-decreases-block::otherwise l = level l.body.now.this (length l.library.now.nodes.exprs) (length l.library.now.nodes.stmts) (8 * length l.library.now.nodes.exprs + (8 * stmts_top (else_stmts l.other.now) + 2))
+decreases-block::otherwise l =
+    level l.body.now.this (length l.library.now.nodes.exprs) (length l.library.now.nodes.stmts)
+    (8 * length l.library.now.nodes.exprs + (8 * stmts_top (else_stmts l.other.now) + 2))
 
 abbrev pub decreases-block::taken : goal.decreases-block::taken
-decreases-block::taken l = level l.body.now.this (length l.library.now.nodes.exprs) (length l.library.now.nodes.stmts) (8 * length l.library.now.nodes.exprs + (8 * max (stmts_top l.then.now) (stmts_top (else_stmts l.other.now)) + 3))
+decreases-block::taken l =
+    level l.body.now.this (length l.library.now.nodes.exprs) (length l.library.now.nodes.stmts)
+    (8 * length l.library.now.nodes.exprs + (8 * max (stmts_top l.then.now) (stmts_top (else_stmts l.other.now)) + 3))
 
 abbrev pub decreases-block::both : goal.decreases-block::both
-decreases-block::both l = level l.body.now.this (length l.library.now.nodes.exprs) (length l.library.now.nodes.stmts) (8 * length l.library.now.nodes.exprs + (8 * max (stmts_top l.then.now) (stmts_top (else_stmts l.other.now)) + 4))
+decreases-block::both l =
+    level l.body.now.this (length l.library.now.nodes.exprs) (length l.library.now.nodes.stmts)
+    (8 * length l.library.now.nodes.exprs + (8 * max (stmts_top l.then.now) (stmts_top (else_stmts l.other.now)) + 4))
 
 abbrev pub decreases-block::choose : goal.decreases-block::choose
-decreases-block::choose l = level l.body.now.this (length l.library.now.nodes.exprs) (length l.library.now.nodes.stmts) (8 * length l.library.now.nodes.exprs + (8 * max (stmts_top l.then.now) (stmts_top (else_stmts l.other.now)) + 5))
+decreases-block::choose l =
+    level l.body.now.this (length l.library.now.nodes.exprs) (length l.library.now.nodes.stmts)
+    (8 * length l.library.now.nodes.exprs + (8 * max (stmts_top l.then.now) (stmts_top (else_stmts l.other.now)) + 5))
 
 abbrev pub decreases-block::round : goal.decreases-block::round
-decreases-block::round l = level l.body.now.this (length l.library.now.nodes.exprs) (length l.library.now.nodes.stmts) (8 * length l.library.now.nodes.exprs + (8 * stmts_top l.ids.now + 2))
+decreases-block::round l =
+    level l.body.now.this (length l.library.now.nodes.exprs) (length l.library.now.nodes.stmts)
+    (8 * length l.library.now.nodes.exprs + (8 * stmts_top l.ids.now + 2))
 
 abbrev pub decreases-block::unroll : goal.decreases-block::unroll
-decreases-block::unroll l = level l.body.now.this (length l.library.now.nodes.exprs) (length l.library.now.nodes.stmts) (8 * length l.library.now.nodes.exprs + (8 * stmts_top l.ids.now + 4))
+decreases-block::unroll l =
+    level l.body.now.this (length l.library.now.nodes.exprs) (length l.library.now.nodes.stmts)
+    (8 * length l.library.now.nodes.exprs + (8 * stmts_top l.ids.now + 4))
 
 abbrev pub invariant-expr::values-loop-item : goal.invariant-expr::values-loop-item
 invariant-expr::values-loop-item l =
@@ -98,7 +130,8 @@ invariant-block::statements-loop-id l =
 
 abbrev pub invariant-block::unroll-loop-value : goal.invariant-block::unroll-loop-value
 invariant-block::unroll-loop-value l =
-    Onward (rounds_in l.fn.library l.fn.body l.fn.name l.fn.ids l.value (distance (l.past -ℤ l.value))) (carried (loop_in l.fn.library l.fn.body l.fn.name l.fn.low l.fn.high l.fn.ids) l.fn.stage) l.stage
+    Onward (rounds_in l.fn.library l.fn.body l.fn.name l.fn.ids l.value (distance (l.past -ℤ l.value)))
+    (carried (loop_in l.fn.library l.fn.body l.fn.name l.fn.low l.fn.high l.fn.ids) l.fn.stage) l.stage
 
 abbrev pub decreases-block::unroll-loop-value : goal.decreases-block::unroll-loop-value
 decreases-block::unroll-loop-value l = distance (l.past -ℤ l.value)
