@@ -171,6 +171,16 @@ fn is_met(alloc: Global, case: &Case) -> Result<bool, AllocError> {
     Ok(status.code() == case.code && out.bytes() == case.out && notes.bytes() == case.note)
 }
 
+// What a command writes over `one.slq` with these bytes.
+pub(crate) fn written(alloc: Global, words: &[&str], bytes: &[u8]) -> Result<Vec<u8>, AllocError> {
+    let words = words_of(alloc, words)?;
+    let mut files = file_of(alloc, bytes, &[])?;
+    let mut out = MemSink::new(alloc, 100_000, Vec::new(alloc))?;
+    let mut notes = MemSink::new(alloc, 200, Vec::new(alloc))?;
+    silqc(alloc, &words, &mut files, &mut out, &mut notes);
+    Vec::from_slice(alloc, out.bytes())
+}
+
 // The number of the first case that ends otherwise, from 0.
 pub(crate) fn first_missed(alloc: Global, cases: &[Case]) -> Option<usize> {
     for (number, case) in cases.iter().enumerate() {

@@ -4,6 +4,8 @@
 #[cfg(test)]
 mod commands;
 #[cfg(test)]
+mod read_back;
+#[cfg(test)]
 mod slow;
 #[cfg(test)]
 mod tables;

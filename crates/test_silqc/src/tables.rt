@@ -18,14 +18,15 @@ fn untold<'a>(words: &'a [&'a str], bytes: &'a [u8], code: u8, note: &'a [u8]) -
     }
 }
 
-const FORGET: &[u8] = b"def main(y:B) { forget(y = 0:B); }";
+pub(crate) const FORGET: &[u8] = b"def main(y:B) { forget(y = 0:B); }";
 
 const FORGET_TEXT: &[u8] =
     b"OPENQASM 2.0;\ninclude \"qelib1.inc\";\nqreg q[1];\n// silqc in 0 q[0]\n";
 
-const ADDER: &[u8] = b"def main(x:uint[3], const y:uint[3]):uint[3] { x += y; return x; }";
+pub(crate) const ADDER: &[u8] =
+    b"def main(x:uint[3], const y:uint[3]):uint[3] { x += y; return x; }";
 
-const TELEPORTATION: &[u8] =
+pub(crate) const TELEPORTATION: &[u8] =
     b"def main(s:B):B { a := H(0:B); b := dup(a); if s { a := X(a); } s := H(s); m := measure(s); n := measure(a); if n { b := X(b); } if m { b := Z(b); } return b; }";
 
 const TELEPORTATION_TEXT: &[u8] = b"OPENQASM 2.0;
@@ -47,7 +48,7 @@ if (m1==1) x q[1];
 // silqc out 0 q[2]
 ";
 
-const MIXED_TWICE: &[u8] =
+pub(crate) const MIXED_TWICE: &[u8] =
     b"def main(const c:B, x:B):B { if c { x := H(x); x := H(x); } return x; }";
 
 const ROUNDS: &[u8] = b"def main[n:!N](x:B):B { for i in [0..n) { x := H(x); } return x; }";
