@@ -14,7 +14,7 @@ struct Row<'a> {
 }
 
 // The table of `main` on these bits and for these outcomes.
-fn row<'a>(program: &'a [u8], amps: &'a [&'a str], lines: &'a [u8]) -> Row<'a> {
+fn of_main<'a>(program: &'a [u8], amps: &'a [&'a str], lines: &'a [u8]) -> Row<'a> {
     Row {
         program,
         compile: &["compile", "one.slq", "main"],
@@ -43,37 +43,37 @@ fn first_missed(alloc: Global, rows: &[Row]) -> Option<usize> {
 #[test]
 fn of_written_circuits(rt: HostRuntime) {
     let rows = [
-        row(
+        of_main(
             b"def main() { return; }",
             &["amps", "one.slq", "none", "none"],
             b"- - 1 0 0 0 0\n",
         ),
-        row(
+        of_main(
             b"def main() { phase(pi/4); }",
             &["amps", "one.slq", "none", "none"],
             b"- 0 0 1 0 0 0\n",
         ),
-        row(
+        of_main(
             ADDER,
             &["amps", "one.slq", "111100", "none"],
             b"000100 00 1 0 0 0 0\n",
         ),
-        row(
+        of_main(
             b"def main(x:uint[2], const y:uint[2]):uint[2] { z := x + y; x += y; forget(z = x); return x; }",
             &["amps", "one.slq", "1110", "none"],
             b"0010 000 1 0 0 0 0\n",
         ),
-        row(
+        of_main(
             FORGET,
             &["amps", "one.slq", "0", "none"],
             b"- 0 1 0 0 0 0\n",
         ),
-        row(
+        of_main(
             TELEPORTATION,
             &["amps", "one.slq", "1", "01"],
             b"1 00 1 0 0 0 2\n",
         ),
-        row(
+        of_main(
             MIXED_TWICE,
             &["amps", "one.slq", "10", "none"],
             b"01 - 1 0 0 0 0\n",
