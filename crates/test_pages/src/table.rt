@@ -3,24 +3,21 @@
 use crate::command::answer;
 use std::alloc::{AllocError, Global};
 
-// A command of these words, and the further words behind them.
-fn command_of<'w>(
-    alloc: Global,
-    words: &[&str],
-    more: impl Iterator<Item = &'w str>,
-) -> Result<String, AllocError> {
+// These words as a command; empty ones are left out.
+fn command_of(alloc: Global, words: &[&str]) -> Result<String, AllocError> {
     let mut command = String::new(alloc);
     for word in words {
-        if !command.is_empty() {
-            command.push(' ')?;
+        if !word.is_empty() {
+            command.push_str(if command.is_empty() { "" } else { " " })?;
+            command.push_str(word)?;
         }
-        command.push_str(word)?;
-    }
-    for word in more {
-        command.push(' ')?;
-        command.push_str(word)?;
     }
     Ok(command)
+}
+
+// The first word of a command, and the rest.
+fn split_word(command: &str) -> (&str, &str) {
+    command.split_once(' ').unwrap_or((command, ""))
 }
 
 // Whether the bits are zeros, or none.
@@ -63,14 +60,14 @@ pub fn is_of_circuit(
     program: &str,
     table: &str,
 ) -> Result<bool, AllocError> {
-    let mut words = command.split(' ').skip(1);
-    let file = words.next().unwrap_or("");
-    let entry = words.next().unwrap_or("");
-    let bits = words.next().unwrap_or("");
-    let outcome = words.next().unwrap_or("");
-    let compile = command_of(alloc, &["compile", file, entry], words)?;
+    let (_, rest) = split_word(command);
+    let (file, rest) = split_word(rest);
+    let (entry, rest) = split_word(rest);
+    let (bits, rest) = split_word(rest);
+    let (outcome, statics) = split_word(rest);
+    let compile = command_of(alloc, &["compile", file, entry, statics])?;
     let circuit = answer(alloc, &compile, program)?;
-    let amps = command_of(alloc, &["amps", file, bits, outcome], "".split_whitespace())?;
+    let amps = command_of(alloc, &["amps", file, bits, outcome])?;
     let shown = answer(alloc, &amps, &circuit)?;
     Ok(are_lines(table, &shown))
 }
