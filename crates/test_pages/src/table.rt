@@ -53,6 +53,45 @@ fn are_lines(source: &str, circuit: &str) -> bool {
     lines.next().is_none()
 }
 
+// What a `mean` command asks.
+#[derive(Clone, Copy)]
+struct Asked<'a> {
+    file: &'a str,
+    entry: &'a str,
+    bits: &'a str,
+    outcome: &'a str,
+    statics: &'a str,
+}
+
+// What the words behind `mean` ask.
+fn asked_by(words: &str) -> Asked<'_> {
+    let (file, rest) = split_word(words);
+    let (entry, rest) = split_word(rest);
+    let (bits, rest) = split_word(rest);
+    let (outcome, statics) = split_word(rest);
+    Asked {
+        file,
+        entry,
+        bits,
+        outcome,
+        statics,
+    }
+}
+
+// The text that `compile` writes of the program.
+fn circuit_of(alloc: Global, asked: Asked, program: &str) -> Result<String, AllocError> {
+    let words = ["compile", asked.file, asked.entry, asked.statics];
+    let command = command_of(alloc, &words)?;
+    answer(alloc, &command, program)
+}
+
+// The table that `amps` writes of a circuit.
+fn table_of(alloc: Global, asked: Asked, circuit: &str) -> Result<String, AllocError> {
+    let words = ["amps", asked.file, asked.bits, asked.outcome];
+    let command = command_of(alloc, &words)?;
+    answer(alloc, &command, circuit)
+}
+
 /// Whether `amps` writes, of the text that `compile` writes, the table that this `mean` command is to write of the program.
 pub fn is_of_circuit(
     alloc: Global,
@@ -60,14 +99,9 @@ pub fn is_of_circuit(
     program: &str,
     table: &str,
 ) -> Result<bool, AllocError> {
-    let (_, rest) = split_word(command);
-    let (file, rest) = split_word(rest);
-    let (entry, rest) = split_word(rest);
-    let (bits, rest) = split_word(rest);
-    let (outcome, statics) = split_word(rest);
-    let compile = command_of(alloc, &["compile", file, entry, statics])?;
-    let circuit = answer(alloc, &compile, program)?;
-    let amps = command_of(alloc, &["amps", file, bits, outcome])?;
-    let shown = answer(alloc, &amps, &circuit)?;
+    let (_, words) = split_word(command);
+    let asked = asked_by(words);
+    let circuit = circuit_of(alloc, asked, program)?;
+    let shown = table_of(alloc, asked, &circuit)?;
     Ok(are_lines(table, &shown))
 }
