@@ -101,11 +101,11 @@ fn of_sources(rt: HostRuntime) {
             ROUNDS,
             b"0 1 0 0 0 0\n",
         ),
-        // one round of the search on two bits finds 1 for sure, and turns its sign
+        // one round of the search finds 9 with the amplitude -11/16
         meant(
-            &["mean", "one.slq", "grover", "none", "10", "2", "1"],
+            &["mean", "one.slq", "grover", "none", "1001", "4", "1"],
             GROVER,
-            b"10 -1 0 0 0 0\n",
+            b"1001 -11 0 0 0 8\n",
         ),
         // an outcome that no term has
         meant(
