@@ -1,0 +1,5 @@
+use Rattle.table_laws.proofs.Tables.{tables_agree}
+use Rattle.table_laws.proofs.laws.tables_agree.Goals as goal
+
+pub returns : goal.returns
+returns c = tables_agree
