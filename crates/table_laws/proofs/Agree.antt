@@ -1,20 +1,18 @@
 -- The table of a circuit of a program is the program's, with zeros behind.
-use Rattle.std.proofs.Common.{◌≡◌, ◌≢◌, ℕ, zero, suc, ◌+◌, ◌-◌, ◌<◌, ◌≤◌, ◌==◌, ◌⊎◌, inl, inr, Bool, true, false, not, cond, List, [], ◌∷◌, ◌++◌, map, flat_map, reverse, length, length-append, get_or, replicate, Option, Some, None, refl, ap, sym, ◌∙◌, subst, arith, eqb-true}
-use Rattle.std.specs.Prelude.{Ok, Result, nat_lt, if◌then◌else◌}
+use Rattle.std.proofs.Common.{◌≡◌, ℕ, zero, suc, ◌+◌, ◌-◌, ◌<◌, inl, inr, Bool, false, cond, List, [], ◌∷◌, ◌++◌, map, length, length-append, get_or, replicate}
+use Rattle.std.proofs.Common.{refl, ap, sym, ◌∙◌, subst, arith}
 use Rattle.std.proofs.lemmas.Bool.{cases_eq}
-use Rattle.std.proofs.lemmas.List.{length-replicate}
 use Rattle.amp_core.specs.declared.Amp.{Amp}
 use Rattle.amp_core.specs.Amplitude.{none, plus, Same}
-use Rattle.amp_core.proofs.Amplitudes.{Same-refl, Same-sym, Same-trans, Same-equal}
+use Rattle.amp_core.proofs.Amplitudes.{Same-equal}
 use Rattle.sum_laws.specs.Terms.{same_bits, amplitude, pick, SameTerms}
 use Rattle.sum_laws.specs.Table.{TableOf}
-use Rattle.sum_laws.proofs.Linear.{bool_cases}
 use Rattle.sum_laws.proofs.Tables.{one_table}
 use Rattle.sum_laws.proofs.TableTerms.{TableOf-same}
 use Rattle.gate_core.specs.Local.{Absent, AllDiffer, AllBelow, HasWidth}
 use Rattle.gate_core.proofs.Local.{length-pick}
 use Rattle.plan_gates.proofs.Spots.{same_list, on_zeros, length-on_zeros, at_spot, bits_are_placed}
-use Rattle.table_write.specs.Outs.{rest_of, shown_bits}
+use Rattle.table_write.specs.Outs.{rest_of}
 use Rattle.table_laws.specs.Laws.{with_zeros}
 use Rattle.table_laws.proofs.Orders.{differ_order, below_order, in_order, length-order, HasOne, rest_cases, rest_is_zero, rest_has_no_one}
 use Rattle.table_laws.proofs.Zeros.{same_test, amplitude-zeros, amplitude-other, amplitude-length, width-zeros, table-zeros}
@@ -120,7 +118,8 @@ module _ (n : ℕ) (outs : List ℕ) (differ : AllDiffer outs) (below : AllBelow
               let a : amplitude v (in_this_order order ts) ≡ none =
               amplitude-length (length order) v (in_this_order order ts) (width-order order ts) (λ e. d (e ∙ many)) in
               let b : amplitude v (with_zeros (length rest) source) ≡ none =
-              amplitude-length (length outs + length rest) v (with_zeros (length rest) source) (width-zeros (length outs) (length rest) source fits) (λ e. d (e ∙ whole)) in
+              amplitude-length (length outs + length rest) v (with_zeros (length rest) source) (width-zeros (length outs) (length rest) source fits)
+              (λ e. d (e ∙ whole)) in
               Same-equal (amplitude v (in_this_order order ts)) (amplitude v (with_zeros (length rest) source)) (a ∙ sym b)
         ];
   }

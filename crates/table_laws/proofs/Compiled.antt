@@ -1,19 +1,18 @@
 -- The text of a compiled program is read back as a circuit of the program.
-use Rattle.std.proofs.Common.{◌≡◌, ◌≢◌, ℕ, suc, ◌+◌, ◌≤◌, List, [], ◌∷◌, ◌++◌, map, flat_map, length, length-append, All, refl, ap, sym, ◌∙◌, subst, arith}
-use Rattle.std.specs.Prelude.{codes, Ok}
+use Rattle.std.proofs.Common.{◌≡◌, ◌≢◌, ℕ, ◌≤◌, List, [], ◌∷◌, ◌++◌, map, flat_map, length, length-append, All, refl, ap, ◌∙◌, subst, arith}
+use Rattle.std.specs.Prelude.{codes}
 use Rattle.std.proofs.lemmas.List.Elements.{All-nil, All-cons, All-head, All-tail}
 use Rattle.gate_core.specs.Local.{AllDiffer, AllBelow}
 use Rattle.gate_core.specs.Meaning.{joined}
 use Rattle.qasm_write.specs.Written.{written_text, head_text, start_text, outcome_lines, gate_lines, list_lines, out_text}
 use Rattle.qasm_read.specs.Text.{reading}
-use Rattle.read_laws.specs.Laws.{AreNamed, IsReadable, text_of}
+use Rattle.read_laws.specs.Laws.{AreNamed, IsReadable}
 use Rattle.read_laws.proofs.ReadBack.{read_back}
 use Rattle.silq_mean.specs.Table.{Job}
 use Rattle.flat_core.specs.declared.step.WireId.{WireId}
 use Rattle.flat_core.specs.Form.{FlatForm}
 use Rattle.flat_core.specs.Sound.{IsFlat}
 use Rattle.flat_form.specs.Flat.{flattened}
-use Rattle.flat_form.specs.Jobs.{FineJob, EndsWell}
 use Rattle.flat_laws.proofs.EndsWhole.{within_limits_flat}
 use Rattle.move_plan.specs.declared.moves.Move.{Move}
 use Rattle.move_plan.specs.Live.{width}
@@ -23,8 +22,7 @@ use Rattle.plan_laws.specs.Circuits.{Spelled, IsCircuitOf}
 use Rattle.plan_laws.specs.Laws.{plan_circuit}
 use Rattle.plan_laws.proofs.Theorem.{plans_give}
 use Rattle.table_write.specs.Outs.{rest_of}
-use Rattle.silq_compile.specs.Headline.{Compiles}
-use Rattle.table_laws.specs.Laws.{form_of, ReadsAs, HasWires, CompiledTextsAreReadBack}
+use Rattle.table_laws.specs.Laws.{form_of, HasWires, JobTextsAreReadBack}
 use Rattle.table_laws.proofs.Orders.{length-order}
 use Rattle.table_laws.proofs.Lengths.{gates_short, lists_short, registers_short}
 use Rattle.table_laws.proofs.PlanGates.{plan_gates_few, plan_gates_ask, values_fit}
@@ -121,7 +119,7 @@ module _ (j : Job) (moves : List Move) (wide : ℕ) (is : IsCircuitOf j (plan_ci
     short = short_text;
   }
 
-pub texts_are_read_back : CompiledTextsAreReadBack
+pub texts_are_read_back : JobTextsAreReadBack
 texts_are_read_back budget text j fine ends wires h low =
     let wide : ℕ = width (flattened j).form h.planned.1.moves in
     let first = h.planned.1.first in

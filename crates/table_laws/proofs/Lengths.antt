@@ -1,5 +1,5 @@
 -- How long the text of a circuit is.
-use Rattle.std.proofs.Common.{◌≡◌, ◌≢◌, ℕ, zero, suc, ◌+◌, ◌*◌, ◌<◌, ◌≤◌, ◌^◌, List, [], ◌∷◌, ◌++◌, length, length-append, decimal, All, refl, ap, sym, ◌∙◌, subst, arith, lit<}
+use Rattle.std.proofs.Common.{◌≡◌, ◌≢◌, ℕ, zero, suc, ◌+◌, ◌*◌, ◌<◌, ◌≤◌, List, [], ◌∷◌, ◌++◌, length, length-append, decimal, All, refl, arith, lit<}
 use Rattle.std.specs.Prelude.{codes}
 use Rattle.std.proofs.lemmas.Fmt.{length-decimal-le}
 use Rattle.std.proofs.lemmas.List.Elements.{All-head, All-tail}
@@ -12,7 +12,8 @@ use Rattle.gate_core.specs.declared.gate.Gate.TheVariants.{One, Cx, Cz, Ccx, Mea
 use Rattle.gate_core.specs.Circuit.{GateFits}
 use Rattle.gate_core.specs.Local.{AllBelow, gate_qubits}
 use Rattle.gate_core.specs.Meaning.{joined}
-use Rattle.qasm_write.specs.Written.{qubit_text, kind_text, plain_line, gate_line, gate_lines, qubits_line, outcome_line, outcome_lines, qubit_texts, list_line, list_lines, start_text}
+use Rattle.qasm_write.specs.Written.{qubit_text, kind_text, plain_line, gate_line, gate_lines, outcome_line, outcome_lines, qubit_texts, list_line, list_lines}
+use Rattle.qasm_write.specs.Written.{start_text}
 
 -- a number of at most five digits, and of at most six
 five_digits : (n : ℕ) → n < 100000 → length (decimal n) ≤ 5
@@ -78,7 +79,8 @@ gate_short n k (If bit value gate) few bits h v =
     let b = five_digits bit (let l = h.bits_in_range.0 in omega (arith, bits, l)) in
     let c = one_digit value v in
     let a = plain_short n gate few h.qubits_in_range in
-    let e : length (gate_line (If bit value gate)) ≡ 5 + length (decimal bit) + 2 + length (decimal value) + 2 + length (plain_line gate) = long bit value (plain_line gate) in
+    let e : length (gate_line (If bit value gate)) ≡ 5 + length (decimal bit) + 2 + length (decimal value) + 2 + length (plain_line gate) = long bit value
+    (plain_line gate) in
     omega (arith, a, b, c, e)
   where
     long : (bit value : ℕ) (line : List ℕ) → length (codes "if (m" ++ (decimal bit ++ (codes "==" ++ (decimal value ++ (codes ") " ++ line)))))
@@ -149,7 +151,8 @@ lists_short kind number n (qs ∷ lists) k small some h few =
     let one : 0 < length qs = some_length qs (All-head (λ l. l ≢ []) qs lists some) in
     let j = length-append qs (joined lists) in
     let a = list_short kind number n qs k (omega (arith, few)) small (below_front n qs (joined lists) h) in
-    let b = lists_short kind (suc number) n lists k small (All-tail (λ l. l ≢ []) qs lists some) (below_back n qs (joined lists) h) (omega (arith, few, j, one)) in
+    let b = lists_short kind (suc number) n lists k small (All-tail (λ l. l ≢ []) qs lists some) (below_back n qs (joined lists) h) (omega (arith, few, j, one))
+    in
     let e = length-append (list_line kind number qs) (list_lines kind (suc number) lists) in
     omega (arith, one, j, a, b, e)
 

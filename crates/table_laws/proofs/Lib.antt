@@ -5,4 +5,7 @@ mod Tables
 mod Lengths
 mod PlanGates
 mod Compiled
+mod Sizes
+mod Entries
+mod Wires
 mod Sources

@@ -1,9 +1,9 @@
 -- The gates of a plan: how many they are, and what its `if`s compare with.
-use Rattle.std.proofs.Common.{◌≡◌, ℕ, zero, suc, ◌+◌, ◌*◌, ◌≤◌, Bool, true, false, cond, List, [], ◌∷◌, ◌++◌, map, length, length-append, get_or, All, refl, ap, sym, ◌∙◌, subst, arith}
+use Rattle.std.proofs.Common.{◌≡◌, ℕ, zero, suc, ◌+◌, ◌*◌, ◌≤◌, Bool, true, false, cond, List, [], ◌∷◌, ◌++◌, map, length, length-append, get_or, All, refl, ap}
+use Rattle.std.proofs.Common.{◌∙◌, arith}
 use Rattle.std.proofs.lemmas.List.{length-map}
 use Rattle.std.proofs.lemmas.List.Elements.{All-nil, All-cons, All-append}
-use Rattle.gate_core.specs.declared.gate.OneKind.{OneKind}
-use Rattle.gate_core.specs.declared.gate.OneKind.TheVariants.{X, Z, H, S, Sdg, T, Tdg}
+use Rattle.gate_core.specs.declared.gate.OneKind.TheVariants.{X, H, S, Sdg, T, Tdg}
 use Rattle.gate_core.specs.declared.gate.PlainGate.{PlainGate}
 use Rattle.gate_core.specs.declared.gate.PlainGate.TheVariants.{One as PlainOne, Cx as PlainCx, Cz as PlainCz, Ccx as PlainCcx}
 use Rattle.gate_core.specs.declared.gate.Gate.{Gate}
@@ -19,9 +19,8 @@ use Rattle.gate_emit.specs.Plans.{gates_of, gates_of_all}
 use Rattle.flat_core.specs.Form.{FlatForm}
 use Rattle.move_plan.specs.declared.moves.Move.{Move}
 use Rattle.move_plan.specs.Progress.{Progress, moved, at_start}
-use Rattle.qubit_alloc.specs.declared.placed.Placed.{Placed}
 use Rattle.qubit_alloc.specs.Place.{Place, first_place, place_move}
-use Rattle.qubit_alloc.specs.PlacedMoves.{placed_from, placed_all, placed_of}
+use Rattle.qubit_alloc.specs.PlacedMoves.{placed_from, placed_all}
 use Rattle.plan_gates.specs.PlacedMoves.{move_of_placed}
 use Rattle.plan_gates.specs.PlanCircuit.{plan_moves, gates_of_plan}
 use Rattle.read_laws.specs.Laws.{ValueFits}

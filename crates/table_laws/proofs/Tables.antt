@@ -1,18 +1,18 @@
 -- The two tables agree.
-use Rattle.std.proofs.Common.{◌≡◌, ℕ, ◌+◌, ◌-◌, ◌<◌, ◌==◌, Bool, true, false, not, List, [], ◌∷◌, ◌++◌, map, flat_map, reverse, length, length-append, get_or, Option, Some, None, inl, inr, refl, ap, sym, ◌∙◌, subst, arith, eqb-true, if◌then◌else◌}
-use Rattle.std.specs.Prelude.{Ok, Err, Result, nat_lt}
+use Rattle.std.proofs.Common.{◌≡◌, ℕ, ◌-◌, ◌<◌, ◌==◌, Bool, true, false, not, List, [], ◌∷◌, map, flat_map, reverse, length, length-append, get_or, Option}
+use Rattle.std.proofs.Common.{Some, None, inl, inr, refl, ap, sym, ◌∙◌, subst, arith, eqb-true, if◌then◌else◌}
+use Rattle.std.specs.Prelude.{Ok, nat_lt}
 use Rattle.silq_io.specs.declared.limit.LimitKind.TheVariants.{Qubits, HGates}
 use Rattle.amp_core.specs.declared.Amp.{Amp}
 use Rattle.sum_laws.specs.Table.{TableOf}
 use Rattle.sum_laws.proofs.Linear.{bool_cases}
 use Rattle.gate_core.specs.Circuit.{CircuitForm}
-use Rattle.gate_core.specs.Local.{Absent, HasWidth}
+use Rattle.gate_core.specs.Local.{HasWidth}
 use Rattle.gate_core.specs.Meaning.{joined, meaning as circuit_meaning}
 use Rattle.gate_core.proofs.Embedded.{meaning_wide}
 use Rattle.amp_run.specs.Refusal.{fault_of, h_gates}
 use Rattle.amp_run.specs.declared.fault.RunFault.{RunFault}
 use Rattle.amp_run.specs.declared.fault.RunFault.TheVariants.{Bits, Limit}
-use Rattle.silq_types.specs.Types.{shape_bits}
 use Rattle.silq_mean.specs.Value.{Value, bits_of as value_bits}
 use Rattle.silq_mean.specs.Term.{Term}
 use Rattle.silq_mean.specs.Table.{Job, Honest, IsMeanTable, total_size, terms, shown as shown_term, meaning as job_meaning, outcome_of}
@@ -20,10 +20,9 @@ use Rattle.flat_form.specs.Names.{AllOf}
 use Rattle.table_write.specs.Outs.{shown_bits}
 use Rattle.qasm_read.specs.State.{ReadForm}
 use Rattle.qasm_read.specs.Text.{reading}
-use Rattle.read_laws.specs.Laws.{text_of, IsReadable}
+use Rattle.read_laws.specs.Laws.{text_of}
 use Rattle.read_laws.proofs.ReadBack.{read_back}
 use Rattle.plan_laws.specs.Circuits.{Spelled, IsCircuitOf, HasBitsOf}
-use Rattle.circuit_table.specs.Tables.{HasTable}
 use Rattle.table_laws.specs.Laws.{form_of, with_zeros, TablesAgree}
 use Rattle.table_laws.proofs.Agree.{Gives, shown_table}
 
@@ -86,7 +85,8 @@ later_numbers (n ∷ ns) = ns
 joined_bits : (outs : List (List ℕ)) (values : List Value) → map length outs ≡ map (λ w. length (value_bits w)) values
     → length (flat_map value_bits values) ≡ length (joined outs)
 joined_bits [] [] e = refl
-joined_bits [] (v ∷ vs) e = absurd (let g : length {A = ℕ} [] ≡ length (length (value_bits v) ∷ map (λ w. length (value_bits w)) vs) = ap length e in omega (arith, g))
+joined_bits [] (v ∷ vs) e = absurd (let g : length {A = ℕ} [] ≡ length (length (value_bits v) ∷ map (λ w. length (value_bits w)) vs) = ap length e in omega
+    (arith, g))
 joined_bits (o ∷ os) [] e = absurd (let g : length (length o ∷ map length os) ≡ length {A = ℕ} [] = ap length e in omega (arith, g))
 joined_bits (o ∷ os) (v ∷ vs) e =
     let first : length o ≡ length (value_bits v) = ap (λ ns. get_or ns 0 0) e in

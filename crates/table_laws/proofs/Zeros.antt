@@ -1,7 +1,8 @@
 -- Term lists and tables whose values have so many zeros behind them.
-use Rattle.std.proofs.Common.{◌≡◌, ℕ, zero, suc, ◌+◌, ◌<◌, ◌⊎◌, inl, inr, Bool, true, false, cond, List, [], ◌∷◌, ◌++◌, map, length, length-append, get_or, replicate, All, Any, refl, ap, sym, ◌∙◌, subst, arith}
+use Rattle.std.proofs.Common.{◌≡◌, ℕ, zero, suc, ◌+◌, ◌<◌, inl, inr, Bool, true, false, cond, List, [], ◌∷◌, ◌++◌, length, length-append, get_or, replicate}
+use Rattle.std.proofs.Common.{All, Any, refl, ap, sym, ◌∙◌, subst, arith}
 use Rattle.std.proofs.lemmas.List.{get_or-map, length-map, length-replicate}
-use Rattle.std.proofs.lemmas.List.Elements.{All-nil, All-cons, All-head, All-tail, All-map}
+use Rattle.std.proofs.lemmas.List.Elements.{All-nil, All-cons, All-head, All-tail}
 use Rattle.amp_core.specs.declared.Amp.{Amp}
 use Rattle.amp_core.specs.Amplitude.{none, plus, Same}
 use Rattle.amp_core.proofs.Amplitudes.{Same-refl}
@@ -154,7 +155,8 @@ ends_in_zeros k v [] n = absurd (n (Same-refl none))
 ends_in_zeros k v (t ∷ ts) n =
     elim (bool_cases (same_bits (t.0 ++ replicate k false) v)) [
       | inl e ↦ (t.0, same_bits-equal (t.0 ++ replicate k false) v e)
-      | inr e ↦ ends_in_zeros k v ts (λ g. n (subst (λ b. Same (cond b (plus t.1 (amplitude v (with_zeros k ts))) (amplitude v (with_zeros k ts))) none) (sym e) g))
+      | inr e ↦ ends_in_zeros k v ts (λ g. n (subst (λ b. Same (cond b (plus t.1 (amplitude v (with_zeros k ts))) (amplitude v (with_zeros k ts))) none)
+          (sym e) g))
     ]
 
 value-zeros : (k : ℕ) (w : List Bool) (rs : List (List Bool × Amp)) → Any (λ r. r.0 ≡ w) rs → Any (λ r. r.0 ≡ w ++ replicate k false) (with_zeros k rs)

@@ -46,15 +46,21 @@ pub record HasWires (j : Job) : Type 0 where
   pub ins : All (λ ws. ws ≢ []) (flattened j).form.ins
   pub outs : All (λ ws. ws ≢ []) (flattened j).form.outs
 
--- The text of a compiled program, on at most 100,000 qubits, is read back as a circuit of the program.
-abbrev pub CompiledTextsAreReadBack : Type 0
-CompiledTextsAreReadBack =
+-- the text of a job, whose flat form has wires for all parameters and results, is read back as a circuit of the job
+abbrev pub JobTextsAreReadBack : Type 0
+JobTextsAreReadBack =
     (budget : ℕ) (text : List ℕ) (j : Job) → FineJob j → EndsWell j → HasWires j → Compiles budget text j → budget ≤ 100000
     → (c : Spelled) × ReadsAs j text c
 
+-- The text of a compiled source, on at most 100,000 qubits, is read back as a circuit of what its entry means.
+abbrev pub CompiledTextsAreReadBack : Type 0
+CompiledTextsAreReadBack =
+    (budget : ℕ) (text : List ℕ) (source : Source) → (h : OfAccepted (Compiles budget text) source) → budget ≤ 100000
+    → (c : Spelled) × ReadsAs (job_in source h.checked.derivation) text c
+
 -- what a source means for the two tables: its compiled text and its table on these bits
 abbrev pub HasTextAndTable : ℕ → List ℕ → List Bool → List Bool → List (List Bool × Amp) → Job → Type 0
-HasTextAndTable budget text input outcome rows j = HasWires j × Compiles budget text j × Honest j input × IsMeanTable j input outcome rows
+HasTextAndTable budget text input outcome rows j = Compiles budget text j × Honest j input × IsMeanTable j input outcome rows
 
 -- The table of the text of a compiled program, on at most 100,000 qubits, shows the rows of the program's table, each with a 0 for each qubit
 -- that is not of a returned value.

@@ -1,5 +1,5 @@
-use Rattle.table_laws.proofs.Compiled.{texts_are_read_back}
+use Rattle.table_laws.proofs.Sources.{compiled_texts_are_read_back}
 use Rattle.table_laws.proofs.laws.compiled_texts_are_read_back.Goals as goal
 
 pub returns : goal.returns
-returns c = texts_are_read_back
+returns c = compiled_texts_are_read_back
