@@ -5,8 +5,8 @@
 #   docs/check.sh --write   first writes the rows of crates/test_pages from the pages
 #   docs/check.sh --rows    prints these rows
 #
-# The rows: a program or circuit of a page stands in an indented block, and is the file try.slq or try.qasm. A line `silqc: ..` behind it is the note of
-# `./silqc check try.slq main`, or with the words of a first line `// main 3`; with no such line this command writes nothing. A line
+# The rows: a program or circuit of a page stands in an indented block, and is the file try.slq or try.qasm. A line `silqc: ..` behind it is the
+# note of `./silqc check try.slq main`, or with the words of a first line `// main 3`; with no such line this command writes nothing. A line
 # `./silqc WORDS` is a command, over the last program of the page or a program of examples/, and what it writes follows. The other rows
 # are those of the tables of rules in LANGUAGE.md and of examples/CIRCUITS.md.
 top=$(cd "$(dirname "$0")/.." && pwd) || exit 1
