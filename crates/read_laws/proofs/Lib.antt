@@ -11,4 +11,4 @@ mod Walk
 mod Comments
 mod Lists
 mod Heads
-mod ReadBack
+pub mod ReadBack
